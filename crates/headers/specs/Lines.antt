@@ -1,0 +1,46 @@
+-- Header lines (document 01, "Items on the wire", "Sizes", "Writing"): raw lines from entries, and entries from raw lines.
+-- Assumes nothing.
+use mathlib.Core.Bool.{Bool, true, false, _&&_, not}
+use mathlib.Core.List.{List, [], _∷_, _++_}
+use Prim.Native.Nat.{ℕ, _+_}
+use lib.ListN.{length}
+use lib.Dec.{leb, ltb}
+use Rattle.headers.specs.Rows.{empty, every}
+use Rattle.headers.specs.Text.{is-text}
+use Rattle.headers.specs.Escapes.{decode, encode, writable}
+use Rattle.headers.specs.Block.{Entry}
+use Rattle.headers.specs.declared.text.Style.{Style}
+use Rattle.headers.specs.declared.text.Field.the-variants.{Name, Value}
+
+-- "512 octets in a raw header line, its line end not counted"
+abbrev pub line-max : ℕ
+line-max = 512
+
+abbrev pub entry-of : List ℕ → List ℕ → Entry
+entry-of n v = record { name = n; value = v }
+
+-- the entry that a raw name and a raw value stand for
+abbrev pub decoded-entry : Style → List ℕ → List ℕ → Entry
+decoded-entry s n v = entry-of (decode s n) (decode s v)
+
+-- name, colon and value: the length of a line that is not raw
+abbrev pub line-length : Entry → ℕ
+line-length e = length (e .name) + 1 + length (e .value)
+
+-- name and value are raw text
+abbrev pub are-text : Style → List ℕ → List ℕ → Bool
+are-text s n v = is-text s Name n && is-text s Value v
+
+-- the raw line of an entry: name, colon, value, its line end not counted
+abbrev pub raw-line : Style → Entry → List ℕ
+raw-line s e = encode s (e .name) ++ (58 ∷ encode s (e .value))
+
+-- the same with its line end, octet 10
+abbrev pub written-line : Style → Entry → List ℕ
+written-line s e = encode s (e .name) ++ (58 ∷ (encode s (e .value) ++ (10 ∷ [])))
+
+-- the entry can be written: not "an empty name, a raw line over 512, or in CONNECT/CONNECTED holds 10, 13 or a colon"
+abbrev pub can-write : Style → Entry → Bool
+can-write s e =
+    not (empty (e .name))
+    && (every (writable s Name) (e .name) && (every (writable s Value) (e .value) && leb (length (raw-line s e)) line-max))
