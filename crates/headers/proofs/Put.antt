@@ -1,0 +1,63 @@
+-- What a slice holds when a callee has written R at the front of the part from a on.
+use Prim.Native.Nat.{ℕ, suc, _+_, _-_, _*_, _≤_, _<_}
+use mathlib.Core.List.{List, [], _∷_, _++_, append-assoc, append-nil}
+use mathlib.Core.Path.{_≡_, refl, ap, sym, _∙_, subst}
+use lib.ListN.{length, take, drop, set, getD, drop-of-length-le, take-append-drop, length-append, length-take, length-drop}
+use lib.Seq.{drop-cons, set-at, append-snoc, take-suc, take-all, drop-drop, take-at, drop-at, length-take-le}
+use native.Mathlib.Numerals.{add-one}
+use native.Mathlib.Omega.{arith}
+use borrow.Rule.Slice.PartMut.{putMid, midOf, postOf}
+
+module _ (a n : ℕ) (xs ys R : List ℕ) (long : length R ≡ n) (fits : a + n ≤ length xs) (is : ys ≡ R ++ drop n (midOf a (length xs - a) xs)) where
+  pub put-whole : putMid a (length xs - a) xs ys ≡ take a xs ++ (R ++ drop (a + n) xs)
+  put-whole =
+      let all : take (length xs - a) (drop a xs) ≡ drop a xs = take-all (length xs - a) (drop a xs) (simp length-drop (omega arith)) in
+      let none : drop (length xs - a) (drop a xs) ≡ [] = drop-of-length-le (drop a xs) {i = length xs - a} (simp length-drop (omega arith)) in
+      ap (λ z. take a xs ++ (ys ++ z)) none
+      ∙ ap (λ z. take a xs ++ z) (append-nil ys ∙ is ∙ ap (λ z. R ++ z) (ap (drop n) all ∙ drop-drop n a xs))
+
+  head-long : length (take a xs ++ R) ≡ a + n
+  head-long = simp (length-append, length-take) (omega arith)
+
+  pub put-take : take (a + n) (putMid a (length xs - a) xs ys) ≡ take a xs ++ R
+  put-take = ap (take (a + n)) (put-whole ∙ sym (append-assoc (take a xs) R (drop (a + n) xs))) ∙ take-at _ _ _ head-long
+
+  pub put-drop : drop (a + n) (putMid a (length xs - a) xs ys) ≡ drop (a + n) xs
+  put-drop = ap (drop (a + n)) (put-whole ∙ sym (append-assoc (take a xs) R (drop (a + n) xs))) ∙ drop-at (take a xs ++ R) (drop (a + n) xs) (a + n) head-long
+
+  pub put-length : length (putMid a (length xs - a) xs ys) ≡ length xs
+  put-length = ap length put-whole ∙ simp (length-append, length-take, length-drop) (omega arith)
+
+  -- a turn of a loop that writes todo from a on: R of it is written, and rest is left
+  pub put-more : (todo rest : List ℕ) {whole : List ℕ} → take a xs ++ todo ≡ whole → todo ≡ R ++ rest → take (a + n) (putMid a (length xs - a) xs ys) ++ rest ≡ whole
+  put-more todo rest w e = ap (λ z. z ++ rest) put-take ∙ append-assoc (take a xs) R rest ∙ ap (λ z. take a xs ++ z) (sym e) ∙ w
+
+  pub put-kept : (xs₀ : List ℕ) → drop a xs ≡ drop a xs₀ → drop (a + n) (putMid a (length xs - a) xs ys) ≡ drop (a + n) xs₀
+  put-kept xs₀ h = put-drop ∙ sym (drop-drop n a xs) ∙ ap (drop n) h ∙ drop-drop n a xs₀
+
+-- one octet more of a copy
+pub copy-more : (d d₀ s : List ℕ) (i : ℕ) → i < length s → i < length d₀ → d ≡ take i s ++ drop i d₀ → set d i (getD s i 0) ≡ take (i + 1) s ++ drop (i + 1) d₀
+copy-more d d₀ s i hs hd e =
+    ap (λ z. set z i (getD s i 0)) (e ∙ ap (λ z. take i s ++ z) (drop-cons d₀ i 0 hd))
+    ∙ set-at (take i s) (getD d₀ i 0) (drop (suc i) d₀) (getD s i 0) i (length-take-le i s (omega arith))
+    ∙ sym (append-snoc (take i s) (getD s i 0) (drop (suc i) d₀))
+    ∙ ap (λ z. z ++ drop (suc i) d₀) (sym (take-suc s i 0 hs))
+    ∙ ap (λ n. take n s ++ drop n d₀) (sym (add-one i))
+
+-- where nothing is left to write
+pub put-done : (a : ℕ) (d d₀ todo whole : List ℕ) → take a d ++ todo ≡ whole → todo ≡ [] → drop a d ≡ drop a d₀ → d ≡ whole ++ drop a d₀
+put-done a d d₀ todo whole w e k =
+    sym (take-append-drop a d) ∙ ap (λ z. take a d ++ z) k
+    ∙ ap (λ z. z ++ drop a d₀) (sym (append-nil (take a d)) ∙ ap (λ z. take a d ++ z) (sym e) ∙ w)
+
+-- a list that begins with P and goes on as d, after a callee has written R behind P
+pub put-grow : (d l P R ys : List ℕ) (a n : ℕ) → l ≡ P ++ drop a d → length P ≡ a → length R ≡ n → a + n ≤ length d
+    → ys ≡ R ++ drop n (midOf a (length l - a) l) → putMid a (length l - a) l ys ≡ (P ++ R) ++ drop (a + n) d
+put-grow d l P R ys a n e lp lr fits is =
+    let same : length l ≡ length d = ap length e ∙ simp (length-append, length-drop) (omega arith) in
+    let front : take a l ≡ P = ap (take a) e ∙ take-at P (drop a d) a lp in
+    let back : drop a l ≡ drop a d = ap (drop a) e ∙ drop-at P (drop a d) a lp in
+    put-whole a n l ys R lr (omega arith) is
+    ∙ ap (λ z. z ++ (R ++ drop (a + n) l)) front
+    ∙ ap (λ z. P ++ (R ++ z)) (sym (drop-drop n a l) ∙ ap (drop n) back ∙ drop-drop n a d)
+    ∙ sym (append-assoc P R (drop (a + n) d))

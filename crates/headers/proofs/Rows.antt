@@ -1,0 +1,119 @@
+-- Laws of choices by a test, and of rows. Assumes nothing.
+use mathlib.Core.Path.{_≡_, refl, sym, _∙_, ap, ap₂}
+use mathlib.Core.Logic.{_≢_}
+use mathlib.Core.Bool.{Bool, true, false, cond, _&&_, _||_, not}
+use mathlib.Core.List.{List, [], _∷_, _++_}
+use Prim.Native.Nat.{ℕ, zero, suc}
+use native.Mathlib.Omega.{arith}
+use lib.Dec.{eqb}
+use lib.ListN.{replicate}
+use borrow.Author.Tests.{eqb-true}
+use Rattle.headers.specs.Rows.{same, begins, empty, every, any, All}
+
+-- what holds of both choices, each with its test
+pub cond-case : {A : Type 0} (P : A → Type 0) (t : Bool) {a b : A} → (t ≡ true → P a) → (t ≡ false → P b) → P (cond t a b)
+cond-case P true f g = f refl
+cond-case P false f g = g refl
+
+pub and-left : (a b : Bool) → a && b ≡ true → a ≡ true
+and-left true b h = refl
+and-left false b h = h
+
+pub and-right : (a b : Bool) → a && b ≡ true → b ≡ true
+and-right true b h = h
+and-right false b h = let z : _≡_ {A = ℕ} 0 1 = cc in absurd (omega arith)
+
+pub same-eq : (xs ys : List ℕ) → same xs ys ≡ true → xs ≡ ys
+same-eq [] [] h = refl
+same-eq [] (y ∷ ys) h = cc
+same-eq (x ∷ xs) [] h = cc
+same-eq (x ∷ xs) (y ∷ ys) h =
+    ap₂ (_∷_) (eqb-true x y (and-left (eqb x y) (same xs ys) h)) (same-eq xs ys (and-right (eqb x y) (same xs ys) h))
+
+pub begins-rest : (xs ys : List ℕ) → begins xs ys ≡ true → (w : List ℕ) × (ys ≡ xs ++ w)
+begins-rest [] ys h = (ys, refl)
+begins-rest (x ∷ xs) [] h = absurd (let z : _≡_ {A = ℕ} 0 1 = cc in omega arith)
+begins-rest (x ∷ xs) (y ∷ ys) h =
+    let (w, e) = begins-rest xs ys (and-right (eqb x y) (begins xs ys) h) in
+    (w, ap₂ (_∷_) (sym (eqb-true x y (and-left (eqb x y) (begins xs ys) h))) e)
+
+pub not-empty : (xs : List ℕ) → empty xs ≡ false → xs ≢ []
+not-empty [] h e = let z : _≡_ {A = ℕ} 0 1 = cc in omega arith
+not-empty (x ∷ xs) h e = let z : _≡_ {A = ℕ} 0 1 = cc in omega arith
+
+pub empty-not : (xs : List ℕ) → xs ≢ [] → empty xs ≡ false
+empty-not [] h = absurd (h refl)
+empty-not (x ∷ xs) h = refl
+
+pub every-left : (f : ℕ → Bool) (xs ys : List ℕ) → every f (xs ++ ys) ≡ true → every f xs ≡ true
+every-left f [] ys h = refl
+every-left f (x ∷ xs) ys h = rw (and-left (f x) (every f (xs ++ ys)) h) (every-left f xs ys (and-right (f x) (every f (xs ++ ys)) h))
+
+pub every-snoc : (f : ℕ → Bool) (xs : List ℕ) (x : ℕ) → every f xs ≡ true → f x ≡ true → every f (xs ++ (x ∷ [])) ≡ true
+every-snoc f [] x h k = rw k
+every-snoc f (y ∷ xs) x h k = rw (and-left (f y) (every f xs) h) (every-snoc f xs x (and-right (f y) (every f xs) h) k)
+
+pub snoc-some : (xs : List ℕ) (x : ℕ) → xs ++ (x ∷ []) ≢ []
+snoc-some [] x e = let z : _≡_ {A = ℕ} 0 1 = cc in omega arith
+snoc-some (y ∷ xs) x e = let z : _≡_ {A = ℕ} 0 1 = cc in omega arith
+
+-- not (a and not b): where a holds, b does
+pub unless : (a b : Bool) → a && not b ≡ false → a ≡ true → b ≡ true
+unless a true h k = refl
+unless a false h k = let z : _≡_ {A = ℕ} 0 1 = cc in absurd (omega arith)
+
+pub and-false : (a b : Bool) → a && b ≡ false → a ≡ true → b ≡ false
+and-false a true h k = cc
+and-false a false h k = refl
+
+pub and-no : (a : Bool) → a && false ≡ false
+and-no true = refl
+and-no false = refl
+
+pub every-append : (f : ℕ → Bool) (xs ys : List ℕ) → every f xs ≡ true → every f ys ≡ true → every f (xs ++ ys) ≡ true
+every-append f [] ys h k = k
+every-append f (x ∷ xs) ys h k = rw (and-left (f x) (every f xs) h) (every-append f xs ys (and-right (f x) (every f xs) h) k)
+
+pub every-right : (f : ℕ → Bool) (xs ys : List ℕ) → every f (xs ++ ys) ≡ true → every f ys ≡ true
+every-right f [] ys h = h
+every-right f (x ∷ xs) ys h = every-right f xs ys (and-right (f x) (every f (xs ++ ys)) h)
+
+pub every-replicate : (f : ℕ → Bool) (n x : ℕ) → f x ≡ true → every f (replicate n x) ≡ true
+every-replicate f zero x h = refl
+every-replicate f (suc n) x h = rw h (every-replicate f n x h)
+
+pub or-false-left : (a b : Bool) → a || b ≡ false → a ≡ false
+or-false-left true b h = h
+or-false-left false b h = refl
+
+pub or-false-right : (a b : Bool) → a || b ≡ false → b ≡ false
+or-false-right true b h = let z : _≡_ {A = ℕ} 0 1 = cc in absurd (omega arith)
+or-false-right false b h = h
+
+pub implied : (a b : Bool) → (a ≡ true → b ≡ true) → a && not b ≡ false
+implied true b h = rw (h refl)
+implied false b h = refl
+
+pub implied-not : (a b : Bool) → (a ≡ true → b ≡ false) → a && b ≡ false
+implied-not true b h = h refl
+implied-not false b h = refl
+
+pub cons-some : (x : ℕ) (xs : List ℕ) → x ∷ xs ≢ []
+cons-some x xs e = let z : _≡_ {A = ℕ} 0 1 = cc in omega arith
+
+pub nil-left : (t w : List ℕ) → t ++ w ≡ [] → t ≡ []
+nil-left [] w e = refl
+nil-left (x ∷ t) w e = cc
+
+pub nil-right : (t w : List ℕ) → t ++ w ≡ [] → w ≡ []
+nil-right [] w e = e
+nil-right (x ∷ t) w e = cc
+
+-- where some element passes the test, what each element that passes gives
+pub any-case : {A P : Type 0} (f : A → Bool) (xs : List A) → any f xs ≡ true → All (λ a. f a ≡ true → P) xs → P
+any-case f [] h each = let z : _≡_ {A = ℕ} 0 1 = cc in absurd (omega arith)
+any-case {A} {P} f (a ∷ xs) h (one, rest) = by (f a) refl h (λ k. any-case f xs k rest)
+  where
+    by : (t : Bool) → f a ≡ t → t || any f xs ≡ true → (any f xs ≡ true → P) → P
+    by true e k go = one e
+    by false e k go = go k
