@@ -17,7 +17,7 @@ use Rattle.headers.specs.Text.{stops, escape-table, is-letter, opens, pl
 use Rattle.headers.specs.Numbers.{is-digit}
 use Rattle.headers.specs.declared.text.Style.{Style}
 use Rattle.headers.specs.declared.text.Field.{Field}
-use Rattle.headers.proofs.Rows.{cond-case, and-left, and-right, and-no, any-case}
+use Rattle.headers.proofs.Rows.{cond-case, and-left, and-right, and-no, any-key}
 
 text-snoc : {s : Style} {f : Field} {xs u : List ℕ} → Text s f xs → Character s f u → Text s f (xs ++ u)
 text-snoc {u = u} none h = rw (append-nil u) at (more h none)
@@ -102,9 +102,7 @@ reads-on s f q x h = by (stops s f x) h
 
 -- what follows a backslash is no stop
 letter-on : (s : Style) (f : Field) (x : ℕ) → is-letter s x ≡ true → stops s f x ≡ false
-letter-on s f x h =
-    any-case (λ e. eqb x (e .letter)) (escape-table s) h
-    (λ k. rw (eqb-true x 114 k), (λ k. rw (eqb-true x 110 k), (λ k. rw (eqb-true x 99 k), (λ k. rw (eqb-true x 92 k), tt))))
+letter-on s f x h = any-key (λ e. e .letter) (λ y. stops s f y ≡ false) x (escape-table s) (refl, (refl, (refl, (refl, tt)))) h
 
 stop-plain : (s : Style) (f : Field) (x : ℕ) → stops s f x ≡ true → eqb x 92 ≡ false
 stop-plain s f x t = by (eqb x 92) refl
@@ -128,3 +126,27 @@ reads-says s f back x = cond-case (Says s f back x) (is-letter s x) (λ t. (rw t
 pub owes-few : (p : Part) → owes p ≤ 1
 owes-few fresh = omega arith
 owes-few back = omega arith
+
+-- the test for text says exactly what is text
+test-feeds : (s : Style) (f : Field) (p : Part) (xs : List ℕ) → Feeds s f p xs fresh → is-text-from s f p xs ≡ true
+unfolding is-text-from
+test-feeds s f p [] h = rw h
+test-feeds s f p (x ∷ xs) (q, e, o, h) = rw e (test-feeds s f q xs h)
+
+pub text-is : (s : Style) (f : Field) (xs : List ℕ) → Text s f xs → is-text s f xs ≡ true
+text-is s f xs t = test-feeds s f fresh xs (text-feeds s f t)
+
+test-text : (s : Style) (f : Field) (raw : List ℕ) (p : Part) (xs : List ℕ) → Raw s f raw p → is-text-from s f p xs ≡ true → Text s f (raw ++ xs)
+unfolding is-text-from
+test-text s f raw fresh [] r h = rw append-nil (raw-text r)
+test-text s f raw back [] r h = absurd (let z : _≡_ {A = ℕ} 0 1 = cc in omega arith)
+test-text s f raw p (x ∷ xs) r h = by (reads s f p x) (raw-step p x r) h (λ q. test-text s f (raw ++ (x ∷ [])) q xs)
+  where
+    by : (i : Into) → Read s f raw x i → then-reads i (λ q. is-text-from s f q xs) ≡ true
+        → ((q : Part) → Raw s f (raw ++ (x ∷ [])) q → is-text-from s f q xs ≡ true → Text s f ((raw ++ (x ∷ [])) ++ xs)) → Text s f (raw ++ (x ∷ xs))
+    by (into q) k e go = rw append-assoc at (go q k e)
+    by (bad b) k e go = absurd (let z : _≡_ {A = ℕ} 0 1 = cc in omega arith)
+    by stop k e go = absurd (let z : _≡_ {A = ℕ} 0 1 = cc in omega arith)
+
+pub is-text-text : (s : Style) (f : Field) (xs : List ℕ) → is-text s f xs ≡ true → Text s f xs
+is-text-text s f xs h = test-text s f [] fresh xs (raw-start s f) h

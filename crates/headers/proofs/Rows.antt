@@ -109,11 +109,11 @@ pub nil-right : (t w : List ℕ) → t ++ w ≡ [] → w ≡ []
 nil-right [] w e = e
 nil-right (x ∷ t) w e = cc
 
--- where some element passes the test, what each element that passes gives
-pub any-case : {A P : Type 0} (f : A → Bool) (xs : List A) → any f xs ≡ true → All (λ a. f a ≡ true → P) xs → P
-any-case f [] h each = let z : _≡_ {A = ℕ} 0 1 = cc in absurd (omega arith)
-any-case {A} {P} f (a ∷ xs) h (one, rest) = by (f a) refl h (λ k. any-case f xs k rest)
+-- what holds of each key of a row holds of every number that is one of them
+pub any-key : {A : Type 0} (key : A → ℕ) (P : ℕ → Type 0) (x : ℕ) (keys : List A) → All (λ a. P (key a)) keys → any (λ a. eqb x (key a)) keys ≡ true → P x
+any-key key P x [] each h = absurd (let z : _≡_ {A = ℕ} 0 1 = cc in omega arith)
+any-key key P x (a ∷ keys) (one, rest) h = by (eqb x (key a)) refl h (any-key key P x keys rest)
   where
-    by : (t : Bool) → f a ≡ t → t || any f xs ≡ true → (any f xs ≡ true → P) → P
-    by true e k go = one e
+    by : (t : Bool) → eqb x (key a) ≡ t → t || any (λ b. eqb x (key b)) keys ≡ true → (any (λ b. eqb x (key b)) keys ≡ true → P x) → P x
+    by true e k go = rw (eqb-true x (key a) e) one
     by false e k go = go k

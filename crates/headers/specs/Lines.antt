@@ -44,3 +44,7 @@ abbrev pub can-write : Style → Entry → Bool
 can-write s e =
     not (empty (e .name))
     && (every (writable s Name) (e .name) && (every (writable s Value) (e .value) && leb (length (raw-line s e)) line-max))
+
+-- the header name `content-length`
+abbrev pub content-length : List ℕ
+content-length = 99 ∷ 111 ∷ 110 ∷ 116 ∷ 101 ∷ 110 ∷ 116 ∷ 45 ∷ 108 ∷ 101 ∷ 110 ∷ 103 ∷ 116 ∷ 104 ∷ []
