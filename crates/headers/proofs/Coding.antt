@@ -1,0 +1,145 @@
+-- Decoding and encoding of header text: laws. Assumes nothing.
+--     decode-escape, decode-plain    one step of decoding
+--     decode-means                   of raw text, decoding gives what its characters stand for
+--     decode-encode, encode-decode   each undoes the other
+--     decode-short                   decoded text is never longer than raw
+--     encode-text                    what can be written is raw text when encoded
+--     decode-name                    a raw name without escapes, as content-length, is its decoded one, and only it is
+use mathlib.Core.Path.{_≡_, refl, sym, _∙_, ap, ap₂}
+use mathlib.Core.Bool.{Bool, true, false, cond, _&&_, _||_, not}
+use mathlib.Core.List.{List, [], _∷_, _++_, append-assoc}
+use Prim.Native.Nat.{ℕ, zero, suc, _+_, _≤_, _<_}
+use native.Mathlib.Omega.{arith}
+use native.Mathlib.Nat.{le-trans}
+use lib.ListN.{length, drop, getD, length-append}
+use lib.Dec.{eqb}
+use borrow.Author.Tests.{eqb-true, not-true}
+use Rattle.headers.specs.Rows.{every, any}
+use Rattle.headers.specs.Text.{stops, escape-table, is-letter, opens, plain, Character, itself, escape, Text, none, more}
+use Rattle.headers.specs.Escapes.{meaning, letter-of, character-means, means, at-escape, decode, escaped, encode-octet, encode, writable}
+use Rattle.headers.specs.Lines.{content-length}
+use Rattle.headers.specs.declared.text.Style.{Style}
+use Rattle.headers.specs.declared.text.Field.{Field}
+use Rattle.headers.proofs.Rows.{cond-case, and-left, and-right, and-no, any-key}
+
+-- ---- the table of escapes: each letter is that of its octet, and each octet that of its letter
+
+letter-back : (s : Style) (x : ℕ) → is-letter s x ≡ true → letter-of s (meaning s x) ≡ x
+letter-back s x h = any-key (λ e. e .letter) (λ y. letter-of s (meaning s y) ≡ y) x (escape-table s) (refl, (refl, (refl, (refl, tt)))) h
+
+letter-escaped : (s : Style) (x : ℕ) → s .escapes ≡ true → is-letter s x ≡ true → escaped s (meaning s x) ≡ true
+letter-escaped s x e h =
+    any-key (λ e. e .letter) (λ y. escaped s (meaning s y) ≡ true) x (escape-table s) (rw e, (rw e, (rw e, (rw e, tt)))) h
+
+octet-letter : (s : Style) (x : ℕ) → escaped s x ≡ true → is-letter s (letter-of s x) ≡ true
+octet-letter s x h =
+    any-key (λ e. e .octet) (λ y. is-letter s (letter-of s y) ≡ true) x (escape-table s) (refl, (refl, (refl, (refl, tt)))) (and-right (s .escapes) _ h)
+
+octet-back : (s : Style) (x : ℕ) → escaped s x ≡ true → meaning s (letter-of s x) ≡ x
+octet-back s x h =
+    any-key (λ e. e .octet) (λ y. meaning s (letter-of s y) ≡ y) x (escape-table s) (refl, (refl, (refl, (refl, tt)))) (and-right (s .escapes) _ h)
+
+-- an escaped octet stands raw in no field, or begins an escape
+octet-not-plain : (s : Style) (f : Field) (x : ℕ) → escaped s x ≡ true → plain s f x ≡ false
+octet-not-plain s f x h =
+    let on : s .escapes ≡ true = and-left (s .escapes) _ h in
+    any-key (λ e. e .octet) (λ y. plain s f y ≡ false) x (escape-table s) (refl, (refl, (refl, (rw on, tt)))) (and-right (s .escapes) _ h)
+
+-- what begins an escape is escaped
+opens-escaped : (s : Style) (x : ℕ) → opens s x ≡ true → escaped s x ≡ true
+opens-escaped s x h = rw (and-left (s .escapes) (eqb x 92) h, eqb-true x 92 (and-right (s .escapes) (eqb x 92) h))
+
+contrary : (a b : Bool) → (a ≡ true → b ≡ true) → b ≡ false → a ≡ false
+contrary true b h k = let z : _≡_ {A = ℕ} 0 1 = cc (h refl) in absurd (omega arith)
+contrary false b h k = refl
+
+-- ---- one step of decoding
+
+pub decode-escape : (s : Style) (xs : List ℕ) → at-escape s xs ≡ true → decode s xs ≡ meaning s (getD xs 1 0) ∷ decode s (drop 2 xs)
+unfolding decode
+decode-escape s [] h = absurd (let z : _≡_ {A = ℕ} 0 1 = cc in omega arith)
+decode-escape s (x ∷ []) h = absurd (let z : _≡_ {A = ℕ} 0 1 = cc in omega arith)
+decode-escape s (x ∷ y ∷ ys) h = rw h
+
+pub decode-plain : (s : Style) (xs : List ℕ) → 0 < length xs → at-escape s xs ≡ false → decode s xs ≡ getD xs 0 0 ∷ decode s (drop 1 xs)
+unfolding decode
+decode-plain s [] l h = absurd (omega arith)
+decode-plain s (x ∷ []) l h = refl
+decode-plain s (x ∷ y ∷ ys) l h = rw h
+
+-- an octet that begins no escape stands for itself
+no-escape : (s : Style) (x : ℕ) (xs : List ℕ) → opens s x ≡ false → at-escape s (x ∷ xs) ≡ false
+no-escape s x [] h = refl
+no-escape s x (y ∷ ys) h = rw h
+
+decode-itself : (s : Style) (x : ℕ) (xs : List ℕ) → opens s x ≡ false → decode s (x ∷ xs) ≡ x ∷ decode s xs
+decode-itself s x xs h = decode-plain s (x ∷ xs) (omega arith) (no-escape s x xs h)
+
+decode-letter : (s : Style) (y : ℕ) (ys : List ℕ) → s .escapes ≡ true → is-letter s y ≡ true → decode s (92 ∷ y ∷ ys) ≡ meaning s y ∷ decode s ys
+decode-letter s y ys e h = decode-escape s (92 ∷ y ∷ ys) (rw (e, h))
+
+-- ---- the laws
+
+pub decode-means : {s : Style} {f : Field} {xs : List ℕ} (t : Text s f xs) → decode s xs ≡ means t
+unfolding decode
+decode-means none = refl
+decode-means {s} {f} (more {xs = xs} (itself {x = x} h) t) =
+    decode-itself s x xs (not-true (opens s x) (and-right (not (stops s f x)) _ h)) ∙ ap (x ∷_) (decode-means t)
+decode-means {s} (more {xs = xs} (escape {x = y} e h) t) = decode-letter s y xs e h ∙ ap (meaning s y ∷_) (decode-means t)
+
+pub decode-encode : (s : Style) (xs : List ℕ) → decode s (encode s xs) ≡ xs
+unfolding decode encode
+decode-encode s [] = refl
+decode-encode s (x ∷ xs) =
+    cond-case (λ u. decode s (u ++ encode s xs) ≡ x ∷ xs) (escaped s x)
+    (λ h. decode-letter s (letter-of s x) (encode s xs) (and-left (s .escapes) _ h) (octet-letter s x h) ∙ ap₂ (_∷_) (octet-back s x h) (decode-encode s xs))
+    (λ h. decode-itself s x (encode s xs) (contrary (opens s x) (escaped s x) (opens-escaped s x) h) ∙ ap (x ∷_) (decode-encode s xs))
+
+encode-means : {s : Style} {f : Field} {xs : List ℕ} (t : Text s f xs) → encode s (means t) ≡ xs
+unfolding encode
+encode-means none = refl
+encode-means {s} {f} (more {xs = xs} (itself {x = x} h) t) = rw (unescaped) (ap (x ∷_) (encode-means t))
+  where
+    unescaped : escaped s x ≡ false
+    unescaped = contrary (escaped s x) (not (plain s f x)) (λ k. rw (octet-not-plain s f x k)) (rw h)
+encode-means {s} (more {xs = xs} (escape {x = y} e h) t) = rw (letter-escaped s y e h, letter-back s y h) (ap (λ z. 92 ∷ y ∷ z) (encode-means t))
+
+pub encode-decode : {s : Style} {f : Field} {xs : List ℕ} → Text s f xs → encode s (decode s xs) ≡ xs
+encode-decode {s} t = ap (encode s) (decode-means t) ∙ encode-means t
+
+pub decode-short : (s : Style) (xs : List ℕ) → length (decode s xs) ≤ length xs
+unfolding decode
+decode-short s [] = omega arith
+decode-short s (x ∷ []) = omega arith
+decode-short s (x ∷ y ∷ ys) =
+    cond-case (λ u. length u ≤ length (x ∷ y ∷ ys)) (opens s x && is-letter s y) {a = meaning s y ∷ decode s ys} {b = x ∷ decode s (y ∷ ys)}
+    (λ h. omega (arith, decode-short s ys)) (λ h. omega (arith, decode-short s (y ∷ ys)))
+
+pub encode-text : (s : Style) (f : Field) (xs : List ℕ) → every (writable s f) xs ≡ true → Text s f (encode s xs)
+unfolding encode
+encode-text s f [] h = none
+encode-text s f (x ∷ xs) h =
+    more (cond-case (Character s f) (escaped s x) (λ k. escape (and-left (s .escapes) _ k) (octet-letter s x k)) (λ k. itself {x = x} (rw (raw k, contrary (opens s x) (escaped s x) (opens-escaped s x) k))))
+    (encode-text s f xs (and-right (writable s f x) _ h))
+  where
+    raw : escaped s x ≡ false → stops s f x ≡ false
+    raw k = not-true (stops s f x) (rw k at (and-left (writable s f x) _ h))
+
+-- octets that no escape concerns
+abbrev pub bare : Style → ℕ → Bool
+bare s x = not (escaped s x)
+
+encode-bare : (s : Style) (xs : List ℕ) → every (bare s) xs ≡ true → encode s xs ≡ xs
+unfolding encode
+encode-bare s [] h = refl
+encode-bare s (x ∷ xs) h =
+    rw (not-true (escaped s x) (and-left (bare s x) _ h)) (ap (x ∷_) (encode-bare s xs (and-right (bare s x) _ h)))
+
+pub decode-name : {s : Style} {f : Field} {raw : List ℕ} (name : List ℕ) → every (bare s) name ≡ true → Text s f raw → decode s raw ≡ name → raw ≡ name
+decode-name {s} name b t e = sym (encode-decode t) ∙ ap (encode s) e ∙ encode-bare s name b
+
+pub decode-bare : (s : Style) (name : List ℕ) → every (bare s) name ≡ true → decode s name ≡ name
+decode-bare s name b = rw (encode-bare s name b) at (decode-encode s name)
+
+pub content-length-bare : (s : Style) → every (bare s) content-length ≡ true
+content-length-bare s = simp (and-no)
