@@ -11,12 +11,14 @@ use mathlib.Core.List.{List, [], _∷_, _++_, append-assoc}
 use Prim.Native.Nat.{ℕ, zero, suc, _+_, _≤_, _<_}
 use native.Mathlib.Omega.{arith}
 use native.Mathlib.Nat.{le-trans}
-use lib.ListN.{length, drop, getD, length-append}
+use native.Mathlib.Numerals.{add-one}
+use lib.ListN.{length, drop, getD, length-append, length-drop, drop-of-length-le}
+use lib.Seq.{drop-cons, drop-drop}
 use lib.Dec.{eqb}
 use borrow.Author.Tests.{eqb-true, not-true}
 use Rattle.headers.specs.Rows.{every, any}
 use Rattle.headers.specs.Text.{stops, escape-table, is-letter, opens, plain, Character, itself, escape, Text, none, more}
-use Rattle.headers.specs.Escapes.{meaning, letter-of, character-means, means, at-escape, decode, escaped, encode-octet, encode, writable}
+use Rattle.headers.specs.Escapes.{meaning, letter-of, character-means, means, at-escape, width, octet-at, decode, escaped, encode-octet, encode, writable}
 use Rattle.headers.specs.Lines.{content-length}
 use Rattle.headers.specs.declared.text.Style.{Style}
 use Rattle.headers.specs.declared.text.Field.{Field}
@@ -55,6 +57,11 @@ contrary false b h k = refl
 
 -- ---- one step of decoding
 
+escape-long : (s : Style) (xs : List ℕ) → at-escape s xs ≡ true → 2 ≤ length xs
+escape-long s [] h = absurd (let z : _≡_ {A = ℕ} 0 1 = cc in omega arith)
+escape-long s (x ∷ []) h = absurd (let z : _≡_ {A = ℕ} 0 1 = cc in omega arith)
+escape-long s (x ∷ y ∷ ys) h = omega arith
+
 pub decode-escape : (s : Style) (xs : List ℕ) → at-escape s xs ≡ true → decode s xs ≡ meaning s (getD xs 1 0) ∷ decode s (drop 2 xs)
 unfolding decode
 decode-escape s [] h = absurd (let z : _≡_ {A = ℕ} 0 1 = cc in omega arith)
@@ -66,6 +73,27 @@ unfolding decode
 decode-plain s [] l h = absurd (omega arith)
 decode-plain s (x ∷ []) l h = refl
 decode-plain s (x ∷ y ∷ ys) l h = rw h
+
+-- the same as one law: an octet decoded, and as many raw octets passed as it has
+module _ (s : Style) (xs : List ℕ) (i : ℕ) (h : i < length xs) where
+  pub decode-step : decode s (drop i xs) ≡ octet-at s (drop i xs) ∷ decode s (drop (i + width s (drop i xs)) xs)
+  decode-step = by (at-escape s (drop i xs)) refl
+    where
+      by : (t : Bool) → at-escape s (drop i xs) ≡ t
+          → decode s (drop i xs) ≡ cond t (meaning s (getD (drop i xs) 1 0)) (getD (drop i xs) 0 0) ∷ decode s (drop (i + cond t 2 1) xs)
+      by true e = decode-escape s (drop i xs) e ∙ ap (λ z. meaning s (getD (drop i xs) 1 0) ∷ decode s z) (drop-drop 2 i xs)
+      by false e =
+          decode-plain s (drop i xs) (simp length-drop (omega arith)) e ∙ ap (λ z. getD (drop i xs) 0 0 ∷ decode s z) (drop-drop 1 i xs)
+
+  pub width-fits : i + width s (drop i xs) ≤ length xs
+  width-fits = by (at-escape s (drop i xs)) refl
+    where
+      by : (t : Bool) → at-escape s (drop i xs) ≡ t → i + cond t 2 1 ≤ length xs
+      by true e = omega (arith, escape-long s (drop i xs) e, length-drop i xs)
+      by false e = omega arith
+
+pub width-some : (s : Style) (xs : List ℕ) → (1 ≤ width s xs) × (width s xs ≤ 2)
+width-some s xs = cond-case (λ w. (1 ≤ w) × (w ≤ 2)) (at-escape s xs) (λ e. omega arith) (λ e. omega arith)
 
 -- an octet that begins no escape stands for itself
 no-escape : (s : Style) (x : ℕ) (xs : List ℕ) → opens s x ≡ false → at-escape s (x ∷ xs) ≡ false
@@ -124,6 +152,23 @@ encode-text s f (x ∷ xs) h =
   where
     raw : escaped s x ≡ false → stops s f x ≡ false
     raw k = not-true (stops s f x) (rw k at (and-left (writable s f x) _ h))
+
+-- one octet of encoding
+pub encode-step : (s : Style) (xs : List ℕ) (i : ℕ) → i < length xs → encode s (drop i xs) ≡ encode-octet s (getD xs i 0) ++ encode s (drop (i + 1) xs)
+unfolding encode
+encode-step s xs i h = rw (add-one, drop-cons xs i 0)
+
+pub encode-end : (s : Style) (xs : List ℕ) (i : ℕ) → length xs ≤ i → encode s (drop i xs) ≡ []
+unfolding encode
+encode-end s xs i h = rw (drop-of-length-le xs h)
+
+pub decode-end : (s : Style) (xs : List ℕ) (i : ℕ) → length xs ≤ i → decode s (drop i xs) ≡ []
+unfolding decode
+decode-end s xs i h = rw (drop-of-length-le xs h)
+
+pub encoded-some : (s : Style) (x : ℕ) → (1 ≤ length (encode-octet s x)) × (length (encode-octet s x) ≤ 2)
+encoded-some s x =
+    cond-case (λ u. (1 ≤ length u) × (length u ≤ 2)) (escaped s x) {a = 92 ∷ letter-of s x ∷ []} {b = x ∷ []} (λ h. omega arith) (λ h. omega arith)
 
 -- octets that no escape concerns
 abbrev pub bare : Style → ℕ → Bool

@@ -3,7 +3,7 @@ use Prim.Native.Nat.{ℕ, suc, _+_, _-_, _*_, _≤_, _<_}
 use mathlib.Core.List.{List, [], _∷_, _++_, append-assoc, append-nil}
 use mathlib.Core.Path.{_≡_, refl, ap, sym, _∙_, subst}
 use lib.ListN.{length, take, drop, set, getD, drop-of-length-le, take-append-drop, length-append, length-take, length-drop}
-use lib.Seq.{drop-cons, set-at, append-snoc, take-suc, take-all, drop-drop, take-at, drop-at, length-take-le}
+use lib.Seq.{take-suc-set, drop-set-lt, drop-cons, set-at, append-snoc, take-suc, take-all, drop-drop, take-at, drop-at, length-take-le}
 use native.Mathlib.Numerals.{add-one}
 use native.Mathlib.Omega.{arith}
 use borrow.Rule.Slice.PartMut.{putMid, midOf, postOf}
@@ -61,3 +61,11 @@ put-grow d l P R ys a n e lp lr fits is =
     ∙ ap (λ z. z ++ (R ++ drop (a + n) l)) front
     ∙ ap (λ z. P ++ (R ++ z)) (sym (drop-drop n a l) ∙ ap (drop n) back ∙ drop-drop n a d)
     ∙ sym (append-assoc P R (drop (a + n) d))
+
+-- a turn of a loop that stores v at a and has rest to write
+module _ (a v : ℕ) (xs : List ℕ) (fits : a < length xs) where
+  pub store-more : (rest : List ℕ) {whole : List ℕ} → take a xs ++ (v ∷ rest) ≡ whole → take (a + 1) (set xs a v) ++ rest ≡ whole
+  store-more rest w = ap (λ z. take z (set xs a v) ++ rest) (add-one a) ∙ ap (_++ rest) (take-suc-set xs a v fits) ∙ append-assoc (take a xs) (v ∷ []) rest ∙ w
+
+  pub store-kept : (xs₀ : List ℕ) → drop a xs ≡ drop a xs₀ → drop (a + 1) (set xs a v) ≡ drop (a + 1) xs₀
+  store-kept xs₀ h = drop-set-lt (a + 1) xs a v (omega arith) ∙ sym (drop-drop 1 a xs) ∙ ap (drop 1) h ∙ drop-drop 1 a xs₀

@@ -7,11 +7,13 @@
 use mathlib.Core.Path.{_≡_, refl, sym, _∙_, ap}
 use mathlib.Core.Bool.{Bool, true, false, cond, _&&_, _||_, not}
 use mathlib.Core.List.{List, [], _∷_, _++_, append-assoc, append-nil}
-use Prim.Native.Nat.{ℕ, zero, suc, _+_, _≤_}
+use Prim.Native.Nat.{ℕ, zero, suc, _+_, _≤_, _<_}
 use native.Mathlib.Omega.{arith}
-use lib.ListN.{length, length-append}
+use native.Mathlib.Numerals.{add-one}
+use lib.ListN.{length, length-append, getD, drop, drop-of-length-le}
+use lib.Seq.{drop-cons}
 use lib.Dec.{eqb, leb}
-use borrow.Author.Tests.{eqb-true, ne-eqb, leb-true, not-true}
+use borrow.Author.Tests.{eqb-true, ne-eqb, leb-true, not-true, not-false}
 use Rattle.headers.specs.Rows.{every, is-octet, any}
 use Rattle.headers.specs.Text.{stops, escape-table, is-letter, opens, plain, Character, itself, escape, Text, none, more, Part, fresh, back, owes, Raw, Fault, of-escape, fault, owing, Into, into, bad, stop, reads, then-reads, is-text-from, is-text}
 use Rattle.headers.specs.Numbers.{is-digit}
@@ -150,3 +152,39 @@ test-text s f raw p (x ∷ xs) r h = by (reads s f p x) (raw-step p x r) h (λ q
 
 pub is-text-text : (s : Style) (f : Field) (xs : List ℕ) → is-text s f xs ≡ true → Text s f xs
 is-text-text s f xs h = test-text s f [] fresh xs (raw-start s f) h
+
+-- The same test octet by octet, with the character at hand as a flag: a backslash is pending.
+abbrev pub part-of : Bool → Part
+part-of true = back
+part-of false = fresh
+
+abbrev pub goes-on : Style → Field → Bool → ℕ → Bool
+goes-on s f b x = cond b (is-letter s x) (not (stops s f x))
+
+module _ (s : Style) (f : Field) (b : Bool) (xs : List ℕ) (i : ℕ) (h : i < length xs) where
+  pub test-off : goes-on s f b (getD xs i 0) ≡ false → is-text-from s f (part-of b) (drop i xs) ≡ false
+  unfolding is-text-from
+  test-off k = rw (drop-cons xs i 0) (by b k)
+    where
+      by : (b : Bool) → goes-on s f b (getD xs i 0) ≡ false → is-text-from s f (part-of b) (getD xs i 0 ∷ drop (suc i) xs) ≡ false
+      by true k = rw k
+      by false k = rw (not-false (stops s f (getD xs i 0)) k)
+
+  pub test-on : goes-on s f b (getD xs i 0) ≡ true
+      → is-text-from s f (part-of b) (drop i xs) ≡ is-text-from s f (part-of (not b && opens s (getD xs i 0))) (drop (i + 1) xs)
+  unfolding is-text-from
+  test-on k = rw (add-one, drop-cons xs i 0) (by b k)
+    where
+      pick : (t : Bool) → then-reads (cond t (into back) (into fresh)) (λ q. is-text-from s f q (drop (suc i) xs)) ≡ is-text-from s f (part-of t) (drop (suc i) xs)
+      pick true = refl
+      pick false = refl
+
+      by : (b : Bool) → goes-on s f b (getD xs i 0) ≡ true
+          → is-text-from s f (part-of b) (getD xs i 0 ∷ drop (suc i) xs) ≡ is-text-from s f (part-of (not b && opens s (getD xs i 0))) (drop (suc i) xs)
+      by true k = rw k
+      by false k = rw (not-true (stops s f (getD xs i 0)) k) (pick (opens s (getD xs i 0)))
+
+pub test-end : (s : Style) (f : Field) (b : Bool) (xs : List ℕ) (i : ℕ) → length xs ≤ i → is-text-from s f (part-of b) (drop i xs) ≡ not b
+unfolding is-text-from
+test-end s f true xs i h = rw (drop-of-length-le xs h)
+test-end s f false xs i h = rw (drop-of-length-le xs h)

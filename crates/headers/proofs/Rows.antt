@@ -3,10 +3,12 @@ use mathlib.Core.Path.{_≡_, refl, sym, _∙_, ap, ap₂}
 use mathlib.Core.Logic.{_≢_}
 use mathlib.Core.Bool.{Bool, true, false, cond, _&&_, _||_, not}
 use mathlib.Core.List.{List, [], _∷_, _++_}
-use Prim.Native.Nat.{ℕ, zero, suc}
+use Prim.Native.Nat.{ℕ, zero, suc, _+_, _≤_, _<_}
 use native.Mathlib.Omega.{arith}
 use lib.Dec.{eqb}
-use lib.ListN.{replicate}
+use native.Mathlib.Numerals.{add-one}
+use lib.ListN.{replicate, length, getD, drop, drop-of-length-le}
+use lib.Seq.{drop-cons}
 use borrow.Author.Tests.{eqb-true}
 use Rattle.headers.specs.Rows.{same, begins, empty, every, any, All}
 
@@ -117,3 +119,14 @@ any-key key P x (a ∷ keys) (one, rest) h = by (eqb x (key a)) refl h (any-key 
     by : (t : Bool) → eqb x (key a) ≡ t → t || any (λ b. eqb x (key b)) keys ≡ true → (any (λ b. eqb x (key b)) keys ≡ true → P x) → P x
     by true e k go = rw (eqb-true x (key a) e) one
     by false e k go = go k
+
+pub or-no : (a : Bool) → a || false ≡ a
+or-no true = refl
+or-no false = refl
+
+-- a test on every element, one element on
+pub every-step : (f : ℕ → Bool) (xs : List ℕ) (i : ℕ) → i < length xs → every f (drop i xs) ≡ f (getD xs i 0) && every f (drop (i + 1) xs)
+every-step f xs i h = rw (add-one, drop-cons xs i 0)
+
+pub every-end : (f : ℕ → Bool) (xs : List ℕ) (i : ℕ) → length xs ≤ i → every f (drop i xs) ≡ true
+every-end f xs i h = rw (drop-of-length-le xs h)

@@ -3,6 +3,7 @@ use mathlib.Core.Path.{_≡_}
 use mathlib.Core.Bool.{Bool, true, false, cond, _&&_, _||_, not}
 use mathlib.Core.List.{List, [], _∷_, _++_}
 use Prim.Native.Nat.{ℕ}
+use lib.ListN.{getD}
 use lib.Dec.{eqb}
 use Rattle.headers.specs.Rows.{any}
 use Rattle.headers.specs.Text.{Escape, escape-table, is-letter, opens, stops, Character, itself, escape, Text, none, more}
@@ -37,6 +38,13 @@ abbrev pub at-escape : Style → List ℕ → Bool
 at-escape s [] = false
 at-escape s (x ∷ []) = false
 at-escape s (x ∷ y ∷ ys) = opens s x && is-letter s y
+
+-- how many octets are decoded together at the front, and the octet that they stand for
+abbrev pub width : Style → List ℕ → ℕ
+width s xs = cond (at-escape s xs) 2 1
+
+abbrev pub octet-at : Style → List ℕ → ℕ
+octet-at s xs = cond (at-escape s xs) (meaning s (getD xs 1 0)) (getD xs 0 0)
 
 unfoldable pub decode : Style → List ℕ → List ℕ
 decode s [] = []
