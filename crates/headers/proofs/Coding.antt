@@ -74,6 +74,27 @@ decode-plain s [] l h = absurd (omega arith)
 decode-plain s (x ∷ []) l h = refl
 decode-plain s (x ∷ y ∷ ys) l h = rw h
 
+-- an octet that begins no escape stands for itself
+no-escape : (s : Style) (x : ℕ) (xs : List ℕ) → opens s x ≡ false → at-escape s (x ∷ xs) ≡ false
+no-escape s x [] h = refl
+no-escape s x (y ∷ ys) h = rw h
+
+-- an escape at place i
+module _ (s : Style) (xs : List ℕ) (i : ℕ) (h : i < length xs) where
+  pub escape-shut : opens s (getD xs i 0) ≡ false → at-escape s (drop i xs) ≡ false
+  escape-shut k = rw (drop-cons xs i 0) (no-escape s (getD xs i 0) (drop (suc i) xs) k)
+
+  pub escape-cut : length xs ≤ i + 1 → at-escape s (drop i xs) ≡ false
+  escape-cut k = rw (drop-cons xs i 0, drop-of-length-le xs {i = suc i} (omega arith))
+
+  pub escape-is : opens s (getD xs i 0) ≡ true → i + 1 < length xs → at-escape s (drop i xs) ≡ is-letter s (getD xs (i + 1) 0)
+  escape-is k l =
+      let l′ : suc i < length xs = omega arith in
+      rw (add-one, drop-cons xs i 0, drop-cons xs (suc i) 0, k)
+
+  pub escape-room : at-escape s (drop i xs) ≡ true → i + 1 < length xs
+  escape-room k = omega (arith, escape-long s (drop i xs) k, length-drop i xs)
+
 -- the same as one law: an octet decoded, and as many raw octets passed as it has
 module _ (s : Style) (xs : List ℕ) (i : ℕ) (h : i < length xs) where
   pub decode-step : decode s (drop i xs) ≡ octet-at s (drop i xs) ∷ decode s (drop (i + width s (drop i xs)) xs)
@@ -94,11 +115,6 @@ module _ (s : Style) (xs : List ℕ) (i : ℕ) (h : i < length xs) where
 
 pub width-some : (s : Style) (xs : List ℕ) → (1 ≤ width s xs) × (width s xs ≤ 2)
 width-some s xs = cond-case (λ w. (1 ≤ w) × (w ≤ 2)) (at-escape s xs) (λ e. omega arith) (λ e. omega arith)
-
--- an octet that begins no escape stands for itself
-no-escape : (s : Style) (x : ℕ) (xs : List ℕ) → opens s x ≡ false → at-escape s (x ∷ xs) ≡ false
-no-escape s x [] h = refl
-no-escape s x (y ∷ ys) h = rw h
 
 decode-itself : (s : Style) (x : ℕ) (xs : List ℕ) → opens s x ≡ false → decode s (x ∷ xs) ≡ x ∷ decode s xs
 decode-itself s x xs h = decode-plain s (x ∷ xs) (omega arith) (no-escape s x xs h)

@@ -130,3 +130,7 @@ every-step f xs i h = rw (add-one, drop-cons xs i 0)
 
 pub every-end : (f : ℕ → Bool) (xs : List ℕ) (i : ℕ) → length xs ≤ i → every f (drop i xs) ≡ true
 every-end f xs i h = rw (drop-of-length-le xs h)
+
+-- a number, or the one that it equals
+pub cond-same : (x y : ℕ) → cond (eqb x y) y x ≡ x
+cond-same x y = cond-case (λ z. z ≡ x) (eqb x y) (λ h. sym (eqb-true x y h)) (λ h. refl)

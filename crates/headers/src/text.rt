@@ -1,4 +1,12 @@
-// Raw header text.
+// Raw header text: tests on it, its decoding and encoding.
+ghost use mathlib.Core.Path.{_≡_};
+ghost use mathlib.Core.Bool.{cond, not};
+ghost use mathlib.Core.List.{_++_};
+ghost use Prim.Native.Nat.{_+_, _≤_, _<_};
+ghost use lib.ListN.{length, drop};
+ghost use Rattle.headers.specs.Rows.{every};
+ghost use Rattle.headers.specs.Text.{stops, opens, is-letter, is-text};
+ghost use Rattle.headers.specs.Escapes.{at-escape, width, octet-at, meaning, letter-of, escaped, writable, decode, encode-octet, encode};
 
 // What a command makes of header text.
 pub struct Style {
@@ -10,4 +18,223 @@ pub struct Style {
 pub enum Field {
     Name,
     Value,
+}
+
+// Whether the octet stands raw in no text of this field: alike in every style and field.
+pub fn is_stop(style: Style, field: Field, x: u8) -> bool
+    ensures { λ r. ⌜ r ≡ stops style field x ⌝ }
+{
+    (x == 10) | ((x == 13) | (x == 58))
+}
+
+// Whether the octet may follow a backslash.
+pub fn is_letter(style: Style, x: u8) -> bool
+    ensures { λ r. ⌜ r ≡ is-letter style x ⌝ }
+{
+    (x == 114) | ((x == 110) | ((x == 99) | (x == 92)))
+}
+
+// Whether the octet begins an escape.
+pub fn is_open(style: Style, x: u8) -> bool
+    ensures { λ r. ⌜ r ≡ opens style x ⌝ }
+{
+    style.escapes & (x == 92)
+}
+
+// The octet that a letter stands for.
+fn meaning_of(style: Style, x: u8) -> u8
+    ensures { λ r. ⌜ r ≡ meaning style x ⌝ }
+{
+    if x == 114 {
+        return 13;
+    }
+    if x == 110 {
+        return 10;
+    }
+    if x == 99 {
+        return 58;
+    }
+    x
+}
+
+// Whether the octet is written as an escape.
+fn is_escaped(style: Style, x: u8) -> bool
+    ensures { λ r. ⌜ r ≡ escaped style x ⌝ }
+{
+    style.escapes & ((x == 13) | ((x == 10) | ((x == 58) | (x == 92))))
+}
+
+// The letter of an octet that is written as an escape.
+fn letter_for(style: Style, x: u8) -> u8
+    ensures { λ r. ⌜ r ≡ letter-of style x ⌝ }
+{
+    if x == 13 {
+        return 114;
+    }
+    if x == 10 {
+        return 110;
+    }
+    if x == 58 {
+        return 99;
+    }
+    x
+}
+
+// Whether the octet goes on with text whose last octet is a pending backslash, or is not.
+fn goes_on(style: Style, field: Field, back: bool, x: u8) -> bool
+    ensures { λ r. ⌜ r ≡ cond back (is-letter style x) (not (stops style field x)) ⌝ }
+{
+    if back {
+        return is_letter(style, x);
+    }
+    !is_stop(style, field, x)
+}
+
+// Whether the octets are raw text.
+pub fn is_raw(raw: &[u8], style: Style, field: Field) -> bool
+    ensures { λ r. ⌜ r ≡ is-text style field (now (raw .entry)) ⌝ }
+{
+    let mut back = false;
+    let mut i = 0;
+    while i < raw.len() {
+        let x = raw[i];
+        if !goes_on(style, field, back, x) {
+            return false;
+        }
+        back = !back & is_open(style, x);
+        i += 1;
+    }
+    !back
+}
+
+// Whether an escape stands at i.
+fn escape_at(raw: &[u8], style: Style, i: usize) -> bool
+    requires { ⌜ i < length (now raw) ⌝ }
+    ensures { λ r. ⌜ r ≡ at-escape style (drop i (now (raw .entry))) ⌝ }
+{
+    if !is_open(style, raw[i]) {
+        return false;
+    }
+    let next = i + 1;
+    if raw.len() <= next {
+        return false;
+    }
+    is_letter(style, raw[next])
+}
+
+// How many raw octets are decoded together at i: those of an escape, or one.
+fn width_at(raw: &[u8], style: Style, i: usize) -> usize
+    requires { ⌜ i < length (now raw) ⌝ }
+    ensures { λ r. ⌜ r ≡ width style (drop i (now (raw .entry))) ⌝ }
+{
+    if escape_at(raw, style, i) { 2 } else { 1 }
+}
+
+// The octet that they stand for.
+fn decoded_at(raw: &[u8], style: Style, i: usize) -> u8
+    requires { ⌜ i < length (now raw) ⌝ }
+    ensures { λ r. ⌜ r ≡ octet-at style (drop i (now (raw .entry))) ⌝ }
+{
+    if escape_at(raw, style, i) {
+        return meaning_of(style, raw[i + 1]);
+    }
+    raw[i]
+}
+
+// How many octets the raw text has decoded; where it is not raw text, a backslash that begins no escape counts as itself.
+pub fn decoded_length(raw: &[u8], style: Style) -> usize
+    ensures { λ r. ⌜ r ≡ length (decode style (now (raw .entry))) ⌝ }
+{
+    let mut n = 0usize;
+    let mut i = 0usize;
+    while i < raw.len() {
+        i += width_at(raw, style, i);
+        n += 1;
+    }
+    n
+}
+
+// The raw text, decoded, at the front of d.
+pub(crate) fn put_decoded(d: &mut [u8], raw: &[u8], style: Style)
+    requires { ⌜ length (decode style (now raw)) ≤ length (now d) ⌝ }
+    ensures { λ _. ⌜ now (d .exit) ≡ decode style (now (raw .entry)) ++ drop (length (decode style (now (raw .entry)))) (now (d .entry)) ⌝ }
+{
+    let mut n = 0usize;
+    let mut i = 0usize;
+    while i < raw.len() {
+        d[n] = decoded_at(raw, style, i);
+        i += width_at(raw, style, i);
+        n += 1;
+    }
+}
+
+// How many octets an octet has encoded.
+fn encoded_width(style: Style, x: u8) -> usize
+    ensures { λ r. ⌜ r ≡ length (encode-octet style x) ⌝ }
+{
+    if is_escaped(style, x) { 2 } else { 1 }
+}
+
+// How many octets the text has encoded: any octets are taken.
+pub fn encoded_length(text: &[u8], style: Style) -> usize
+    ensures { λ r. ⌜ r ≡ length (encode style (now (text .entry))) ⌝ }
+{
+    let mut n = 0usize;
+    let mut i = 0usize;
+    while i < text.len() {
+        n += encoded_width(style, text[i]);
+        i += 1;
+    }
+    n
+}
+
+// An octet, encoded, at the front of d.
+fn put_octet(d: &mut [u8], x: u8, style: Style) -> usize
+    requires { ⌜ length (encode-octet style x) ≤ length (now d) ⌝ }
+    ensures { λ r. ⌜
+        (r ≡ length (encode-octet style x))
+        × (now (d .exit) ≡ encode-octet style x ++ drop (length (encode-octet style x)) (now (d .entry)))
+        ⌝ }
+{
+    if is_escaped(style, x) {
+        d[0] = 92;
+        d[1] = letter_for(style, x);
+        return 2;
+    }
+    d[0] = x;
+    1
+}
+
+// The text, encoded, at the front of d.
+pub(crate) fn put_encoded(d: &mut [u8], text: &[u8], style: Style)
+    requires { ⌜ length (encode style (now text)) ≤ length (now d) ⌝ }
+    ensures { λ _. ⌜ now (d .exit) ≡ encode style (now (text .entry)) ++ drop (length (encode style (now (text .entry)))) (now (d .entry)) ⌝ }
+{
+    let mut n = 0usize;
+    let mut i = 0usize;
+    while i < text.len() {
+        n += put_octet(&mut d[n..], text[i], style);
+        i += 1;
+    }
+}
+
+// Whether the octet can be written in this field.
+fn can_write(style: Style, field: Field, x: u8) -> bool
+    ensures { λ r. ⌜ r ≡ writable style field x ⌝ }
+{
+    is_escaped(style, x) | !is_stop(style, field, x)
+}
+
+// Whether each octet of the text can be written in this field.
+pub fn is_writable(text: &[u8], style: Style, field: Field) -> bool
+    ensures { λ r. ⌜ r ≡ every (writable style field) (now (text .entry)) ⌝ }
+{
+    let mut i = 0usize;
+    while i < text.len() {
+        if !can_write(style, field, text[i]) {
+            return false;
+        }
+        i += 1;
+    }
+    true
 }

@@ -1,0 +1,92 @@
+-- `text::put_decoded` meets its contract: what is written and what is left to decode make the whole.
+use borrow.Author.Needs.{needs}
+use mathlib.Core.Path.{_≡_, refl, sym, ap, _∙_}
+use mathlib.Core.List.{_++_}
+use Prim.Native.Nat.{_+_, _≤_, _<_, _-_}
+use native.Mathlib.Omega.{arith}
+use lib.ListN.{length, take, drop, getD, length-set, length-append, length-take, length-drop}
+use Rattle.headers.specs.Escapes.{decode, octet-at}
+use Rattle.headers.proofs.Coding.{decode-step, decode-end, width-fits, width-some}
+use Rattle.headers.proofs.Put.{store-more, store-kept, put-done}
+use Rattle.headers.proofs.Coding.{decode-step, decode-end, width-fits, width-some}
+use Rattle.headers.proofs.Put.{store-more, store-kept, put-done}
+use Rattle.headers.proofs.text.put_decoded.Statement.{statement}
+use Rattle.headers.proofs.text.put_decoded.Tie as tie
+
+abbrev Inv-loop : tie.InvT-loop
+Inv-loop d₀ raw style n₀ i₀ d n i = (length d ≡ length d₀) × (i ≤ length raw) × (n + length (decode style (drop i raw)) ≡ length (decode style raw)) × (take n d ++ decode style (drop i raw) ≡ decode style raw) × (drop n d ≡ drop n d₀)
+
+abbrev μ-loop : tie.MeasureT-loop
+μ-loop d₀ raw style n₀ i₀ d n i = length raw - i
+
+loop-holds : tie.Need-loop-holds Inv-loop μ-loop
+loop-holds c = (refl, omega arith, omega arith, refl, refl)
+
+decoded-at-requires : tie.Need-decoded-at-requires Inv-loop μ-loop
+decoded-at-requires c κs = search needs
+
+slice-write-d : tie.Need-slice-write-d Inv-loop μ-loop
+slice-write-d c = let l = c .before .before .loop in
+    let a = c .before .before .before .before .before .args in
+    omega (arith, ap length (decode-step (a .style) (a .raw .now) (l .i) (c .before .loop-test .taken)), l .inv, c .before .before .before .before .before .pre)
+
+width-at-requires : tie.Need-width-at-requires Inv-loop μ-loop
+width-at-requires c κs = search needs
+
+add-i : tie.Need-add-i Inv-loop μ-loop
+add-i c = let l = c .before .before .before .loop in
+    let a = c .before .before .before .before .before .before .args in
+    omega (arith, width-fits (a .style) (a .raw .now) (l .i) (c .before .before .loop-test .taken), c .width-at .ensures)
+
+add-n : tie.Need-add-n Inv-loop μ-loop
+add-n c = let l = c .before .before .before .loop in
+    let a = c .before .before .before .before .before .before .args in
+    omega (arith, ap length (decode-step (a .style) (a .raw .now) (l .i) (c .before .before .loop-test .taken)), l .inv, c .before .before .before .before .before .before .pre)
+
+loop-less : tie.Need-loop-less Inv-loop μ-loop
+loop-less c = let l = c .before .before .before .loop in
+    let a = c .before .before .before .before .before .before .args in
+    omega (arith, width-some (a .style) (drop (l .i) (a .raw .now)) .0, c .width-at .ensures)
+
+loop-again : tie.Need-loop-again Inv-loop μ-loop
+loop-again c = let l = c .before .before .before .loop in
+    let a = c .before .before .before .before .before .before .args in
+    let t = c .before .before .loop-test .taken in
+    let s = a .style in
+    let xs = a .raw .now in
+    let step = decode-step s xs (l .i) t in
+    let room : l .n < length (l .d) = omega (arith, ap length step, l .inv, c .before .before .before .before .before .before .pre) in
+    rw (c .width-at .ensures, c .before .decoded-at .ensures) (
+      length-set (l .d) (l .n) (octet-at s (drop (l .i) xs)) ∙ l .inv .0,
+      width-fits s xs (l .i) t,
+      omega (arith, ap length step, l .inv .2),
+      store-more (l .n) (octet-at s (drop (l .i) xs)) (l .d) room _ (ap (take (l .n) (l .d) ++_) (sym step) ∙ l .inv .3),
+      store-kept (l .n) (octet-at s (drop (l .i) xs)) (l .d) room _ (l .inv .4),
+    )
+
+same-length : tie.Need-same-length Inv-loop μ-loop
+same-length c = search needs
+
+returns : tie.Need-returns Inv-loop μ-loop
+returns c = let l = c .before .loop in
+    let a = c .before .before .before .before .args in
+    let none = decode-end (a .style) (a .raw .now) (l .i) (c .loop-test .left) in
+    let all : l .n ≡ length (decode (a .style) (a .raw .now)) = omega (arith, ap length none, l .inv .2) in
+    put-done (l .n) (l .d) (a .d .now) _ _ (l .inv .3) none (l .inv .4) ∙ ap (λ z. decode (a .style) (a .raw .now) ++ drop z (a .d .now)) all
+
+pub put-decoded-spec : {M : Type 1} → statement M
+put-decoded-spec =
+    tie.close
+    (tie.spec
+    Inv-loop
+    μ-loop
+    loop-holds
+    decoded-at-requires
+    slice-write-d
+    width-at-requires
+    add-i
+    add-n
+    loop-less
+    loop-again
+    same-length
+    returns)
