@@ -2,3 +2,4 @@ pub mod Rows
 pub mod Reading
 pub mod Coding
 pub mod Put
+pub mod Settling

@@ -2,7 +2,7 @@
 use Prim.Native.Nat.{ℕ, suc, _+_, _-_, _*_, _≤_, _<_}
 use mathlib.Core.List.{List, [], _∷_, _++_, append-assoc, append-nil}
 use mathlib.Core.Path.{_≡_, refl, ap, sym, _∙_, subst}
-use lib.ListN.{length, take, drop, set, getD, drop-of-length-le, take-append-drop, length-append, length-take, length-drop}
+use lib.ListN.{length, take, drop, set, getD, drop-of-length-le, take-append-drop, length-append, length-take, length-drop, length-set}
 use lib.Seq.{take-suc-set, drop-set-lt, drop-cons, set-at, append-snoc, take-suc, take-all, drop-drop, take-at, drop-at, length-take-le}
 use native.Mathlib.Numerals.{add-one}
 use native.Mathlib.Omega.{arith}
@@ -69,3 +69,34 @@ module _ (a v : ℕ) (xs : List ℕ) (fits : a < length xs) where
 
   pub store-kept : (xs₀ : List ℕ) → drop a xs ≡ drop a xs₀ → drop (a + 1) (set xs a v) ≡ drop (a + 1) xs₀
   store-kept xs₀ h = drop-set-lt (a + 1) xs a v (omega arith) ∙ sym (drop-drop 1 a xs) ∙ ap (drop 1) h ∙ drop-drop 1 a xs₀
+
+-- a list that begins with P and goes on as d, after a store behind P
+pub store-grow : (d l P : List ℕ) (a v : ℕ) → l ≡ P ++ drop a d → length P ≡ a → a < length d → set l a v ≡ (P ++ (v ∷ [])) ++ drop (a + 1) d
+store-grow d l P a v e lp fits =
+    ap (λ z. set z a v) (e ∙ ap (P ++_) (drop-cons d a 0 fits))
+    ∙ set-at P (getD d a 0) (drop (suc a) d) v a lp
+    ∙ ap (λ z. P ++ (v ∷ drop z d)) (sym (add-one a))
+    ∙ sym (append-assoc P (v ∷ []) (drop (a + 1) d))
+
+-- N written by a callee, x stored behind it, W written by a callee behind that, y stored behind all: a line with its two marks
+module _ (d l ys N W : List ℕ) (n v x : ℕ) (nl : n ≡ length N) (wl : v ≡ length W) (fits : n + 1 + v < length d)
+    (first : l ≡ N ++ drop (length N) d) (second : ys ≡ W ++ drop (length W) (midOf (n + 1) (length (set l n x) - (n + 1)) (set l n x))) where
+  pub put-pair : putMid (n + 1) (length (set l n x) - (n + 1)) (set l n x) ys ≡ ((N ++ (x ∷ [])) ++ W) ++ drop (n + 1 + v) d
+  put-pair =
+      put-grow d (set l n x) (N ++ (x ∷ [])) W ys (n + 1) v
+      (store-grow d l N n x (first ∙ ap (λ z. N ++ drop z d) (sym nl)) (sym nl) (omega arith))
+      (simp length-append (omega arith)) (sym wl) (omega arith)
+      (second ∙ ap (λ z. W ++ drop z (midOf (n + 1) (length (set l n x) - (n + 1)) (set l n x))) (sym wl))
+
+  pub put-pair-long : length (putMid (n + 1) (length (set l n x) - (n + 1)) (set l n x) ys) ≡ length d
+  put-pair-long = ap length put-pair ∙ simp (length-append, length-drop) (omega arith)
+
+  pub put-marks-long : (y : ℕ) → length (set (putMid (n + 1) (length (set l n x) - (n + 1)) (set l n x) ys) (n + 1 + v) y) ≡ length d
+  put-marks-long y = length-set (putMid (n + 1) (length (set l n x) - (n + 1)) (set l n x) ys) (n + 1 + v) y ∙ put-pair-long
+
+  pub put-marks : (y k : ℕ) → k ≡ n + 1 + v + 1 → set (putMid (n + 1) (length (set l n x) - (n + 1)) (set l n x) ys) (n + 1 + v) y ≡ (N ++ (x ∷ (W ++ (y ∷ [])))) ++ drop k d
+  put-marks y k e =
+      let bracketed : ((N ++ (x ∷ [])) ++ W) ++ (y ∷ []) ≡ N ++ (x ∷ (W ++ (y ∷ []))) = simp append-assoc in
+      store-grow d _ ((N ++ (x ∷ [])) ++ W) (n + 1 + v) y put-pair (simp length-append (omega arith)) fits
+      ∙ ap (λ z. z ++ drop (n + 1 + v + 1) d) bracketed
+      ∙ ap (λ z. (N ++ (x ∷ (W ++ (y ∷ [])))) ++ drop z d) (sym e)

@@ -134,3 +134,12 @@ every-end f xs i h = rw (drop-of-length-le xs h)
 -- a number, or the one that it equals
 pub cond-same : (x y : ℕ) → cond (eqb x y) y x ≡ x
 cond-same x y = cond-case (λ z. z ≡ x) (eqb x y) (λ h. sym (eqb-true x y h)) (λ h. refl)
+
+-- a row without elements, by its length
+pub empty-zero : {A : Type 0} (xs : List A) → length xs ≡ 0 → empty xs ≡ true
+empty-zero [] h = refl
+empty-zero (x ∷ xs) h = absurd (omega arith)
+
+pub empty-some : {A : Type 0} (xs : List A) → (length xs ≡ 0 → ⊥) → empty xs ≡ false
+empty-some [] h = absurd (h refl)
+empty-some (x ∷ xs) h = refl

@@ -154,10 +154,13 @@ pub fn decoded_length(raw: &[u8], style: Style) -> usize
     n
 }
 
-// The raw text, decoded, at the front of d.
-pub(crate) fn put_decoded(d: &mut [u8], raw: &[u8], style: Style)
+// The raw text, decoded, at the front of d; its length decoded.
+pub(crate) fn put_decoded(d: &mut [u8], raw: &[u8], style: Style) -> usize
     requires { ⌜ length (decode style (now raw)) ≤ length (now d) ⌝ }
-    ensures { λ _. ⌜ now (d .exit) ≡ decode style (now (raw .entry)) ++ drop (length (decode style (now (raw .entry)))) (now (d .entry)) ⌝ }
+    ensures { λ r. ⌜
+        (r ≡ length (decode style (now (raw .entry))))
+        × (now (d .exit) ≡ decode style (now (raw .entry)) ++ drop (length (decode style (now (raw .entry)))) (now (d .entry)))
+        ⌝ }
 {
     let mut n = 0usize;
     let mut i = 0usize;
@@ -166,6 +169,7 @@ pub(crate) fn put_decoded(d: &mut [u8], raw: &[u8], style: Style)
         i += width_at(raw, style, i);
         n += 1;
     }
+    n
 }
 
 // How many octets an octet has encoded.
@@ -188,7 +192,7 @@ pub fn encoded_length(text: &[u8], style: Style) -> usize
     n
 }
 
-// An octet, encoded, at the front of d.
+// An octet, encoded, at the front of d; its length encoded.
 fn put_octet(d: &mut [u8], x: u8, style: Style) -> usize
     requires { ⌜ length (encode-octet style x) ≤ length (now d) ⌝ }
     ensures { λ r. ⌜
@@ -205,10 +209,13 @@ fn put_octet(d: &mut [u8], x: u8, style: Style) -> usize
     1
 }
 
-// The text, encoded, at the front of d.
-pub(crate) fn put_encoded(d: &mut [u8], text: &[u8], style: Style)
+// The text, encoded, at the front of d; its length encoded.
+pub(crate) fn put_encoded(d: &mut [u8], text: &[u8], style: Style) -> usize
     requires { ⌜ length (encode style (now text)) ≤ length (now d) ⌝ }
-    ensures { λ _. ⌜ now (d .exit) ≡ encode style (now (text .entry)) ++ drop (length (encode style (now (text .entry)))) (now (d .entry)) ⌝ }
+    ensures { λ r. ⌜
+        (r ≡ length (encode style (now (text .entry))))
+        × (now (d .exit) ≡ encode style (now (text .entry)) ++ drop (length (encode style (now (text .entry)))) (now (d .entry)))
+        ⌝ }
 {
     let mut n = 0usize;
     let mut i = 0usize;
@@ -216,6 +223,7 @@ pub(crate) fn put_encoded(d: &mut [u8], text: &[u8], style: Style)
         n += put_octet(&mut d[n..], text[i], style);
         i += 1;
     }
+    n
 }
 
 // Whether the octet can be written in this field.

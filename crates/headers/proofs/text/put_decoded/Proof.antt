@@ -72,7 +72,7 @@ returns c = let l = c .before .loop in
     let a = c .before .before .before .before .args in
     let none = decode-end (a .style) (a .raw .now) (l .i) (c .loop-test .left) in
     let all : l .n ≡ length (decode (a .style) (a .raw .now)) = omega (arith, ap length none, l .inv .2) in
-    put-done (l .n) (l .d) (a .d .now) _ _ (l .inv .3) none (l .inv .4) ∙ ap (λ z. decode (a .style) (a .raw .now) ++ drop z (a .d .now)) all
+    (all, put-done (l .n) (l .d) (a .d .now) _ _ (l .inv .3) none (l .inv .4) ∙ ap (λ z. decode (a .style) (a .raw .now) ++ drop z (a .d .now)) all)
 
 pub put-decoded-spec : {M : Type 1} → statement M
 put-decoded-spec =

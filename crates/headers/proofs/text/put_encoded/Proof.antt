@@ -77,7 +77,7 @@ returns c = let l = c .before .loop in
     let a = c .before .before .before .before .args in
     let none = encode-end (a .style) (a .text .now) (l .i) (c .loop-test .left) in
     let all : l .n ≡ length (encode (a .style) (a .text .now)) = omega (arith, ap length none, l .inv .2) in
-    put-done (l .n) (l .d) (a .d .now) _ _ (l .inv .3) none (l .inv .4) ∙ ap (λ z. encode (a .style) (a .text .now) ++ drop z (a .d .now)) all
+    (all, put-done (l .n) (l .d) (a .d .now) _ _ (l .inv .3) none (l .inv .4) ∙ ap (λ z. encode (a .style) (a .text .now) ++ drop z (a .d .now)) all)
 
 pub put-encoded-spec : {M : Type 1} → statement M
 put-encoded-spec =

@@ -1,0 +1,91 @@
+-- Answers settled by checks in order: laws. Assumes nothing.
+--     refusal, acceptance     what a buffer call owes at its end, from the answer alone
+--     record-.., line-..      which answer the checks of a call settle on
+use mathlib.Core.Path.{_≡_, refl, sym, ap, _∙_}
+use mathlib.Core.Bool.{Bool, true, false, cond, _&&_, not}
+use mathlib.Core.List.{List, [], _∷_, _++_}
+use Prim.Native.Nat.{ℕ, _+_, _≤_, _<_}
+use native.Mathlib.Omega.{arith}
+use lib.ListN.{length, drop, length-append}
+use borrow.Author.Tests.{le-leb, lt-leb, lt-ltb, le-ltb}
+use Rattle.headers.specs.Rows.{empty, every}
+use Rattle.headers.specs.Escapes.{encode, writable}
+use Rattle.headers.specs.Block.{Entry}
+use Rattle.headers.specs.Lines.{raw-line, written-line, can-write}
+use Rattle.headers.specs.Answers.{Answer, accepted, refused, left-in, length-answer, line-answer}
+use Rattle.headers.specs.declared.text.Style.{Style}
+use Rattle.headers.specs.declared.text.Field.the-variants.{Name, Value}
+use Rattle.headers.proofs.Rows.{and-no}
+
+-- refused: the buffer is as before
+pub refusal : (A : Answer) (k : ℕ) (R d : List ℕ) → A ≡ refused k → (refused k ≡ A) × (d ≡ left-in A R d)
+refusal A k R d e = rw e (refl, refl)
+
+-- accepted: the buffer holds what is written, and the rest as before
+pub acceptance : (A : Answer) (values R d after : List ℕ) → A ≡ accepted values → after ≡ R ++ drop (length R) d → (accepted values ≡ A) × (after ≡ left-in A R d)
+acceptance A values R d after e w = rw e (refl, w)
+
+-- ---- one raw line of an entry
+
+module _ (s : Style) (e : Entry) where
+  pub raw-long : length (raw-line s e) ≡ length (encode s (e .name)) + 1 + length (encode s (e .value))
+  raw-long = simp length-append (omega arith)
+
+  pub written-long : length (written-line s e) ≡ length (raw-line s e) + 1
+  written-long = simp length-append (omega arith)
+
+  pub line-long : length (written-line s e) ≡ length (encode s (e .name)) + 1 + length (encode s (e .value)) + 1
+  line-long = written-long ∙ ap (_+ 1) raw-long
+
+  pub no-name : empty (e .name) ≡ true → can-write s e ≡ false
+  no-name h = rw h
+
+  pub no-name-octet : every (writable s Name) (e .name) ≡ false → can-write s e ≡ false
+  no-name-octet h = simp (h, and-no)
+
+  pub no-value-octet : every (writable s Value) (e .value) ≡ false → can-write s e ≡ false
+  no-value-octet h = simp (h, and-no)
+
+  pub no-room : 512 < length (raw-line s e) → can-write s e ≡ false
+  no-room h = simp (lt-leb (length (raw-line s e)) 512 h, and-no)
+
+  pub can : empty (e .name) ≡ false → every (writable s Name) (e .name) ≡ true → every (writable s Value) (e .value) ≡ true → length (raw-line s e) ≤ 512 → can-write s e ≡ true
+  can a b c h = simp (a, b, c, le-leb (length (raw-line s e)) 512 h)
+
+  pub length-no : can-write s e ≡ false → length-answer s e ≡ refused 53
+  unfolding length-answer
+  length-no h = rw h
+
+  pub length-yes : can-write s e ≡ true → length-answer s e ≡ accepted (length (raw-line s e) ∷ [])
+  unfolding length-answer
+  length-yes h = rw h
+
+  -- what the length's answer says of the entry
+  pub length-refused : (k : ℕ) → refused k ≡ length-answer s e → can-write s e ≡ false
+  unfolding length-answer
+  length-refused k h = by (can-write s e) refl h
+    where
+      by : (t : Bool) → can-write s e ≡ t → refused k ≡ cond (not t) (refused 53) (accepted (length (raw-line s e) ∷ [])) → can-write s e ≡ false
+      by true q h = absurd (let z : _≡_ {A = ℕ} 0 1 = cc in omega arith)
+      by false q h = q
+
+  pub length-accepted : (n : ℕ) → accepted (n ∷ []) ≡ length-answer s e → (can-write s e ≡ true) × (n ≡ length (raw-line s e))
+  unfolding length-answer
+  length-accepted n h = by (can-write s e) refl h
+    where
+      by : (t : Bool) → can-write s e ≡ t → accepted (n ∷ []) ≡ cond (not t) (refused 53) (accepted (length (raw-line s e) ∷ []))
+          → (can-write s e ≡ true) × (n ≡ length (raw-line s e))
+      by true q h = (q, cc)
+      by false q h = absurd (let z : _≡_ {A = ℕ} 0 1 = cc in omega arith)
+
+  pub line-no : (room : ℕ) → can-write s e ≡ false → line-answer s room e ≡ refused 53
+  unfolding line-answer
+  line-no room h = rw h
+
+  pub line-short : (room : ℕ) → can-write s e ≡ true → room ≤ length (raw-line s e) → line-answer s room e ≡ refused 56
+  unfolding line-answer
+  line-short room h l = rw (h, lt-ltb room (length (written-line s e)) (omega (arith, written-long)))
+
+  pub line-yes : (room : ℕ) → can-write s e ≡ true → length (raw-line s e) < room → line-answer s room e ≡ accepted ((length (raw-line s e) + 1) ∷ [])
+  unfolding line-answer
+  line-yes room h l = rw (h, le-ltb room (length (written-line s e)) (omega (arith, written-long)), written-long)
