@@ -1,5 +1,6 @@
 pub mod Rows
 pub mod Reading
 pub mod Coding
+pub mod Numerals
 pub mod Put
 pub mod Settling
