@@ -1,1 +1,20 @@
 // Rows of octets.
+ghost use mathlib.Core.Path.{_≡_};
+ghost use Rattle.headers.specs.Rows.{same};
+
+// Whether two rows are the same.
+pub fn equal(a: &[u8], b: &[u8]) -> bool
+    ensures { λ r. ⌜ r ≡ same (now (a .entry)) (now (b .entry)) ⌝ }
+{
+    if a.len() != b.len() {
+        return false;
+    }
+    let mut i = 0;
+    while i < a.len() {
+        if a[i] != b[i] {
+            return false;
+        }
+        i += 1;
+    }
+    true
+}
