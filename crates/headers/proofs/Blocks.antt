@@ -13,7 +13,7 @@ use lib.Dec.{eqb, leb}
 use borrow.Author.Tests.{eqb-true, eq-eqb, leb-true, le-leb}
 use Rattle.headers.specs.Rows.{empty, same, begins, All, every, is-octet}
 use Rattle.headers.specs.Numbers.{evaluate, numeral}
-use Rattle.headers.specs.Block.{Entry, tag, two-octets, entry-record, image, Short, Block, two-at, name-length, value-length, record-length, at-record, front-entry, behind, entry-before, entries-within, entries, value-span, spans}
+use Rattle.headers.specs.Block.{record-head, Entry, tag, two-octets, entry-record, image, Short, Block, two-at, name-length, value-length, record-length, at-record, front-entry, behind, entry-before, entries-within, entries, value-span, spans}
 use Rattle.headers.specs.Answers.{Answer, accepted, refused, first-span, find-from, find-answer, has-entries, is-block, entry-answer, entry-says}
 use Rattle.headers.specs.declared.block.Lengths.{Lengths}
 use Rattle.headers.specs.declared.block.EntryAt.{EntryAt}
@@ -227,3 +227,8 @@ module _ (block name : List ℕ) (i : ℕ) (l : Lengths) (p : Placed block i l) 
       ap (find-from name i) (entries-next block i l p)
       ∙ find-hit name i (placed block i l) (entries (drop (place-behind i l) block)) h
       ∙ ap₂ (λ n v. cond (has-entries (entries (drop (place-behind i l) block))) (accepted ((i + 6 + n) ∷ v ∷ [])) (refused 22)) (placed-name block i l p) (placed-value block i l p)
+
+-- a record's head has six octets
+pub head-long : (n v : ℕ) → length (record-head n v) ≡ 6
+unfolding numeral
+head-long n v = refl

@@ -7,15 +7,18 @@ use mathlib.Core.List.{List, [], _∷_, _++_}
 use Prim.Native.Nat.{ℕ, _+_, _≤_, _<_}
 use native.Mathlib.Omega.{arith}
 use lib.ListN.{length, drop, length-append}
+use lib.Dec.{ltb}
 use borrow.Author.Tests.{le-leb, lt-leb, lt-ltb, le-ltb}
 use Rattle.headers.specs.Rows.{empty, every}
-use Rattle.headers.specs.Escapes.{encode, writable}
+use Rattle.headers.specs.Text.{is-text}
+use Rattle.headers.specs.Escapes.{decode, encode, writable}
 use Rattle.headers.specs.Block.{Entry}
-use Rattle.headers.specs.Lines.{raw-line, written-line, can-write}
-use Rattle.headers.specs.Answers.{Answer, accepted, refused, left-in, length-answer, line-answer}
+use Rattle.headers.specs.Lines.{decoded-entry, line-length, are-text, raw-line, written-line, can-write}
+use Rattle.headers.specs.Answers.{Answer, accepted, refused, left-in, written-record, record-answer, length-answer, line-answer}
 use Rattle.headers.specs.declared.text.Style.{Style}
 use Rattle.headers.specs.declared.text.Field.the-variants.{Name, Value}
 use Rattle.headers.proofs.Rows.{and-no}
+use Rattle.headers.proofs.Blocks.{length-record}
 
 -- refused: the buffer is as before
 pub refusal : (A : Answer) (k : ℕ) (R d : List ℕ) → A ≡ refused k → (refused k ≡ A) × (d ≡ left-in A R d)
@@ -89,3 +92,41 @@ module _ (s : Style) (e : Entry) where
   pub line-yes : (room : ℕ) → can-write s e ≡ true → length (raw-line s e) < room → line-answer s room e ≡ accepted ((length (raw-line s e) + 1) ∷ [])
   unfolding line-answer
   line-yes room h l = rw (h, le-ltb room (length (written-line s e)) (omega (arith, written-long)), written-long)
+
+-- ---- one record from raw text
+
+module _ (s : Style) (name value : List ℕ) where
+  pub no-text-name : is-text s Name name ≡ false → are-text s name value ≡ false
+  no-text-name h = rw h
+
+  pub no-text-value : is-text s Value value ≡ false → are-text s name value ≡ false
+  no-text-value h = simp (h, and-no)
+
+  pub both-text : is-text s Name name ≡ true → is-text s Value value ≡ true → are-text s name value ≡ true
+  both-text h k = rw (h, k)
+
+module _ (s : Style) (room : ℕ) (name value : List ℕ) where
+  pub record-long : length (written-record s name value) ≡ 6 + length (decode s name) + length (decode s value)
+  record-long = length-record (decoded-entry s name value)
+
+  pub record-no : are-text s name value ≡ false → record-answer s room name value ≡ refused 20
+  unfolding record-answer
+  record-no h = rw h
+
+  module _ (text : are-text s name value ≡ true) where
+    pub record-short : room < 6 + length (decode s name) + length (decode s value) → record-answer s room name value ≡ refused 21
+    unfolding record-answer
+    record-short h = rw (text, lt-ltb room (length (written-record s name value)) (omega (arith, record-long)))
+
+    module _ (fits : 6 + length (decode s name) + length (decode s value) ≤ room) where
+      enough : ltb room (length (written-record s name value)) ≡ false
+      enough = le-ltb room (length (written-record s name value)) (omega (arith, record-long))
+
+      pub record-over : 511 < length (decode s name) + length (decode s value) → record-answer s room name value ≡ refused 23
+      unfolding record-answer
+      record-over h = rw (text, enough, lt-ltb 512 (line-length (decoded-entry s name value)) (omega arith))
+
+      pub record-yes : length (decode s name) + length (decode s value) ≤ 511
+          → record-answer s room name value ≡ accepted ((6 + length (decode s name) + length (decode s value)) ∷ [])
+      unfolding record-answer
+      record-yes h = rw (text, enough, le-ltb 512 (line-length (decoded-entry s name value)) (omega arith), record-long)
