@@ -4,13 +4,13 @@ use mathlib.Core.Logic.{_≢_}
 use mathlib.Core.Bool.{Bool, true, false, cond, _&&_, _||_, not}
 use mathlib.Core.List.{List, [], _∷_, _++_}
 use Prim.Native.Nat.{ℕ, zero, suc, _+_, _≤_, _<_}
+use native.Mathlib.Numerals.{add-one}
 use native.Mathlib.Omega.{arith}
 use lib.Dec.{eqb}
-use native.Mathlib.Numerals.{add-one}
-use lib.ListN.{replicate, length, getD, drop, drop-of-length-le}
+use lib.ListN.{length, getD, take, drop, replicate, take-append-drop, drop-of-length-le}
 use lib.Seq.{drop-cons}
-use borrow.Author.Tests.{eqb-true}
-use Rattle.headers.specs.Rows.{same, begins, empty, every, any, All}
+use borrow.Author.Tests.{eqb-true, eq-eqb, ltb-true}
+use Rattle.headers.specs.Rows.{same, begins, empty, every, any, All, is-octet}
 
 -- what holds of both choices, each with its test
 pub cond-case : {A : Type 0} (P : A → Type 0) (t : Bool) {a b : A} → (t ≡ true → P a) → (t ≡ false → P b) → P (cond t a b)
@@ -25,12 +25,21 @@ pub and-right : (a b : Bool) → a && b ≡ true → b ≡ true
 and-right true b h = h
 and-right false b h = let z : _≡_ {A = ℕ} 0 1 = cc in absurd (omega arith)
 
+-- a test that cannot be true is false
+pub refuted : (t : Bool) → (t ≡ true → ⊥) → t ≡ false
+refuted true h = absurd (h refl)
+refuted false h = refl
+
 pub same-eq : (xs ys : List ℕ) → same xs ys ≡ true → xs ≡ ys
 same-eq [] [] h = refl
 same-eq [] (y ∷ ys) h = cc
 same-eq (x ∷ xs) [] h = cc
 same-eq (x ∷ xs) (y ∷ ys) h =
     ap₂ (_∷_) (eqb-true x y (and-left (eqb x y) (same xs ys) h)) (same-eq xs ys (and-right (eqb x y) (same xs ys) h))
+
+pub same-self : (xs : List ℕ) → same xs xs ≡ true
+same-self [] = refl
+same-self (x ∷ xs) = rw (eq-eqb x x refl) (same-self xs)
 
 pub begins-rest : (xs ys : List ℕ) → begins xs ys ≡ true → (w : List ℕ) × (ys ≡ xs ++ w)
 begins-rest [] ys h = (ys, refl)
@@ -79,6 +88,15 @@ every-append f (x ∷ xs) ys h k = rw (and-left (f x) (every f xs) h) (every-app
 pub every-right : (f : ℕ → Bool) (xs ys : List ℕ) → every f (xs ++ ys) ≡ true → every f ys ≡ true
 every-right f [] ys h = h
 every-right f (x ∷ xs) ys h = every-right f xs ys (and-right (f x) (every f (xs ++ ys)) h)
+
+pub every-drop : (f : ℕ → Bool) (n : ℕ) (xs : List ℕ) → every f xs ≡ true → every f (drop n xs) ≡ true
+every-drop f n xs h = every-right f (take n xs) (drop n xs) (rw take-append-drop h)
+
+-- a place past the end counts as 0
+pub octet-at : (xs : List ℕ) (i : ℕ) → every is-octet xs ≡ true → getD xs i 0 < 256
+octet-at [] i h = omega arith
+octet-at (x ∷ xs) zero h = ltb-true x 256 (and-left (is-octet x) (every is-octet xs) h)
+octet-at (x ∷ xs) (suc i) h = octet-at xs i (and-right (is-octet x) (every is-octet xs) h)
 
 pub every-replicate : (f : ℕ → Bool) (n x : ℕ) → f x ≡ true → every f (replicate n x) ≡ true
 every-replicate f zero x h = refl

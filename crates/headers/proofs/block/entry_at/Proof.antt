@@ -2,27 +2,41 @@
 use borrow.Author.Needs.{needs}
 use mathlib.Core.Path.{_≡_, sym, _∙_, ap, ap₂}
 use mathlib.Core.List.{List, [], _∷_}
-use Prim.Native.Nat.{ℕ, _+_, _<_}
+use Prim.Native.Nat.{ℕ, _+_, _≤_, _<_}
 use native.Mathlib.Omega.{arith}
-use lib.ListN.{length, drop, getD, length-drop}
+use lib.ListN.{length, drop, getD, length-drop, drop-of-length-le}
 use lib.Seq.{getD-drop}
+use Rattle.headers.specs.Block.{two-at, at-record}
 use Rattle.headers.specs.Answers.{accepted, refused, entry-answer}
-use Rattle.headers.proofs.Blocks.{Whole, two-drop, entry-end, entry-whole, entry-malformed}
+use Rattle.headers.proofs.Rows.{refuted}
+use Rattle.headers.proofs.Blocks.{Whole, at-whole, whole-at, two-drop, entry-end, entry-found, entry-malformed}
 use Rattle.headers.proofs.block.entry_at.Statement.{statement}
 use Rattle.headers.proofs.block.entry_at.Tie as tie
 
--- the parts of a record at place at
+-- what stands at place at, said of the whole block
 module _ (block : List ℕ) (at : ℕ) where
   first-at : getD (drop at block) 0 0 ≡ getD block at 0
   first-at = getD-drop at block 0 0 ∙ ap (λ k. getD block k 0) (let e : at + 0 ≡ at = omega arith in e)
 
+  -- a part of a record is missing
   refused-at : at < length block → (Whole (drop at block) → ⊥) → refused 22 ≡ entry-answer (drop at block)
-  refused-at h none-there = sym (entry-malformed (drop at block) (simp length-drop (omega arith)) none-there)
+  refused-at h none-there =
+      let long = length-drop at block in
+      sym (entry-malformed (drop at block) (λ e. omega (arith, ap length e)) (refuted (at-record (drop at block)) (λ t. none-there (at-whole (drop at block) t))))
+
+  -- all its parts are there
+  found-at : (n v : ℕ) → getD block at 0 ≡ 72 → getD block (at + 1) 0 ≡ 68 → n ≡ two-at block (at + 2) → v ≡ two-at block (at + 4) → at + 6 + n + v ≤ length block
+      → accepted (n ∷ v ∷ []) ≡ entry-answer (drop at block)
+  found-at n v one two en ev fits =
+      let name = en ∙ sym (two-drop block at 2) in
+      let value = ev ∙ sym (two-drop block at 4) in
+      let w : Whole (drop at block) = record { head = simp length-drop (omega arith); first = first-at ∙ one; second = getD-drop at block 1 0 ∙ two; fits = simp length-drop (omega arith) } in
+      ap₂ (λ x y. accepted (x ∷ y ∷ [])) name value ∙ sym (entry-found (drop at block) (whole-at (drop at block) w))
 
 returns : tie.Need-returns
 returns c =
     let a = c .before .before .args in
-    sym (entry-end (drop (a .at) (a .block .now)) (simp length-drop (omega arith)))
+    sym (entry-end (drop (a .at) (a .block .now)) (drop-of-length-le (a .block .now) (c .if1 .taken)))
 
 sub-left : tie.Need-sub-left
 sub-left c = search needs
@@ -72,17 +86,16 @@ add-if5-2 c = search needs
 returns-5 : tie.Need-returns-5
 returns-5 c =
     let a = c .before .before .before .before .before .before .before .before .before .before .args in
-    let n = two-drop (a .block .now) (a .at) 2 in
-    let v = two-drop (a .block .now) (a .at) 4 in
-    refused-at (a .block .now) (a .at) (omega arith) (λ w. omega (arith, w .fits, length-drop (a .at) (a .block .now)))
+    refused-at (a .block .now) (a .at) (omega arith)
+    (λ w. omega (arith, w .fits, length-drop (a .at) (a .block .now), two-drop (a .block .now) (a .at) 2, two-drop (a .block .now) (a .at) 4))
 
 returns-6 : tie.Need-returns-6
 returns-6 c =
-    let a = c .before .before .before .before .before .before .before .before .before .before .args in
-    let n = two-drop (a .block .now) (a .at) 2 in
-    let v = two-drop (a .block .now) (a .at) 4 in
-    let w : Whole (drop (a .at) (a .block .now)) = record { head = simp length-drop (omega arith); first = first-at (a .block .now) (a .at) ∙ c .before .before .before .before .before .if3 .left; second = getD-drop (a .at) (a .block .now) 1 0 ∙ c .before .before .before .if4 .left; fits = simp length-drop (omega arith) } in
-    ap₂ (λ x y. accepted (x ∷ y ∷ [])) (c .before .before .length-at .ensures .0 ∙ sym n) (c .before .length-at2 .ensures .0 ∙ sym v) ∙ sym (entry-whole (drop (a .at) (a .block .now)) w)
+    let n = c .before .before .length-at in
+    let v = c .before .length-at2 in
+    let t = c .before .before .before in
+    let a = t .before .before .before .before .before .before .before .args in
+    found-at (a .block .now) (a .at) (n .result) (v .result) (t .before .before .if3 .left) (t .if4 .left) (n .ensures .0) (v .ensures .0) (omega arith)
 
 pub entry-at-spec : {M : Type 1} → statement M
 entry-at-spec =

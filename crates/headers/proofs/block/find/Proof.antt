@@ -4,13 +4,14 @@ use mathlib.Core.Path.{_≡_, refl, sym, _∙_, ap}
 use mathlib.Core.Bool.{Bool, true, false, cond}
 use Prim.Native.Nat.{ℕ, _+_, _-_, _≤_}
 use native.Mathlib.Omega.{arith}
+use mathlib.Core.Option.{Option, none, some}
 use mathlib.Core.List.{List, [], _∷_}
 use lib.ListN.{length, take, drop}
 use Rattle.headers.specs.Rows.{same}
-use Rattle.headers.specs.Block.{entries, spans}
+use Rattle.headers.specs.Block.{Entry, entries, spans}
 use Rattle.headers.specs.Answers.{accepted, refused, find-answer, find-from}
 use Rattle.headers.specs.declared.block.Lengths.{Lengths}
-use Rattle.headers.proofs.Blocks.{Placed, placed, told-entry, told-end, told-malformed, entries-end, entries-none, find-passes, find-stops}
+use Rattle.headers.proofs.Blocks.{Placed, placed, told-entry, told-end, told-malformed, find-passes, find-stops}
 use Rattle.headers.proofs.block.find.Statement.{statement}
 use Rattle.headers.proofs.block.find.Tie as tie
 
@@ -104,28 +105,26 @@ loop-again c =
     let l = turn (c .before) in
     (here l .inside, l .before .before .before .loop .inv .1 ∙ find-passes (block-at l) (name-at l) (place-at l) (lengths-at l) (here l) (compared (c .before) ∙ c .if1 .left))
 
+-- what is left at i, and the answer where it has no entry
+abbrev left : tie.After-entry-at Inv-loop μ-loop → List ℕ
+left c = drop (c .before .loop .i) (c .before .before .before .before .args .block .now)
+
+ended : (c : tie.After-entry-at Inv-loop μ-loop) (o : Option (List Entry)) → entries (left c) ≡ o
+    → find-from (c .before .before .before .before .args .name .now) (c .before .loop .i) o ≡ find-answer (c .before .before .before .before .args .block .now) (c .before .before .before .before .args .name .now)
+ended c o h = sym (c .before .loop .inv .1 ∙ ap (find-from (c .before .before .before .before .args .name .now) (c .before .loop .i)) h)
+
 enum-told : tie.Need-enum-told Inv-loop μ-loop
 enum-told c = search needs
 
--- what is left at i is nothing, or no record
 returns-3 : tie.Need-returns-3 Inv-loop μ-loop
 unfolding spans
-returns-3 c =
-    let e = c .before .before in
-    let a = e .before .before .before .before .args in
-    let xs = drop (e .before .loop .i) (a .block .now) in
-    sym (e .before .loop .inv .1 ∙ ap (find-from (a .name .now) (e .before .loop .i)) (entries-end xs (told-end xs (e .entry-at .result) (e .entry-at .ensures) (c .enum-told .given .1))))
+returns-3 c = ended (c .before .before) (some []) (told-end _ _ (c .before .before .entry-at .ensures) (c .enum-told .given .1))
 
 enum-told-2 : tie.Need-enum-told-2 Inv-loop μ-loop
 enum-told-2 c = search needs
 
 returns-4 : tie.Need-returns-4 Inv-loop μ-loop
-returns-4 c =
-    let e = c .before .before in
-    let a = e .before .before .before .before .args in
-    let xs = drop (e .before .loop .i) (a .block .now) in
-    let (s, h) = told-malformed xs (e .entry-at .result) (e .entry-at .ensures) (c .enum-told2 .given .1) in
-    sym (e .before .loop .inv .1 ∙ ap (find-from (a .name .now) (e .before .loop .i)) (entries-none xs s h))
+returns-4 c = ended (c .before .before) none (told-malformed _ _ (c .before .before .entry-at .ensures) (c .enum-told2 .given .1))
 
 pub find-spec : {M : Type 1} → statement M
 find-spec =

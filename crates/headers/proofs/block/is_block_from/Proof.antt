@@ -1,11 +1,14 @@
 -- is_block_from meets its contract: what is left from place at on is a block exactly if what is left from i on is.
 use borrow.Author.Needs.{needs}
 use mathlib.Core.Path.{_≡_, sym, _∙_}
-use Prim.Native.Nat.{_-_}
+use mathlib.Core.Option.{Option, none, some}
+use mathlib.Core.List.{List, []}
+use Prim.Native.Nat.{ℕ, _-_}
 use native.Mathlib.Omega.{arith}
 use lib.ListN.{length, drop}
-use Rattle.headers.specs.Answers.{is-block}
-use Rattle.headers.proofs.Blocks.{Placed, told-entry, told-end, told-malformed, is-block-next, is-block-nil, is-block-none}
+use Rattle.headers.specs.Block.{Entry, entries}
+use Rattle.headers.specs.Answers.{has-entries, is-block}
+use Rattle.headers.proofs.Blocks.{Placed, told-entry, told-end, told-malformed, is-block-of, is-block-next}
 use Rattle.headers.proofs.block.is_block_from.Statement.{statement}
 use Rattle.headers.proofs.block.is_block_from.Tie as tie
 
@@ -20,6 +23,13 @@ here : (c : tie.After-l Inv-loop μ-loop) → Placed (c .before .before .before 
 here c =
     let e = c .before .before in
     told-entry (e .before .before .before .args .block .now) (e .before .loop .i) (e .entry-at .result) (c .l .given .0 .0) (e .entry-at .ensures) (c .l .given .1)
+
+-- what is left at i, and the answer where it says by itself whether it is a block
+abbrev left : tie.After-entry-at Inv-loop μ-loop → List ℕ
+left c = drop (c .before .loop .i) (c .before .before .before .args .block .now)
+
+decided : (c : tie.After-entry-at Inv-loop μ-loop) (o : Option (List Entry)) → entries (left c) ≡ o → has-entries o ≡ is-block (drop (c .before .before .before .args .at) (c .before .before .before .args .block .now))
+decided c o h = sym (c .before .loop .inv ∙ is-block-of (left c) o h)
 
 loop-holds : tie.Need-loop-holds Inv-loop μ-loop
 loop-holds c = search needs
@@ -52,20 +62,13 @@ enum-told : tie.Need-enum-told Inv-loop μ-loop
 enum-told c = search needs
 
 returns : tie.Need-returns Inv-loop μ-loop
-returns c =
-    let e = c .before .before in
-    let xs = drop (e .before .loop .i) (e .before .before .before .args .block .now) in
-    sym (e .before .loop .inv ∙ is-block-nil xs (told-end xs (e .entry-at .result) (e .entry-at .ensures) (c .enum-told .given .1)))
+returns c = decided (c .before .before) (some []) (told-end _ _ (c .before .before .entry-at .ensures) (c .enum-told .given .1))
 
 enum-told-2 : tie.Need-enum-told-2 Inv-loop μ-loop
 enum-told-2 c = search needs
 
 returns-2 : tie.Need-returns-2 Inv-loop μ-loop
-returns-2 c =
-    let e = c .before .before in
-    let xs = drop (e .before .loop .i) (e .before .before .before .args .block .now) in
-    let (s, h) = told-malformed xs (e .entry-at .result) (e .entry-at .ensures) (c .enum-told2 .given .1) in
-    sym (e .before .loop .inv ∙ is-block-none xs s h)
+returns-2 c = decided (c .before .before) none (told-malformed _ _ (c .before .before .entry-at .ensures) (c .enum-told2 .given .1))
 
 pub is-block-from-spec : {M : Type 1} → statement M
 is-block-from-spec =

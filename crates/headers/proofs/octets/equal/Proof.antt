@@ -10,8 +10,7 @@ use lib.Dec.{eqb}
 use lib.ListN.{length, drop, getD, drop-of-length-le}
 use lib.Seq.{drop-cons}
 use Rattle.headers.specs.Rows.{same}
-use Rattle.headers.proofs.Rows.{same-eq}
-use Rattle.headers.proofs.Blocks.{refuted}
+use Rattle.headers.proofs.Rows.{refuted, same-eq}
 use Rattle.headers.proofs.octets.equal.Statement.{statement}
 use Rattle.headers.proofs.octets.equal.Tie as tie
 
