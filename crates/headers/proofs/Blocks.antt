@@ -13,7 +13,7 @@ use mathlib.Core.Logic.{_≢_}
 use mathlib.Core.Bool.{Bool, true, false, cond, _&&_}
 use mathlib.Core.Option.{Option, none, some}
 use mathlib.Core.List.{List, [], _∷_, _++_, append-assoc}
-use Prim.Native.Nat.{ℕ, zero, suc, _+_, _*_, _/_, _%_, _≤_, _<_}
+use Prim.Native.Nat.{ℕ, zero, suc, _+_, _*_, _≤_, _<_}
 use native.Mathlib.Numerals.{add-one}
 use native.Mathlib.Omega.{arith}
 use lib.ListN.{length, take, drop, getD, length-append, length-drop, drop-of-length-le, take-append-drop, List·getD-append}
@@ -27,6 +27,7 @@ use Rattle.headers.specs.Answers.{Answer, accepted, refused, first-span,
 use Rattle.headers.specs.declared.block.Span.{Span}
 use Rattle.headers.specs.declared.block.Lengths.{Lengths}
 use Rattle.headers.specs.declared.block.EntryAt.{EntryAt}
+use Rattle.headers.proofs.Numerals.{value-octets, octets-value}
 use Rattle.headers.proofs.Rows.{cond-case, and-left, and-right, empty-not, cons-some, same-eq, same-self, begins-rest, every-drop, octet-at}
 
 -- ## What stands at the front
@@ -305,24 +306,15 @@ entries-joined xs ys es fs h k = entries-append xs ys es h ∙ ap (entries-befor
 
 -- ## Exactness: entries against Block
 
--- two octets say what they were written for, and are written from what they say
-two-read : (n : ℕ) → n < 65536 → evaluate 256 0 (n / 256 % 256 ∷ n % 256 ∷ []) ≡ n
-unfolding evaluate
-two-read n h = omega arith
-
-two-written : (x y : ℕ) → x < 256 → y < 256 → two-octets (evaluate 256 0 (x ∷ y ∷ [])) ≡ x ∷ y ∷ []
-unfolding evaluate numeral
-two-written x y hx hy = ap₂ (λ a b. a ∷ b ∷ []) (omega arith) (omega arith)
-
 -- a record is read back
 module _ (e : Entry) (s : Short e) where
   name-read : name-length (entry-record e) ≡ length (e .name)
   unfolding numeral
-  name-read = two-read (length (e .name)) (s .name-fits)
+  name-read = value-octets (length (e .name)) (s .name-fits)
 
   value-read : value-length (entry-record e) ≡ length (e .value)
   unfolding numeral
-  value-read = two-read (length (e .value)) (s .value-fits)
+  value-read = value-octets (length (e .value)) (s .value-fits)
 
   record-whole : Whole (entry-record e)
   unfolding numeral
@@ -364,7 +356,7 @@ pair-at xs i h =
 -- a whole record of octets is the record of the entry read there
 module _ (xs : List ℕ) (o : every is-octet xs ≡ true) (w : Whole xs) where
   two-again : (i : ℕ) → two-octets (two-at xs i) ≡ getD xs i 0 ∷ (getD xs (i + 1) 0 ∷ [])
-  two-again i = two-written (getD xs i 0) (getD xs (i + 1) 0) (octet-at xs i o) (octet-at xs (i + 1) o)
+  two-again i = octets-value (getD xs i 0) (getD xs (i + 1) 0) (octet-at xs i o) (octet-at xs (i + 1) o)
 
   two-small : (i : ℕ) → two-at xs i < 65536
   unfolding evaluate

@@ -1,12 +1,12 @@
 -- What a slice holds when a callee has written R at the front of the part from a on.
-use Prim.Native.Nat.{ℕ, suc, _+_, _-_, _*_, _≤_, _<_}
+use Prim.Native.Nat.{ℕ, suc, _+_, _-_, _≤_, _<_}
 use mathlib.Core.List.{List, [], _∷_, _++_, append-assoc, append-nil}
-use mathlib.Core.Path.{_≡_, refl, ap, sym, _∙_, subst}
+use mathlib.Core.Path.{_≡_, ap, sym, _∙_}
 use lib.ListN.{length, take, drop, set, getD, drop-of-length-le, take-append-drop, length-append, length-take, length-drop, length-set}
 use lib.Seq.{take-suc-set, drop-set-lt, drop-cons, set-at, append-snoc, take-suc, take-all, drop-drop, take-at, drop-at, length-take-le}
 use native.Mathlib.Numerals.{add-one}
 use native.Mathlib.Omega.{arith}
-use borrow.Rule.Slice.PartMut.{putMid, midOf, postOf}
+use borrow.Rule.Slice.PartMut.{putMid, midOf}
 
 module _ (a n : ℕ) (xs ys R : List ℕ) (long : length R ≡ n) (fits : a + n ≤ length xs) (is : ys ≡ R ++ drop n (midOf a (length xs - a) xs)) where
   pub put-whole : putMid a (length xs - a) xs ys ≡ take a xs ++ (R ++ drop (a + n) xs)
@@ -50,6 +50,13 @@ put-done a d d₀ todo whole w e k =
     sym (take-append-drop a d) ∙ ap (λ z. take a d ++ z) k
     ∙ ap (λ z. z ++ drop a d₀) (sym (append-nil (take a d)) ∙ ap (λ z. take a d ++ z) (sym e) ∙ w)
 
+-- the same with how much was written
+pub put-whole-done : (a : ℕ) (d d₀ todo whole : List ℕ) → take a d ++ todo ≡ whole → a + length todo ≡ length whole → todo ≡ [] → drop a d ≡ drop a d₀
+    → (a ≡ length whole) × (d ≡ whole ++ drop (length whole) d₀)
+put-whole-done a d d₀ todo whole w l e k =
+    let all : a ≡ length whole = omega (arith, ap length e) in
+    (all, put-done a d d₀ todo whole w e k ∙ ap (λ z. whole ++ drop z d₀) all)
+
 -- a list that begins with P and goes on as d, after a callee has written R behind P
 pub put-grow : (d l P R ys : List ℕ) (a n : ℕ) → l ≡ P ++ drop a d → length P ≡ a → length R ≡ n → a + n ≤ length d
     → ys ≡ R ++ drop n (midOf a (length l - a) l) → putMid a (length l - a) l ys ≡ (P ++ R) ++ drop (a + n) d
@@ -78,25 +85,27 @@ store-grow d l P a v e lp fits =
     ∙ ap (λ z. P ++ (v ∷ drop z d)) (sym (add-one a))
     ∙ sym (append-assoc P (v ∷ []) (drop (a + 1) d))
 
--- N written by a callee, x stored behind it, W written by a callee behind that, y stored behind all: a line with its two marks
+-- N written by a callee, x stored behind it, W written by a callee behind that
 module _ (d l ys N W : List ℕ) (n v x : ℕ) (nl : n ≡ length N) (wl : v ≡ length W) (fits : n + 1 + v < length d)
     (first : l ≡ N ++ drop (length N) d) (second : ys ≡ W ++ drop (length W) (midOf (n + 1) (length (set l n x) - (n + 1)) (set l n x))) where
-  pub put-pair : putMid (n + 1) (length (set l n x) - (n + 1)) (set l n x) ys ≡ ((N ++ (x ∷ [])) ++ W) ++ drop (n + 1 + v) d
-  put-pair =
+  pair : putMid (n + 1) (length (set l n x) - (n + 1)) (set l n x) ys ≡ ((N ++ (x ∷ [])) ++ W) ++ drop (n + 1 + v) d
+  pair =
       put-grow d (set l n x) (N ++ (x ∷ [])) W ys (n + 1) v
       (store-grow d l N n x (first ∙ ap (λ z. N ++ drop z d) (sym nl)) (sym nl) (omega arith))
       (simp length-append (omega arith)) (sym wl) (omega arith)
       (second ∙ ap (λ z. W ++ drop z (midOf (n + 1) (length (set l n x) - (n + 1)) (set l n x))) (sym wl))
 
-  pub put-pair-long : length (putMid (n + 1) (length (set l n x) - (n + 1)) (set l n x) ys) ≡ length d
-  put-pair-long = ap length put-pair ∙ simp (length-append, length-drop) (omega arith)
+  pair-long : length (putMid (n + 1) (length (set l n x) - (n + 1)) (set l n x) ys) ≡ length d
+  pair-long = ap length pair ∙ simp (length-append, length-drop) (omega arith)
 
-  pub put-marks-long : (y : ℕ) → length (set (putMid (n + 1) (length (set l n x) - (n + 1)) (set l n x) ys) (n + 1 + v) y) ≡ length d
-  put-marks-long y = length-set (putMid (n + 1) (length (set l n x) - (n + 1)) (set l n x) ys) (n + 1 + v) y ∙ put-pair-long
-
-  pub put-marks : (y k : ℕ) → k ≡ n + 1 + v + 1 → set (putMid (n + 1) (length (set l n x) - (n + 1)) (set l n x) ys) (n + 1 + v) y ≡ (N ++ (x ∷ (W ++ (y ∷ [])))) ++ drop k d
-  put-marks y k e =
+  marked : (y k : ℕ) → k ≡ n + 1 + v + 1 → set (putMid (n + 1) (length (set l n x) - (n + 1)) (set l n x) ys) (n + 1 + v) y ≡ (N ++ (x ∷ (W ++ (y ∷ [])))) ++ drop k d
+  marked y k e =
       let bracketed : ((N ++ (x ∷ [])) ++ W) ++ (y ∷ []) ≡ N ++ (x ∷ (W ++ (y ∷ []))) = simp append-assoc in
-      store-grow d _ ((N ++ (x ∷ [])) ++ W) (n + 1 + v) y put-pair (simp length-append (omega arith)) fits
+      store-grow d _ ((N ++ (x ∷ [])) ++ W) (n + 1 + v) y pair (simp length-append (omega arith)) fits
       ∙ ap (λ z. z ++ drop (n + 1 + v + 1) d) bracketed
       ∙ ap (λ z. (N ++ (x ∷ (W ++ (y ∷ [])))) ++ drop z d) (sym e)
+
+  -- that list, l₂, and y stored behind it: all of it in its place, and no longer than before
+  pub put-marks : (l₂ : List ℕ) (y k : ℕ) → l₂ ≡ putMid (n + 1) (length (set l n x) - (n + 1)) (set l n x) ys → k ≡ n + 1 + v + 1
+      → (length l₂ ≡ length d) × (length (set l₂ (n + 1 + v) y) ≡ length d) × (set l₂ (n + 1 + v) y ≡ (N ++ (x ∷ (W ++ (y ∷ [])))) ++ drop k d)
+  put-marks l₂ y k e q = rw e (pair-long, length-set (putMid (n + 1) (length (set l n x) - (n + 1)) (set l n x) ys) (n + 1 + v) y ∙ pair-long, marked y k q)

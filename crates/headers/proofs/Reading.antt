@@ -4,18 +4,18 @@
 --     text-feeds                       text is read to its end, and what is owed is always still to come
 --     raw-feeds                        so is what has been read, up to the character at hand
 --     digits-text, reads-on            digits are text; what begins a character is no stop
-use mathlib.Core.Path.{_≡_, refl, sym, _∙_, ap}
-use mathlib.Core.Bool.{Bool, true, false, cond, _&&_, _||_, not}
+use mathlib.Core.Path.{_≡_, refl, sym, ap}
+use mathlib.Core.Bool.{Bool, true, false, cond, _&&_, not}
 use mathlib.Core.List.{List, [], _∷_, _++_, append-assoc, append-nil}
-use Prim.Native.Nat.{ℕ, zero, suc, _+_, _≤_, _<_}
+use Prim.Native.Nat.{ℕ, suc, _+_, _≤_, _<_}
 use native.Mathlib.Omega.{arith}
 use native.Mathlib.Numerals.{add-one}
 use lib.ListN.{length, length-append, getD, drop, drop-of-length-le}
 use lib.Seq.{drop-cons}
 use lib.Dec.{eqb, leb}
 use borrow.Author.Tests.{eqb-true, ne-eqb, leb-true, not-true, not-false}
-use Rattle.headers.specs.Rows.{every, is-octet, any}
-use Rattle.headers.specs.Text.{stops, escape-table, is-letter, opens, plain, Character, itself, escape, Text, none, more, Part, fresh, back, owes, Raw, Fault, of-escape, fault, owing, Into, into, bad, stop, reads, then-reads, is-text-from, is-text}
+use Rattle.headers.specs.Rows.{every, is-octet}
+use Rattle.headers.specs.Text.{stops, escape-table, is-letter, opens, plain, Character, itself, escape, Text, none, more, Part, fresh, back, owes, Raw, of-escape, fault, owing, Into, into, bad, stop, reads, then-reads, is-text-from, is-text}
 use Rattle.headers.specs.Numbers.{is-digit}
 use Rattle.headers.specs.declared.text.Style.{Style}
 use Rattle.headers.specs.declared.text.Field.{Field}

@@ -1,5 +1,5 @@
 -- Laws of choices by a test, and of rows. Assumes nothing.
-use mathlib.Core.Path.{_≡_, refl, sym, _∙_, ap, ap₂}
+use mathlib.Core.Path.{_≡_, refl, sym, ap₂}
 use mathlib.Core.Logic.{_≢_}
 use mathlib.Core.Bool.{Bool, true, false, cond, _&&_, _||_, not}
 use mathlib.Core.List.{List, [], _∷_, _++_}
@@ -157,7 +157,3 @@ cond-same x y = cond-case (λ z. z ≡ x) (eqb x y) (λ h. sym (eqb-true x y h))
 pub empty-zero : {A : Type 0} (xs : List A) → length xs ≡ 0 → empty xs ≡ true
 empty-zero [] h = refl
 empty-zero (x ∷ xs) h = absurd (omega arith)
-
-pub empty-some : {A : Type 0} (xs : List A) → (length xs ≡ 0 → ⊥) → empty xs ≡ false
-empty-some [] h = absurd (h refl)
-empty-some (x ∷ xs) h = refl

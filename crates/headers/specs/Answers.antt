@@ -1,9 +1,9 @@
 -- What each call answers: document 01's numbers, their order, and the values of an accepted answer, said without the code's types;
 -- and for each answer enum of the code its number and values, case by case. Assumes nothing.
-use mathlib.Core.Bool.{Bool, true, false, cond, _&&_, not}
+use mathlib.Core.Bool.{Bool, true, false, cond, not}
 use mathlib.Core.Option.{Option, none, some}
 use mathlib.Core.List.{List, [], _∷_, _++_}
-use Prim.Native.Nat.{ℕ, _+_}
+use Prim.Native.Nat.{ℕ}
 use lib.ListN.{length, drop}
 use lib.Dec.{ltb}
 use Rattle.headers.specs.Rows.{empty}

@@ -1,10 +1,11 @@
 -- `line::line_length` meets its contract: each refusal says why the entry cannot be written.
 use borrow.Author.Needs.{needs}
-use mathlib.Core.Path.{sym, _∙_}
+use mathlib.Core.Path.{sym, ap, _∙_}
+use lib.ListN.{length}
 use native.Mathlib.Omega.{arith}
 use borrow.Author.Tests.{not-true, not-false}
 use Rattle.headers.specs.Lines.{entry-of}
-use Rattle.headers.proofs.Rows.{empty-zero, empty-some}
+use Rattle.headers.proofs.Rows.{empty-zero, empty-not}
 use Rattle.headers.proofs.Settling.{raw-long, no-name, no-name-octet, no-value-octet, no-room, can, length-no, length-yes}
 use Rattle.headers.proofs.line.line_length.Statement.{statement}
 use Rattle.headers.proofs.line.line_length.Tie as tie
@@ -62,7 +63,7 @@ returns-6 c = let a = c .before .before .before .before .before .before .before 
     let v = c .before .encoded-length2 .ensures in
     let long = raw-long (a .style) e in
     let ok =
-    can (a .style) e (empty-some (a .name .now) (c .before .before .before .before .before .before .before .before .if1 .left))
+    can (a .style) e (empty-not (a .name .now) (λ q. c .before .before .before .before .before .before .before .before .if1 .left (ap length q)))
     (sym (c .before .before .before .before .before .before .before .is-writable .ensures) ∙ not-false _ (c .before .before .before .before .before .before .if2 .left))
     (sym (c .before .before .before .before .before .is-writable2 .ensures) ∙ not-false _ (c .before .before .before .before .if3 .left))
     (omega (arith, long, n, v, c .if5 .left, c .before .before .if4 .left)) in

@@ -1,17 +1,14 @@
 -- `line::put_line` meets its contract: the name, the colon, the value and the line end, each behind what is written.
 use borrow.Author.Needs.{needs}
-use mathlib.Core.Path.{_≡_}
+use mathlib.Core.Path.{_≡_, refl}
+use mathlib.Core.List.{_++_}
+use Prim.Native.Nat.{_+_, _-_, _<_}
+use borrow.Rule.Slice.PartMut.{putMid}
 use native.Mathlib.Omega.{arith}
-use lib.ListN.{length, length-set, length-take, length-drop}
+use lib.ListN.{length, set, drop, length-set, length-take, length-drop}
 use Rattle.headers.specs.Escapes.{encode}
 use Rattle.headers.specs.Lines.{entry-of, written-line}
-use Rattle.headers.proofs.Put.{put-pair-long, put-marks-long, put-marks}
-use Rattle.headers.proofs.Settling.{line-long}
-use Rattle.headers.proofs.Put.{put-pair-long, put-marks-long, put-marks}
-use Rattle.headers.proofs.Settling.{line-long}
-use Rattle.headers.proofs.Put.{put-pair-long, put-marks}
-use Rattle.headers.proofs.Settling.{line-long}
-use Rattle.headers.proofs.Put.{store-grow, put-grow}
+use Rattle.headers.proofs.Put.{put-marks}
 use Rattle.headers.proofs.Settling.{line-long}
 use Rattle.headers.proofs.line.put_line.Statement.{statement}
 use Rattle.headers.proofs.line.put_line.Tie as tie
@@ -66,36 +63,40 @@ add-d c = let a = c .before .before .before .before .before .before .before .bef
     let pre = c .before .before .before .before .before .before .before .before .before .before .before .pre in
     omega (arith, long, pre, c .before .before .before .before .before .before .put-encoded .ensures .0, c .before .before .put-encoded2 .ensures .0)
 
-slice-write-d-2 : tie.Need-slice-write-d-2
-slice-write-d-2 c = let a = c .before .before .before .before .before .before .before .before .before .before .before .args in
+abbrev Placed : tie.After-slice-known3 → Type 0
+Placed c =
+    let a = c .before .before .before .before .before .before .before .before .before .before .before .args in
+    let p = c .before .before .before .before .before .before .put-encoded in
+    let q = c .before .before .put-encoded2 in
+    let e = entry-of (a .name .now) (a .value .now) in
+    let end = p .result + 1 + q .result in
+    let l = putMid (p .result + 1) (length (set (p .last .0) (p .result) 58) - (p .result + 1)) (set (p .last .0) (p .result) 58) (q .last .0) in
+    (end < length (a .d .now))
+    × ((length l ≡ length (a .d .now)) × (length (set l end 10) ≡ length (a .d .now)) × (set l end 10 ≡ written-line (a .style) e ++ drop (length (written-line (a .style) e)) (a .d .now)))
+
+-- the line in its place
+placed : (c : tie.After-slice-known3) → Placed c
+placed c =
+    let a = c .before .before .before .before .before .before .before .before .before .before .before .args in
     let long = line-long (a .style) (entry-of (a .name .now) (a .value .now)) in
     let pre = c .before .before .before .before .before .before .before .before .before .before .before .pre in
     let p = c .before .before .before .before .before .before .put-encoded in
     let q = c .before .before .put-encoded2 in
-    let N = encode (a .style) (a .name .now) in
-    let W = encode (a .style) (a .value .now) in
-    let whole = (put-pair-long (a .d .now) (p .last .0) (q .last .0) N W (p .result) (q .result) 58 (p .ensures .0) (q .ensures .0) (omega (arith, long, pre, p .ensures .0, q .ensures .0)) (p .ensures .1) (q .ensures .1)) in
-    omega (arith, long, pre, p .ensures .0, q .ensures .0, whole)
+    let fits : p .result + 1 + q .result < length (a .d .now) = omega (arith, long, pre, p .ensures .0, q .ensures .0) in (
+      fits,
+      put-marks (a .d .now) (p .last .0) (q .last .0) (encode (a .style) (a .name .now)) (encode (a .style) (a .value .now))
+          (p .result) (q .result) 58 (p .ensures .0) (q .ensures .0) fits (p .ensures .1) (q .ensures .1)
+          _ 10 (length (written-line (a .style) (entry-of (a .name .now) (a .value .now)))) refl (omega (arith, long, p .ensures .0, q .ensures .0)),
+    )
+
+slice-write-d-2 : tie.Need-slice-write-d-2
+slice-write-d-2 c = omega (arith, placed c .0, placed c .1 .0)
 
 same-length : tie.Need-same-length
-same-length c = let a = c .before .before .before .before .before .before .before .before .before .before .before .args in
-    let long = line-long (a .style) (entry-of (a .name .now) (a .value .now)) in
-    let pre = c .before .before .before .before .before .before .before .before .before .before .before .pre in
-    let p = c .before .before .before .before .before .before .put-encoded in
-    let q = c .before .before .put-encoded2 in
-    let N = encode (a .style) (a .name .now) in
-    let W = encode (a .style) (a .value .now) in
-    (put-marks-long (a .d .now) (p .last .0) (q .last .0) N W (p .result) (q .result) 58 (p .ensures .0) (q .ensures .0) (omega (arith, long, pre, p .ensures .0, q .ensures .0)) (p .ensures .1) (q .ensures .1) 10)
+same-length c = placed c .1 .1
 
 returns : tie.Need-returns
-returns c = let a = c .before .before .before .before .before .before .before .before .before .before .before .args in
-    let long = line-long (a .style) (entry-of (a .name .now) (a .value .now)) in
-    let pre = c .before .before .before .before .before .before .before .before .before .before .before .pre in
-    let p = c .before .before .before .before .before .before .put-encoded in
-    let q = c .before .before .put-encoded2 in
-    let N = encode (a .style) (a .name .now) in
-    let W = encode (a .style) (a .value .now) in
-    (put-marks (a .d .now) (p .last .0) (q .last .0) N W (p .result) (q .result) 58 (p .ensures .0) (q .ensures .0) (omega (arith, long, pre, p .ensures .0, q .ensures .0)) (p .ensures .1) (q .ensures .1) 10 (length (written-line (a .style) (entry-of (a .name .now) (a .value .now)))) (omega (arith, long, p .ensures .0, q .ensures .0)))
+returns c = placed c .1 .2
 
 pub put-line-spec : {M : Type 1} → statement M
 put-line-spec =

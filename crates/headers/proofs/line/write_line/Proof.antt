@@ -6,8 +6,6 @@ use lib.ListN.{length}
 use Rattle.headers.specs.Lines.{entry-of, written-line}
 use Rattle.headers.specs.Answers.{line-answer, length-says}
 use Rattle.headers.proofs.Settling.{refusal, acceptance, length-refused, length-accepted, written-long, line-no, line-short, line-yes}
-use Rattle.headers.proofs.Settling.{refusal, acceptance, length-refused, length-accepted, written-long, line-no, line-short, line-yes}
-use Rattle.headers.proofs.Settling.{refusal, acceptance, line-no, line-short, line-yes}
 use Rattle.headers.proofs.line.write_line.Statement.{statement}
 use Rattle.headers.proofs.line.write_line.Tie as tie
 

@@ -1,14 +1,12 @@
 -- `record::put_record` meets its contract: the head, the name and the value, each behind what is written.
 use borrow.Author.Needs.{needs}
-use mathlib.Core.Path.{_≡_, refl, sym, ap, ap₂, _∙_}
+use mathlib.Core.Path.{refl, sym, ap, ap₂, _∙_}
 use mathlib.Core.List.{_++_, append-assoc}
 use Prim.Native.Nat.{_+_}
 use native.Mathlib.Omega.{arith}
 use lib.ListN.{length, drop, length-append}
 use Rattle.headers.specs.Escapes.{decode}
 use Rattle.headers.specs.Block.{record-head}
-use Rattle.headers.proofs.Blocks.{head-long}
-use Rattle.headers.proofs.Put.{put-grow}
 use Rattle.headers.proofs.Blocks.{head-long}
 use Rattle.headers.proofs.Put.{put-grow}
 use Rattle.headers.proofs.record.put_record.Statement.{statement}

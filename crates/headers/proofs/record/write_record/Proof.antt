@@ -1,6 +1,6 @@
 -- `record::write_record` meets its contract: each refusal is the first check that fails.
 use borrow.Author.Needs.{needs}
-use mathlib.Core.Path.{_≡_, refl, sym, ap, _∙_}
+use mathlib.Core.Path.{_≡_, sym, ap, _∙_}
 use native.Mathlib.Omega.{arith}
 use mathlib.Core.List.{_++_}
 use Prim.Native.Nat.{_+_}
@@ -8,7 +8,6 @@ use lib.ListN.{length, drop}
 use borrow.Author.Tests.{not-true, not-false}
 use Rattle.headers.specs.Answers.{written-record, record-answer}
 use Rattle.headers.proofs.Settling.{refusal, acceptance, both-text, no-text-name, no-text-value, record-long, record-no, record-short, record-over, record-yes}
-use Rattle.headers.proofs.Settling.{refusal, acceptance, both-text, no-text-name, no-text-value, record-no, record-short, record-over, record-yes}
 use Rattle.headers.proofs.record.write_record.Statement.{statement}
 use Rattle.headers.proofs.record.write_record.Tie as tie
 

@@ -1,9 +1,8 @@
 -- `text::decoded_at` meets its contract.
 use borrow.Author.Needs.{needs}
-use mathlib.Core.Path.{sym, ap, _∙_}
+use mathlib.Core.Path.{sym, _∙_}
 use native.Mathlib.Nat.{add-zero}
 use lib.Seq.{getD-drop}
-use Rattle.headers.proofs.Coding.{escape-room}
 use Rattle.headers.proofs.Coding.{escape-room}
 use Rattle.headers.proofs.text.decoded_at.Statement.{statement}
 use Rattle.headers.proofs.text.decoded_at.Tie as tie

@@ -6,8 +6,6 @@ use native.Mathlib.Omega.{arith}
 use lib.ListN.{length, drop}
 use Rattle.headers.specs.Escapes.{decode}
 use Rattle.headers.proofs.Coding.{decode-step, decode-end, width-fits, width-some}
-use Rattle.headers.proofs.Coding.{decode-step, decode-end, width-fits, width-some}
-use Rattle.headers.proofs.Coding.{decode-step, decode-end, width-fits, width-some}
 use Rattle.headers.proofs.text.decoded_length.Statement.{statement}
 use Rattle.headers.proofs.text.decoded_length.Tie as tie
 

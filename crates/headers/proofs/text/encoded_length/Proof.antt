@@ -6,7 +6,6 @@ use native.Mathlib.Omega.{arith}
 use lib.ListN.{length, drop, getD, length-append}
 use Rattle.headers.specs.Escapes.{encode}
 use Rattle.headers.proofs.Coding.{encode-step, encode-end, encoded-some}
-use Rattle.headers.proofs.Coding.{encode-step, encode-end, encoded-some}
 use Rattle.headers.proofs.text.encoded_length.Statement.{statement}
 use Rattle.headers.proofs.text.encoded_length.Tie as tie
 

@@ -4,12 +4,10 @@ use mathlib.Core.Path.{_≡_, refl, sym, ap, _∙_}
 use mathlib.Core.List.{_++_}
 use Prim.Native.Nat.{_+_, _≤_, _<_, _-_}
 use native.Mathlib.Omega.{arith}
-use lib.ListN.{length, take, drop, getD, length-set, length-append, length-take, length-drop}
+use lib.ListN.{length, take, drop, length-set}
 use Rattle.headers.specs.Escapes.{decode, octet-at}
 use Rattle.headers.proofs.Coding.{decode-step, decode-end, width-fits, width-some}
-use Rattle.headers.proofs.Put.{store-more, store-kept, put-done}
-use Rattle.headers.proofs.Coding.{decode-step, decode-end, width-fits, width-some}
-use Rattle.headers.proofs.Put.{store-more, store-kept, put-done}
+use Rattle.headers.proofs.Put.{store-more, store-kept, put-whole-done}
 use Rattle.headers.proofs.text.put_decoded.Statement.{statement}
 use Rattle.headers.proofs.text.put_decoded.Tie as tie
 
@@ -68,11 +66,10 @@ same-length : tie.Need-same-length Inv-loop μ-loop
 same-length c = search needs
 
 returns : tie.Need-returns Inv-loop μ-loop
-returns c = let l = c .before .loop in
+returns c =
+    let l = c .before .loop in
     let a = c .before .before .before .before .args in
-    let none = decode-end (a .style) (a .raw .now) (l .i) (c .loop-test .left) in
-    let all : l .n ≡ length (decode (a .style) (a .raw .now)) = omega (arith, ap length none, l .inv .2) in
-    (all, put-done (l .n) (l .d) (a .d .now) _ _ (l .inv .3) none (l .inv .4) ∙ ap (λ z. decode (a .style) (a .raw .now) ++ drop z (a .d .now)) all)
+    put-whole-done (l .n) (l .d) (a .d .now) _ _ (l .inv .3) (l .inv .2) (decode-end (a .style) (a .raw .now) (l .i) (c .loop-test .left)) (l .inv .4)
 
 pub put-decoded-spec : {M : Type 1} → statement M
 put-decoded-spec =

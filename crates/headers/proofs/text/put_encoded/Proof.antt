@@ -1,15 +1,13 @@
 -- `text::put_encoded` meets its contract: what is written and what is left to encode make the whole.
 use borrow.Author.Needs.{needs}
-use mathlib.Core.Path.{_≡_, refl, sym, ap, _∙_}
+use mathlib.Core.Path.{_≡_, refl, ap, _∙_}
 use mathlib.Core.List.{_++_}
-use Prim.Native.Nat.{_+_, _≤_, _<_, _-_}
+use Prim.Native.Nat.{_+_, _≤_, _-_}
 use native.Mathlib.Omega.{arith}
-use lib.ListN.{length, take, drop, getD, length-set, length-append, length-take, length-drop}
+use lib.ListN.{length, take, drop, getD, length-append, length-take, length-drop}
 use Rattle.headers.specs.Escapes.{encode, encode-octet}
-use Rattle.headers.proofs.Coding.{encode-step, encode-end, encoded-some}
-use Rattle.headers.proofs.Put.{put-length, put-more, put-kept, put-done}
-use Rattle.headers.proofs.Coding.{encode-step, encode-end, encoded-some}
-use Rattle.headers.proofs.Put.{put-length, put-more, put-kept, put-done}
+use Rattle.headers.proofs.Coding.{encode-step, encode-end}
+use Rattle.headers.proofs.Put.{put-length, put-more, put-kept, put-whole-done}
 use Rattle.headers.proofs.text.put_encoded.Statement.{statement}
 use Rattle.headers.proofs.text.put_encoded.Tie as tie
 
@@ -73,11 +71,10 @@ same-length : tie.Need-same-length Inv-loop μ-loop
 same-length c = search needs
 
 returns : tie.Need-returns Inv-loop μ-loop
-returns c = let l = c .before .loop in
+returns c =
+    let l = c .before .loop in
     let a = c .before .before .before .before .args in
-    let none = encode-end (a .style) (a .text .now) (l .i) (c .loop-test .left) in
-    let all : l .n ≡ length (encode (a .style) (a .text .now)) = omega (arith, ap length none, l .inv .2) in
-    (all, put-done (l .n) (l .d) (a .d .now) _ _ (l .inv .3) none (l .inv .4) ∙ ap (λ z. encode (a .style) (a .text .now) ++ drop z (a .d .now)) all)
+    put-whole-done (l .n) (l .d) (a .d .now) _ _ (l .inv .3) (l .inv .2) (encode-end (a .style) (a .text .now) (l .i) (c .loop-test .left)) (l .inv .4)
 
 pub put-encoded-spec : {M : Type 1} → statement M
 put-encoded-spec =
