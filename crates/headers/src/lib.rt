@@ -5,3 +5,32 @@ pub mod decimal; // decimal numbers
 pub mod block; // the header block
 pub mod record; // one entry record, from raw text
 pub mod line; // one raw header line, from an entry
+
+pub use block::EntryAt;
+pub use block::Found;
+pub use block::Lengths;
+pub use block::Span;
+pub use block::entry_at;
+pub use block::find;
+pub use block::is_valid;
+pub use decimal::DecimalRead;
+pub use decimal::DecimalWritten;
+pub use decimal::decimal_length;
+pub use decimal::read_decimal;
+pub use decimal::write_decimal;
+pub use line::LineLength;
+pub use line::LineWritten;
+pub use line::line_length;
+pub use line::write_line;
+pub use octets::equal;
+pub use record::RecordWritten;
+pub use record::write_record;
+pub use text::Field;
+pub use text::Style;
+pub use text::decoded_length;
+pub use text::encoded_length;
+pub use text::is_letter;
+pub use text::is_open;
+pub use text::is_raw;
+pub use text::is_stop;
+pub use text::is_writable;
