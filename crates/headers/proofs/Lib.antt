@@ -5,3 +5,4 @@ pub mod Numerals
 pub mod Blocks
 pub mod Put
 pub mod Settling
+pub mod Answers
