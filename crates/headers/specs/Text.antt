@@ -12,7 +12,7 @@ use Rattle.headers.specs.declared.text.Field.{Field}
 
 -- "Neither holds a raw 10, 13 or colon, in any command."
 abbrev pub stops : Style → Field → ℕ → Bool
-stops s f x = eqb x 10 || (eqb x 13 || eqb x 58)
+stops s f x = eqb x 10 || eqb x 13 || eqb x 58
 
 -- an escape: the letter after the backslash, and the octet that the two stand for
 pub record Escape : Type 0 where

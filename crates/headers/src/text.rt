@@ -24,7 +24,7 @@ pub enum Field {
 pub fn is_stop(style: Style, field: Field, x: u8) -> bool
     ensures { λ r. ⌜ r ≡ stops style field x ⌝ }
 {
-    (x == 10) | ((x == 13) | (x == 58))
+    (x == 10) | (x == 13) | (x == 58)
 }
 
 // Whether the octet may follow a backslash.
