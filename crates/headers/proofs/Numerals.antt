@@ -394,3 +394,22 @@ module _ (limit a : ℕ) (s : List ℕ) (i : ℕ) where
   pub amount-end : length s ≤ i → a ≤ limit → amount-at limit a s i ≡ some a
   unfolding amount-at evaluate
   amount-end e h = rw (drop-of-length-le s e, le-leb a limit h)
+
+-- ## Decimals that go on
+
+pub decimal-none : (a : ℕ) → decimal a [] ≡ a
+unfolding evaluate
+decimal-none a = refl
+
+pub decimal-snoc : (a : ℕ) (v : List ℕ) (x : ℕ) → decimal a (v ++ (x ∷ [])) ≡ decimal a v * 10 + digit-value x
+unfolding evaluate
+decimal-snoc a [] x = refl
+decimal-snoc a (y ∷ v) x = decimal-snoc (a * 10 + digit-value y) v x
+
+pub decimal-more : (a : ℕ) (v : List ℕ) → a ≤ decimal a v
+decimal-more a v = evaluate-more 10 a (map digit-value v) (omega arith)
+
+pub decimal-left : (a : ℕ) (v w : List ℕ) → decimal a v ≤ decimal a (v ++ w)
+unfolding evaluate
+decimal-left a [] w = decimal-more a w
+decimal-left a (x ∷ v) w = decimal-left (a * 10 + digit-value x) v w
