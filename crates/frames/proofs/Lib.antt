@@ -1,0 +1,13 @@
+pub mod Recognizer
+pub mod Trichotomy
+pub mod Sound
+pub mod Viable
+pub mod Complete
+pub mod Recognizing
+pub mod Refusals
+pub mod Reach
+pub mod Table
+pub mod Exact
+pub mod Lowest
+pub mod Examples
+pub mod Counting

@@ -1,0 +1,9 @@
+pub mod Grammar
+pub mod Replies
+pub mod Open
+pub mod Refusals
+pub mod Exactness
+pub mod Machine
+pub mod Parsing
+pub mod Examples
+pub mod Counting

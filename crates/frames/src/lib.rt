@@ -1,0 +1,1 @@
+// Frames: the grammar of items and what parsing answers.
