@@ -10,4 +10,4 @@ pub mod Table
 pub mod Exact
 pub mod Lowest
 pub mod Examples
-pub mod Counting
+pub mod Scanning

@@ -69,7 +69,7 @@ begins-append : (xs ys : List ℕ) → begins xs (xs ++ ys) ≡ true
 begins-append [] ys = refl
 begins-append (x ∷ xs) ys = rw (eq-eqb x x refl) (begins-append xs ys)
 
-finds : (f : List ℕ → Bool) (c : Command) → f (word c) ≡ true → (e : Command) × (first f all ≡ some e)
+pub finds : (f : List ℕ → Bool) (c : Command) → f (word c) ≡ true → (e : Command) × (first f all ≡ some e)
 finds f c h = by (first f all) refl
   where
     by : (o : Option Command) → first f all ≡ o → (e : Command) × (first f all ≡ some e)

@@ -10,7 +10,7 @@ use lib.ListN.{length}
 use lib.Dec.{eqb, leb, ltb}
 use borrow.Author.Tests.{eqb-true, leb-true, leb-false, ltb-true, ltb-false, le-leb, lt-leb, lt-ltb, le-ltb}
 use Rattle.headers.specs.Rows.{same, every, begins, empty}
-use Rattle.headers.proofs.Rows.{cond-case, and-left, and-right, and-no, empty-not, or-false-left, or-false-right}
+use Rattle.headers.proofs.Rows.{cond-case, and-left, and-no, every-last, empty-not, or-false-left, or-false-right}
 use Rattle.headers.specs.Text.{Part, fresh, owes, Into, into, bad, stop, reads, of-escape, owing}
 use Rattle.headers.specs.declared.text.Field.the-variants.{Name as in-name, Value as in-value}
 use Rattle.headers.specs.Numbers.{is-digit, decimal}
@@ -157,17 +157,13 @@ row-6-on : (w : Bool) (s : Open) → refuses (cond w (refuse 6) (go s)) ≡ numb
 row-6-on true s = refl
 row-6-on false s = refl
 
-every-last : (f : ℕ → Bool) (xs : List ℕ) (x : ℕ) → every f xs ≡ true → every f (xs ++ (x ∷ [])) ≡ f x && true
-every-last f [] x h = refl
-every-last f (y ∷ xs) x h = rw (and-left (f y) (every f xs) h) (every-last f xs x (and-right (f y) (every f xs) h))
-
 spoiled : (w : Bool) (m : ℕ) (raw : List ℕ) (x : ℕ) → ends x ≡ false → (w ≡ true → partial-amount m raw ≡ true) → w && not (partial-amount m (raw ++ (x ∷ []))) ≡ w && spoils m raw x
 spoiled false m raw x e h = refl
 spoiled true m raw x e h =
     rw (every-last is-digit raw x (and-left (every is-digit raw) (leb (decimal 0 raw) m) (h refl)), e)
     (by (is-digit x) (leb (decimal 0 (raw ++ (x ∷ []))) m) (ltb m (decimal 0 (raw ++ (x ∷ [])))) (ltb-leb m (decimal 0 (raw ++ (x ∷ [])))))
   where
-    by : (d a b : Bool) → b ≡ not a → not (d && true && a) ≡ not (d || false) || (false && empty raw) || (d && b)
+    by : (d a b : Bool) → b ≡ not a → not (d && a) ≡ not (d || false) || (false && empty raw) || (d && b)
     by true true b h = sym h
     by true false b h = sym h
     by false a b h = refl

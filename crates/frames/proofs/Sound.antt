@@ -59,7 +59,7 @@ len-snoc : (m : ℕ) (d : Option (List ℕ)) (n v : List ℕ) (e : Bool) → Len
 len-snoc m none n v e h am = cond-case (LengthOk m) (same n content-length) (λ t. am t) (λ t. tt)
 len-snoc m (some u) n v e h am = h
 
-first-some : (f : List ℕ → Bool) (cs : List Command) (c : Command) → first f cs ≡ some c → f (word c) ≡ true
+pub first-some : (f : List ℕ → Bool) (cs : List Command) (c : Command) → first f cs ≡ some c → f (word c) ≡ true
 first-some f [] c h = let z : _≡_ {A = ℕ} 0 1 = cc in absurd (omega arith)
 first-some f (d ∷ cs) c h = by (f (word d)) refl h (first-some f cs c)
   where

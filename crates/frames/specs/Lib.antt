@@ -6,4 +6,4 @@ pub mod Exactness
 pub mod Machine
 pub mod Parsing
 pub mod Examples
-pub mod Counting
+pub mod Scanning

@@ -1,1 +1,2 @@
-// Frames: the grammar of items and what parsing answers.
+// Frames: the grammar of items, and parsing.
+mod scan; // what of an item has been read, in numbers

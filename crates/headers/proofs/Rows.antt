@@ -6,10 +6,10 @@ use mathlib.Core.List.{List, [], _∷_, _++_}
 use Prim.Native.Nat.{ℕ, zero, suc, _+_, _≤_, _<_}
 use native.Mathlib.Numerals.{add-one}
 use native.Mathlib.Omega.{arith}
-use lib.Dec.{eqb}
+use lib.Dec.{eqb, ltb, eqb·suc-zero, leb·suc-suc}
 use lib.ListN.{length, getD, take, drop, replicate, take-append-drop, drop-of-length-le}
-use lib.Seq.{drop-cons}
-use borrow.Author.Tests.{eqb-true, eq-eqb, ltb-true}
+use lib.Seq.{drop-cons, take-at}
+use borrow.Author.Tests.{eqb-true, eq-eqb, ltb-true, lt-ltb}
 use Rattle.headers.specs.Rows.{same, begins, empty, every, any, All, is-octet}
 
 -- what holds of both choices, each with its test
@@ -157,3 +157,37 @@ cond-same x y = cond-case (λ z. z ≡ x) (eqb x y) (λ h. sym (eqb-true x y h))
 pub empty-zero : {A : Type 0} (xs : List A) → length xs ≡ 0 → empty xs ≡ true
 empty-zero [] h = refl
 empty-zero (x ∷ xs) h = absurd (omega arith)
+
+pub and-yes : (a : Bool) → a && true ≡ a
+and-yes true = refl
+and-yes false = refl
+
+-- a test on every element, where only the last is not yet known to pass
+pub every-last : (f : ℕ → Bool) (xs : List ℕ) (x : ℕ) → every f xs ≡ true → every f (xs ++ (x ∷ [])) ≡ f x
+every-last f [] x h = and-yes (f x)
+every-last f (y ∷ xs) x h = rw (and-left (f y) (every f xs) h) (every-last f xs x (and-right (f y) (every f xs) h))
+
+-- a row without elements, as a test of its length
+pub empty-eqb : {A : Type 0} (xs : List A) → empty xs ≡ eqb (length xs) 0
+empty-eqb [] = refl
+empty-eqb (x ∷ xs) = sym (eqb·suc-zero (length xs))
+
+-- a row with one octet more begins another
+pub begins-snoc : (p r : List ℕ) (x : ℕ) → begins (r ++ (x ∷ [])) p ≡ begins r p && (ltb (length r) (length p) && eqb x (getD p (length r) 0))
+begins-snoc [] [] x = refl
+begins-snoc (y ∷ p) [] x = rw (lt-ltb 0 (suc (length p)) (omega arith)) (and-yes (eqb x y))
+begins-snoc [] (z ∷ r) x = refl
+begins-snoc (y ∷ p) (z ∷ r) x = by (eqb z y) (begins-snoc p r x)
+  where
+    by : (t : Bool) → begins (r ++ (x ∷ [])) p ≡ begins r p && (ltb (length r) (length p) && eqb x (getD p (length r) 0))
+        → t && begins (r ++ (x ∷ [])) p ≡ (t && begins r p) && (ltb (suc (length r)) (suc (length p)) && eqb x (getD p (length r) 0))
+    by true ih = rw leb·suc-suc ih
+    by false ih = refl
+
+pub begins-front : (xs w : List ℕ) → begins xs (xs ++ w) ≡ true
+begins-front [] w = refl
+begins-front (x ∷ xs) w = rw (eq-eqb x x refl) (begins-front xs w)
+
+-- a row that begins another is its front
+pub front-of : (xs ys : List ℕ) → begins xs ys ≡ true → take (length xs) ys ≡ xs
+front-of xs ys h = let (w, e) = begins-rest xs ys h in rw e (take-at xs w (length xs) refl)

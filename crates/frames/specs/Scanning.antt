@@ -1,0 +1,199 @@
+-- Parsing in numbers: the machine that the code runs. One record of numbers, a step for each octet, ends that stay. It gives the
+-- same replies as Parsing (proofs/Scanning.antt). Assumes nothing.
+use mathlib.Core.Bool.{Bool, true, false, cond, _&&_, _||_, not}
+use mathlib.Core.Option.{Option, none, some}
+use mathlib.Core.List.{List, [], _∷_, _++_, map}
+use Prim.Native.Nat.{ℕ, _+_, _-_, _*_}
+use lib.ListN.{take, getD}
+use lib.Dec.{eqb, leb, ltb}
+use Rattle.headers.specs.Rows.{same, begins}
+use Rattle.headers.specs.Text.{Part, fresh, back, owes, Into, into, bad, stop, reads}
+use Rattle.headers.specs.Numbers.{is-digit, digit-value}
+use Rattle.headers.specs.Lines.{line-max, content-length}
+use Rattle.headers.specs.declared.text.Style.{Style}
+use Rattle.headers.specs.declared.text.Field.the-variants.{Name as in-name, Value as in-value}
+use Rattle.frames.specs.Grammar.{Command, number, word, lines-max, body-max}
+use Rattle.frames.specs.Open.{all}
+use Rattle.frames.specs.Parsing.{first}
+use Rattle.frames.specs.Refusals.{numbered, faulty, no-command, no-10, nameless, second-colon, no-colon, long-line, many-lines, bad-length, past-body}
+use Rattle.frames.specs.Replies.{Reply, Complete, Incomplete, Invalid}
+use Rattle.frames.specs.declared.scan.Scan.{Scan}
+
+-- The phases: where the next octet stands.
+--      0 at the start                      1 after the 13 of a heart-beat
+--      2 in a command                      3 after the 13 of its line end
+--      4 where a line or the empty line begins
+--      5 in a name                         6 after a backslash in it
+--      7 in a value                        8 after a backslash in it
+--      9 in the first content-length      10 after the 13 of a line's end     11 after the 13 of the empty line
+--     12 in a body without a length       13 in a body with one
+--     14 a heart-beat is read             15 a frame is read                  16 refused
+
+-- what a command's number makes of header text, and its longest body
+abbrev pub style-of : ℕ → Style
+style-of c = record { escapes = not (eqb c 5 || eqb c 6) }
+
+abbrev pub most-of : ℕ → ℕ
+most-of c = cond (eqb c 8 || eqb c 9 || eqb c 12) body-max 0
+
+-- the word of a command's number; nothing for 0
+abbrev pub word-of : ℕ → List ℕ
+word-of c = getD ([] ∷ map word all) c []
+
+abbrev pub number-of : Option Command → ℕ
+number-of none = 0
+number-of (some c) = number c
+
+-- the first command that begins with the first k octets of c's word and x, and the command that those k octets are; 0 for none
+unfoldable pub next-command : ℕ → ℕ → ℕ → ℕ
+next-command c k x = number-of (first (begins (take k (word-of c) ++ (x ∷ []))) all)
+
+unfoldable pub whole-command : ℕ → ℕ → ℕ
+whole-command c k = number-of (first (same (take k (word-of c))) all)
+
+-- one octet more of a name against content-length
+abbrev pub advance : ℕ → ℕ → ℕ
+advance m x = cond (ltb m 14 && eqb x (getD content-length m 0)) (m + 1) 15
+
+-- the phase of a name, and of a value, by the character at hand
+abbrev pub name-phase : Part → ℕ
+name-phase fresh = 5
+name-phase back = 6
+
+abbrev pub value-phase : Part → ℕ
+value-phase fresh = 7
+value-phase back = 8
+
+-- Where an octet leads. It is read, and the next stands at a phase; or it is refused.
+module _ (st : Scan) where
+  abbrev pub to-phase : ℕ → ℕ → Scan
+  to-phase p c = record { phase = p; command = c; lines = 0; matched = 0; sized = false; size = 0; len = 0; at = st .at + 1; code = 0 }
+
+  -- in a head that has so many lines and that length
+  abbrev pub in-head : ℕ → ℕ → Bool → ℕ → Scan
+  in-head p n z s = record { phase = p; command = st .command; lines = n; matched = 0; sized = z; size = s; len = 0; at = st .at + 1; code = 0 }
+
+  -- in a line of that head, or in a body
+  abbrev pub in-line : ℕ → ℕ → ℕ → ℕ → Scan
+  in-line p m s n = record { phase = p; command = st .command; lines = st .lines; matched = m; sized = st .sized; size = s; len = n; at = st .at + 1; code = 0 }
+
+  abbrev pub beat-read : Scan
+  beat-read = to-phase 14 0
+
+  abbrev pub frame-read : Scan
+  frame-read = record { phase = 15; command = st .command; lines = st .lines; matched = 0; sized = false; size = 0; len = st .len; at = st .at + 1; code = 0 }
+
+  abbrev pub invalid : ℕ → Scan
+  invalid k = record { phase = 16; command = 0; lines = 0; matched = 0; sized = false; size = 0; len = 0; at = st .at; code = k }
+
+  -- the empty line is read
+  abbrev pub body-begins : Scan
+  body-begins = in-head (cond (st .sized) 13 12) (st .lines) (st .sized) (st .size)
+
+  abbrev pub on-10 : Scan → ℕ → Scan
+  on-10 next x = cond (eqb x 10) next (invalid (numbered no-10))
+
+  unfoldable pub on-word : ℕ → Scan
+  on-word x =
+      let c = next-command (st .command) (st .at) x in
+      let w = whole-command (st .command) (st .at) in
+      cond (eqb c 0)
+      (cond (eqb w 0) (invalid (numbered no-command))
+      (cond (eqb x 10) (to-phase 4 w) (cond (eqb x 13) (to-phase 3 w) (invalid (numbered no-command)))))
+      (to-phase 2 c)
+
+  unfoldable pub on-start : ℕ → Scan
+  on-start x = cond (eqb x 10) beat-read (cond (eqb x 13) (to-phase 1 0) (on-word x))
+
+  abbrev pub on-name-by : ℕ → Into → Scan
+  on-name-by x (into p) = cond (leb (st .len + 1 + owes p + 1) line-max) (in-line (name-phase p) (advance (st .matched) x) (st .size) (st .len + 1)) (invalid (numbered long-line))
+  on-name-by x (bad i) = invalid (numbered (faulty i))
+  on-name-by x stop =
+      cond (eqb x 58)
+      (cond (eqb (st .len) 0) (invalid (numbered nameless))
+      (cond (not (st .sized) && eqb (st .matched) 14) (in-line 9 0 0 (st .len + 1)) (in-line 7 0 (st .size) (st .len + 1))))
+      (invalid (numbered no-colon))
+
+  unfoldable pub on-name : Part → ℕ → Scan
+  on-name p x = on-name-by x (reads (style-of (st .command)) in-name p x)
+
+  unfoldable pub on-begin : ℕ → Scan
+  on-begin x =
+      cond (eqb x 10) body-begins
+      (cond (eqb x 13) (in-head 11 (st .lines) (st .sized) (st .size))
+      (cond (eqb x 58) (invalid (numbered nameless))
+      (cond (ltb (st .lines) lines-max) (on-name fresh x) (invalid (numbered many-lines)))))
+
+  -- the line is read: it declares the length, or does not
+  abbrev pub line-read : ℕ → Bool → ℕ → Scan
+  line-read x z s =
+      cond (eqb x 10) (in-head 4 (st .lines + 1) z s)
+      (cond (eqb x 13) (in-head 10 (st .lines + 1) z s) (invalid (numbered second-colon)))
+
+  abbrev pub on-value-by : ℕ → Into → Scan
+  on-value-by x (into p) = cond (leb (st .len + 1 + owes p) line-max) (in-line (value-phase p) 0 (st .size) (st .len + 1)) (invalid (numbered long-line))
+  on-value-by x (bad i) = invalid (numbered (faulty i))
+  on-value-by x stop = cond (eqb x 58) (invalid (numbered second-colon)) (line-read x (st .sized) (st .size))
+
+  unfoldable pub on-value : Part → ℕ → Scan
+  on-value p x = on-value-by x (reads (style-of (st .command)) in-value p x)
+
+  -- one digit more, while the number is not too large
+  abbrev pub grows : ℕ → Bool
+  grows x = is-digit x && leb (st .size * 10 + digit-value x) (most-of (st .command))
+
+  abbrev pub on-length-by : ℕ → Into → Scan
+  on-length-by x (into p) =
+      cond (leb (st .len + 1 + owes p) line-max)
+      (cond (grows x) (in-line 9 0 (st .size * 10 + digit-value x) (st .len + 1)) (invalid (numbered bad-length)))
+      (invalid (numbered long-line))
+  on-length-by x (bad i) = invalid (numbered (faulty i))
+  on-length-by x stop =
+      cond (eqb x 58) (invalid (numbered second-colon))
+      (cond (eqb (st .len) 15) (invalid (numbered bad-length)) (line-read x true (st .size)))
+
+  unfoldable pub on-length : ℕ → Scan
+  on-length x = on-length-by x (reads (style-of (st .command)) in-value fresh x)
+
+  unfoldable pub on-body : ℕ → Scan
+  on-body x =
+      cond (eqb x 0) frame-read
+      (cond (ltb (st .len) (most-of (st .command))) (in-line 12 0 0 (st .len + 1)) (invalid (numbered past-body)))
+
+  unfoldable pub on-counted : ℕ → Scan
+  on-counted x =
+      cond (ltb (st .len) (st .size)) (in-line 13 0 (st .size) (st .len + 1))
+      (cond (eqb x 0) frame-read (invalid (numbered past-body)))
+
+-- One octet, by the phase; the ends stay as they are.
+unfoldable pub scan-step : Scan → ℕ → Scan
+scan-step st x =
+    cond (eqb (st .phase) 7) (on-value st fresh x)
+    (cond (eqb (st .phase) 5) (on-name st fresh x)
+    (cond (eqb (st .phase) 4) (on-begin st x)
+    (cond (eqb (st .phase) 12) (on-body st x)
+    (cond (eqb (st .phase) 13) (on-counted st x)
+    (cond (eqb (st .phase) 2) (on-word st x)
+    (cond (eqb (st .phase) 9) (on-length st x)
+    (cond (eqb (st .phase) 8) (on-value st back x)
+    (cond (eqb (st .phase) 6) (on-name st back x)
+    (cond (eqb (st .phase) 10) (on-10 st (in-head st 4 (st .lines) (st .sized) (st .size)) x)
+    (cond (eqb (st .phase) 11) (on-10 st (body-begins st) x)
+    (cond (eqb (st .phase) 0) (on-start st x)
+    (cond (eqb (st .phase) 3) (on-10 st (to-phase st 4 (st .command)) x)
+    (cond (eqb (st .phase) 1) (on-10 st (beat-read st) x) st)))))))))))))
+
+abbrev pub scan : Scan → List ℕ → Scan
+scan st [] = st
+scan st (x ∷ xs) = scan (scan-step st x) xs
+
+-- before the first octet
+abbrev pub nothing-read : Scan
+nothing-read = record { phase = 0; command = 0; lines = 0; matched = 0; sized = false; size = 0; len = 0; at = 0; code = 0 }
+
+-- what a state replies
+abbrev pub scan-reply : Scan → Reply
+scan-reply st =
+    cond (eqb (st .phase) 14) (Complete 1 (st .at) 0 0 0 0)
+    (cond (eqb (st .phase) 15) (Complete 2 (st .at) (st .command) (st .lines) (st .at - 1 - st .len) (st .len))
+    (cond (eqb (st .phase) 16) (Invalid (st .code) (st .at)) Incomplete))
