@@ -11,3 +11,5 @@ pub mod Exact
 pub mod Lowest
 pub mod Examples
 pub mod Scanning
+pub mod Sizes
+pub mod Packing

@@ -7,3 +7,4 @@ pub mod Machine
 pub mod Parsing
 pub mod Examples
 pub mod Scanning
+pub mod Answers

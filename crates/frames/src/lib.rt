@@ -1,2 +1,3 @@
 // Frames: the grammar of items, and parsing.
 mod scan; // what of an item has been read, in numbers
+pub mod parse; // the reply
