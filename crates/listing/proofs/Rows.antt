@@ -1,0 +1,68 @@
+-- Numbers in a row, and decimals that have room: laws. Assumes nothing.
+use mathlib.Core.Path.{_≡_, refl, sym, _∙_, ap}
+use mathlib.Core.Bool.{Bool, true, false, cond}
+use mathlib.Core.List.{List, [], _∷_, _++_, append-assoc, append-nil}
+use Prim.Native.Nat.{ℕ, suc, _+_, _-_, _^_, _≤_, _<_}
+use native.Mathlib.Omega.{arith}
+use native.Mathlib.Numerals.{add-one}
+use lib.ListN.{length, drop, getD, set, drop-of-length-le, length-drop, length-take, length-append}
+use lib.Seq.{drop-cons}
+use lib.Dec.{ltb}
+use borrow.Author.Tests.{lt-ltb, le-ltb, ltb-true, ltb-false}
+use Rattle.headers.specs.Numbers.{shortest}
+use Rattle.headers.specs.Answers.{accepted, refused, left-in, decimal-answer}
+use borrow.Rule.Slice.PartMut.{midOf, putMid}
+use Rattle.headers.proofs.Put.{store-grow, put-grow}
+use Rattle.headers.proofs.Numerals.{length-shortest, size-least}
+use Rattle.listing.specs.Lines.{numbers, behind-at}
+
+-- a number of 64 bits has at most twenty digits
+pub shortest-twenty : (n : ℕ) → n < 2 ^ 64 → length (shortest n) ≤ 20
+shortest-twenty n h = omega (arith, length-shortest n, size-least 19 n (omega arith))
+
+pub decimal-room : (room n : ℕ) → length (shortest n) ≤ room → decimal-answer room n ≡ accepted (length (shortest n) ∷ [])
+unfolding decimal-answer
+decimal-room room n h = rw (le-ltb room (length (shortest n)) h)
+
+-- a row of numbers, one number on
+numbers-cons : (n : ℕ) (ms : List ℕ) → numbers (n ∷ ms) ≡ (shortest n ++ (cond (ltb 0 (length ms)) 32 10 ∷ [])) ++ numbers ms
+numbers-cons n [] = sym (append-nil (shortest n ++ (10 ∷ [])))
+numbers-cons n (m ∷ ms) = rw (lt-ltb 0 (suc (length ms)) (omega arith)) (sym (append-assoc (shortest n) (32 ∷ []) (numbers (m ∷ ms))))
+
+pub numbers-step : (ns : List ℕ) (i : ℕ) → i < length ns → numbers (drop i ns) ≡ (shortest (getD ns i 0) ++ (behind-at i (length ns) ∷ [])) ++ numbers (drop (i + 1) ns)
+numbers-step ns i h =
+    ap numbers (drop-cons ns i 0 h) ∙ numbers-cons (getD ns i 0) (drop (suc i) ns)
+    ∙ ap (λ b. (shortest (getD ns i 0) ++ (cond b 32 10 ∷ [])) ++ numbers (drop (suc i) ns)) (last (ltb (i + 1) (length ns)) refl)
+    ∙ ap (λ k. (shortest (getD ns i 0) ++ (behind-at i (length ns) ∷ [])) ++ numbers (drop k ns)) (sym (add-one i))
+  where
+    last : (t : Bool) → ltb (i + 1) (length ns) ≡ t → ltb 0 (length (drop (suc i) ns)) ≡ ltb (i + 1) (length ns)
+    last true e = lt-ltb 0 (length (drop (suc i) ns)) (omega (arith, length-drop (suc i) ns, ltb-true (i + 1) (length ns) e)) ∙ sym e
+    last false e = le-ltb 0 (length (drop (suc i) ns)) (omega (arith, length-drop (suc i) ns, ltb-false (i + 1) (length ns) e)) ∙ sym e
+
+pub numbers-end : (ns : List ℕ) (i : ℕ) → length ns ≤ i → numbers (drop i ns) ≡ []
+numbers-end ns i h = rw (drop-of-length-le ns h)
+
+-- what write_decimal leaves where a decimal has room, and a store behind it
+module _ (d d′ : List ℕ) (n : ℕ) (fits : length (shortest n) < length d) (w : d′ ≡ left-in (decimal-answer (length d) n) (shortest n) d) where
+  pub decimal-left : d′ ≡ shortest n ++ drop (length (shortest n)) d
+  decimal-left = w ∙ ap (λ z. left-in z (shortest n) d) (decimal-room (length d) n (omega arith))
+
+  pub decimal-behind : (k x : ℕ) → k ≡ length (shortest n) → set d′ k x ≡ (shortest n ++ (x ∷ [])) ++ drop (k + 1) d
+  decimal-behind k x e = store-grow d d′ (shortest n) k x (decimal-left ∙ ap (λ z. shortest n ++ drop z d) (sym e)) (sym e) (omega arith)
+
+-- its answer then
+pub decimal-length : (room n k : ℕ) → length (shortest n) ≤ room → accepted (k ∷ []) ≡ decimal-answer room n → k ≡ length (shortest n)
+decimal-length room n k h e = let a = e ∙ decimal-room room n h in cc
+
+pub decimal-never : (room n k : ℕ) → length (shortest n) ≤ room → refused k ≡ decimal-answer room n → ⊥
+decimal-never room n k h e = let a = e ∙ decimal-room room n h in let z : _≡_ {A = ℕ} 0 1 = cc in omega arith
+
+-- S written at the front of d, and R by a callee behind it
+pub put-both : (d l ys S R : List ℕ) (k r : ℕ) → k ≡ length S → r ≡ length R → l ≡ S ++ drop k d → length ys ≡ length (midOf k (length l - k) l) → k ≤ length d
+    → ys ≡ R ++ drop r (midOf k (length l - k) l) → (k + r ≡ length (S ++ R)) × (putMid k (length l - k) l ys ≡ (S ++ R) ++ drop (length (S ++ R)) d) × (k + r ≤ length d)
+put-both d l ys S R k r ek er el kept fits is =
+    let whole : k + r ≡ length (S ++ R) = simp length-append (omega arith) in
+    let same : length l ≡ length d = ap length el ∙ simp (length-append, length-drop) (omega arith) in
+    let mid : length (midOf k (length l - k) l) ≡ length d - k = simp (length-take, length-drop) (omega arith) in
+    let room : k + r ≤ length d = omega (arith, simp length-append at (ap length is)) in
+    (whole, put-grow d l S R ys k r el (sym ek) (sym er) room is ∙ ap (λ z. (S ++ R) ++ drop z d) whole, room)

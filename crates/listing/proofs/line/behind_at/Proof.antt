@@ -1,0 +1,17 @@
+-- `line::behind_at` meets its contract.
+use borrow.Author.Needs.{needs}
+use borrow.Author.Tests.{lt-ltb, le-ltb}
+use Rattle.listing.proofs.line.behind_at.Statement.{statement}
+use Rattle.listing.proofs.line.behind_at.Tie as tie
+
+add-if1 : tie.Need-add-if1
+add-if1 c = search needs
+
+returns : tie.Need-returns
+returns c = simp (lt-ltb _ _ (c .if1 .taken))
+
+returns-2 : tie.Need-returns-2
+returns-2 c = simp (le-ltb _ _ (c .if1 .left))
+
+pub behind-at-spec : {M : Type 1} → statement M
+behind-at-spec = tie.close (tie.spec add-if1 returns returns-2)

@@ -1,0 +1,2 @@
+// The listing of a stream, for programs: a line for each item.
+pub mod line; // one line
