@@ -82,10 +82,10 @@ seen-cond n false a b = refl
 
 -- ---- commands
 
-word-number : (c : Command) → word-of (number c) ≡ word c
+pub word-number : (c : Command) → word-of (number c) ≡ word c
 word-number = elim [ ABORT ↦ refl | ACK ↦ refl | BEGIN ↦ refl | COMMIT ↦ refl | CONNECT ↦ refl | CONNECTED ↦ refl | DISCONNECT ↦ refl | ERROR ↦ refl | MESSAGE ↦ refl | NACK ↦ refl | RECEIPT ↦ refl | SEND ↦ refl | STOMP ↦ refl | SUBSCRIBE ↦ refl | UNSUBSCRIBE ↦ refl ]
 
-some-number : (c : Command) → eqb (number c) 0 ≡ false
+pub some-number : (c : Command) → eqb (number c) 0 ≡ false
 some-number = elim [ ABORT ↦ refl | ACK ↦ refl | BEGIN ↦ refl | COMMIT ↦ refl | CONNECT ↦ refl | CONNECTED ↦ refl | DISCONNECT ↦ refl | ERROR ↦ refl | MESSAGE ↦ refl | NACK ↦ refl | RECEIPT ↦ refl | SEND ↦ refl | STOMP ↦ refl | SUBSCRIBE ↦ refl | UNSUBSCRIBE ↦ refl ]
 
 -- the octets of a command that stand read, from the command's number and how many they are

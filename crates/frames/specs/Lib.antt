@@ -7,4 +7,5 @@ pub mod Machine
 pub mod Parsing
 pub mod Examples
 pub mod Scanning
+pub mod Words
 pub mod Answers

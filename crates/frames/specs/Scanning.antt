@@ -1,10 +1,11 @@
 -- Parsing in numbers: the machine that the code runs. One record of numbers, a step for each octet, ends that stay. It gives the
 -- same replies as Parsing (proofs/Scanning.antt). Assumes nothing.
+use mathlib.Core.Path.{_≡_}
 use mathlib.Core.Bool.{Bool, true, false, cond, _&&_, _||_, not}
 use mathlib.Core.Option.{Option, none, some}
 use mathlib.Core.List.{List, [], _∷_, _++_, map}
-use Prim.Native.Nat.{ℕ, _+_, _-_, _*_}
-use lib.ListN.{take, getD}
+use Prim.Native.Nat.{ℕ, _+_, _-_, _*_, _≤_, _<_}
+use lib.ListN.{length, take, drop, getD}
 use lib.Dec.{eqb, leb, ltb}
 use Rattle.headers.specs.Rows.{same, begins}
 use Rattle.headers.specs.Text.{Part, fresh, back, owes, Into, into, bad, stop, reads}
@@ -197,3 +198,73 @@ scan-reply st =
     cond (eqb (st .phase) 14) (Complete 1 (st .at) 0 0 0 0)
     (cond (eqb (st .phase) 15) (Complete 2 (st .at) (st .command) (st .lines) (st .at - 1 - st .len) (st .len))
     (cond (eqb (st .phase) 16) (Invalid (st .code) (st .at)) Incomplete))
+
+-- ---- What a state that a run leaves keeps: enough for the code to be safe, from any such state on.
+
+-- the first k octets of c's word are read, and c is the first command that begins with them
+pub record Reached (c k : ℕ) : Type 0 where
+  pub nothing : k ≡ 0 → c ≡ 0
+  pub something : 0 < k → (0 < c) × (k ≤ length (word-of c)) × (number-of (first (begins (take k (word-of c))) all) ≡ c)
+
+-- numbers so small that one octet more overflows none
+pub record Bounded (st : Scan) : Type 0 where
+  pub few-lines : st .lines ≤ 32
+  pub small-size : st .size ≤ 32768
+  pub small-len : st .len ≤ 32768
+  pub small-at : st .at ≤ 70000
+
+-- the longest line or body at a phase
+abbrev pub len-max : ℕ → ℕ
+len-max p =
+    cond (eqb p 5) 511 (cond (eqb p 6) 510 (cond (eqb p 7) 512 (cond (eqb p 8) 511 (cond (eqb p 9) 512
+    (cond (eqb p 12) 32768 (cond (eqb p 13) 32768 (cond (eqb p 15) 32768 0)))))))
+
+-- 1 in a line
+abbrev pub line-open : ℕ → ℕ
+line-open p = cond (leb 5 p && leb p 9) 1 0
+
+-- the octets of an item outside its lines and its body
+abbrev pub outside : ℕ → ℕ
+outside p =
+    cond (eqb p 0) 0 (cond (eqb p 1) 1 (cond (eqb p 2) 11 (cond (eqb p 3) 12 (cond (eqb p 10) 12 (cond (eqb p 11) 14
+    (cond (eqb p 12) 15 (cond (eqb p 13) 15 (cond (eqb p 14) 2 (cond (eqb p 15) 16 (cond (eqb p 16) 49231 13))))))))))
+
+pub record Valid (st : Scan) : Type 0 where
+  pub known : st .phase ≤ 16
+  pub few : st .lines + line-open (st .phase) ≤ 32
+  pub short : st .len ≤ len-max (st .phase)
+  pub small : st .size ≤ 32768
+  pub place : st .at ≤ outside (st .phase) + 514 * st .lines + st .len
+  pub fresh-word : st .phase ≡ 0 → (st .command ≡ 0) × (st .at ≡ 0)
+  pub word-so-far : st .phase ≡ 2 → Reached (st .command) (st .at)
+  pub body-so-far : st .phase ≡ 12 → st .len ≤ most-of (st .command)
+  pub counted-so-far : st .phase ≡ 13 → st .len ≤ st .size
+  pub no-lines : st .phase < 4 → st .lines ≡ 0
+  pub clean-code : st .phase < 16 → st .code ≡ 0
+  pub clean-match : 6 < st .phase → st .matched ≡ 0
+  pub clean-size : st .sized ≡ false → (st .phase ≡ 9 → ⊥) → st .size ≡ 0
+  pub unsized : st .phase ≡ 12 → st .sized ≡ false
+
+-- ---- Plain stretches at a go
+
+-- how many octets at the front of a row pass a test
+unfoldable pub span : (ℕ → Bool) → List ℕ → ℕ
+span p [] = 0
+span p (x ∷ xs) = cond (p x) (1 + span p xs) 0
+
+-- what header text takes as it stands, in either field
+abbrev pub plain-in : Bool → ℕ → Bool
+plain-in escapes x = not (eqb x 10 || eqb x 13 || eqb x 58) && not (escapes && eqb x 92)
+
+abbrev pub not-zero : ℕ → Bool
+not-zero x = not (eqb x 0)
+
+-- the state k octets on, in the same phase
+abbrev pub skip : ℕ → Scan → Scan
+skip k st = record { phase = st .phase; command = st .command; lines = st .lines; matched = st .matched; sized = st .sized; size = st .size; len = st .len + k; at = st .at + k; code = st .code }
+
+-- k octets of xs from i on can be passed at a go
+pub record Ahead (xs : List ℕ) (i : ℕ) (st : Scan) (k : ℕ) : Type 0 where
+  pub within : i + k ≤ length xs
+  pub kept : Valid (skip k st)
+  pub same-end : scan st (drop i xs) ≡ scan (skip k st) (drop (i + k) xs)

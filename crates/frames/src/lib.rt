@@ -1,3 +1,4 @@
 // Frames: the grammar of items, and parsing.
+mod word; // the words of commands
 mod scan; // what of an item has been read, in numbers
 pub mod parse; // the reply
