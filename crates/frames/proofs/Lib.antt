@@ -13,5 +13,6 @@ pub mod Examples
 pub mod Scanning
 pub mod Words
 pub mod Validity
+pub mod Gliding
 pub mod Sizes
 pub mod Packing

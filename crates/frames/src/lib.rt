@@ -1,4 +1,5 @@
 // Frames: the grammar of items, and parsing.
 mod word; // the words of commands
 mod scan; // what of an item has been read, in numbers
+mod ahead; // plain stretches at a go
 pub mod parse; // the reply

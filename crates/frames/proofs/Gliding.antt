@@ -1,0 +1,239 @@
+-- Plain stretches at a go: the front of a row that passes a test, and the states that pass it unchanged but for their counts.
+-- Assumes nothing.
+use mathlib.Core.Path.{_≡_, refl, sym, _∙_, ap}
+use mathlib.Core.Bool.{Bool, true, false, _&&_, _||_, not, and-assoc, and-true}
+use mathlib.Core.List.{List, [], _∷_, _++_}
+use Prim.Native.Nat.{ℕ, _+_, _-_, _≤_, _<_}
+use native.Mathlib.Numerals.{add-one, one-add}
+use native.Mathlib.Nat.{add-zero, add-assoc}
+use native.Mathlib.Omega.{arith}
+use lib.Dec.{eqb}
+use lib.ListN.{length, take, drop, getD, drop-of-length-le, take-append-drop, length-take, length-drop}
+use lib.Seq.{drop-cons, drop-append-le, drop-drop}
+use borrow.Author.Tests.{le-leb, lt-ltb, not-true}
+use Rattle.headers.specs.Rows.{every}
+use Rattle.headers.specs.Text.{fresh, into, reads, plain, stops, opens}
+use Rattle.headers.specs.Lines.{line-max}
+use Rattle.headers.specs.declared.text.Style.{Style}
+use Rattle.headers.specs.declared.text.Field.{Field}
+use Rattle.headers.specs.declared.text.Field.the-variants.{Name as in-name, Value as in-value}
+use Rattle.headers.proofs.Rows.{cond-case, and-left, and-right, every-step, every-end}
+use Rattle.frames.specs.declared.scan.Scan.{Scan}
+use Rattle.frames.specs.Scanning.{style-of, most-of, on-value, on-name, on-body, on-counted, scan-step, scan, len-max, outside, Valid, span, plain-in, not-zero, skip, Ahead}
+
+-- ---- The front of a row that passes a test
+
+module _ (p : ℕ → Bool) where
+  span-every : (xs ys : List ℕ) → every p xs ≡ true → span p (xs ++ ys) ≡ length xs + span p ys
+  unfolding span
+  span-every [] ys h = omega arith
+  span-every (x ∷ xs) ys h = rw (and-left (p x) (every p xs) h) (omega (arith, span-every xs ys (and-right (p x) (every p xs) h)))
+
+  span-le : (xs : List ℕ) → span p xs ≤ length xs
+  unfolding span
+  span-le [] = omega arith
+  span-le (x ∷ xs) = cond-case (λ n. n ≤ length (x ∷ xs)) (p x) (λ h. omega (arith, span-le xs)) (λ h. omega arith)
+
+-- read off a row at a place
+module _ (p : ℕ → Bool) (s : List ℕ) (i : ℕ) where
+  pub every-more : (ok : Bool) → i < length s → (ok && p (getD s i 0)) && every p (drop (i + 1) s) ≡ ok && every p (drop i s)
+  every-more ok h = and-assoc ok _ _ ∙ ap (λ t. ok && t) (sym (every-step p s i h))
+
+  pub every-done : (ok : Bool) → length s ≤ i → ok && every p (drop i s) ≡ ok
+  every-done ok h = ap (λ t. ok && t) (every-end p s i h) ∙ and-true ok
+
+  pub span-block : (e : ℕ) → i ≤ e → e ≤ length s → every p (take (e - i) (drop i s)) ≡ true → e + span p (drop e s) ≡ i + span p (drop i s)
+  span-block e ie h t =
+      let long : length (take (e - i) (drop i s)) ≡ e - i = simp (length-take, length-drop) (omega arith) in
+      let q = ap (span p) (sym (take-append-drop (e - i) (drop i s))) ∙ span-every p (take (e - i) (drop i s)) (drop (e - i) (drop i s)) t in
+      let sum : i + (e - i) ≡ e = omega arith in
+      let r = ap (span p) (drop-drop (e - i) i s ∙ ap (λ n. drop n s) sum) in
+      omega arith
+
+  pub span-more : i < length s → p (getD s i 0) ≡ true → i + 1 + span p (drop (i + 1) s) ≡ i + span p (drop i s)
+  unfolding span
+  span-more h e = rw (add-one, drop-cons s i 0 h, e) (omega arith)
+
+  pub span-stop : i < length s → p (getD s i 0) ≡ false → i ≡ i + span p (drop i s)
+  unfolding span
+  span-stop h e = rw (drop-cons s i 0 h, e) (omega arith)
+
+  pub span-end : length s ≤ i → i ≡ i + span p (drop i s)
+  unfolding span
+  span-end h = rw (drop-of-length-le s h) (omega arith)
+
+-- ---- Numbers of a state fit
+
+len-few : (p : ℕ) → len-max p ≤ 32768
+len-few p =
+    let few : ℕ → Type 0 = λ n. n ≤ 32768 in
+    cond-case few (eqb p 5) (λ h. omega arith) λ h.
+    cond-case few (eqb p 6) (λ h. omega arith) λ h.
+    cond-case few (eqb p 7) (λ h. omega arith) λ h.
+    cond-case few (eqb p 8) (λ h. omega arith) λ h.
+    cond-case few (eqb p 9) (λ h. omega arith) λ h.
+    cond-case few (eqb p 12) (λ h. omega arith) λ h.
+    cond-case few (eqb p 13) (λ h. omega arith) λ h.
+    cond-case few (eqb p 15) (λ h. omega arith) λ h. omega arith
+
+outside-few : (p : ℕ) → outside p ≤ 49231
+outside-few p =
+    let few : ℕ → Type 0 = λ n. n ≤ 49231 in
+    cond-case few (eqb p 0) (λ h. omega arith) λ h.
+    cond-case few (eqb p 1) (λ h. omega arith) λ h.
+    cond-case few (eqb p 2) (λ h. omega arith) λ h.
+    cond-case few (eqb p 3) (λ h. omega arith) λ h.
+    cond-case few (eqb p 10) (λ h. omega arith) λ h.
+    cond-case few (eqb p 11) (λ h. omega arith) λ h.
+    cond-case few (eqb p 12) (λ h. omega arith) λ h.
+    cond-case few (eqb p 13) (λ h. omega arith) λ h.
+    cond-case few (eqb p 14) (λ h. omega arith) λ h.
+    cond-case few (eqb p 15) (λ h. omega arith) λ h.
+    cond-case few (eqb p 16) (λ h. omega arith) λ h. omega arith
+
+pub counts-few : {st : Scan} → Valid st → (st .len ≤ 32768) × (st .at ≤ 98447)
+counts-few {st} v = omega (arith, len-few (st .phase), outside-few (st .phase))
+
+pub value-short : {st : Scan} → Valid st → st .phase ≡ 7 → st .len ≤ 512
+value-short v e = omega (arith, ap len-max e)
+
+pub name-short : {st : Scan} → Valid st → st .phase ≡ 5 → st .len ≤ 511
+name-short v e = omega (arith, ap len-max e)
+
+-- ---- States that pass octets unchanged but for their counts
+
+-- st passes octets that pass p while its line or body is no longer than room
+pub record Glides (p : ℕ → Bool) (room : ℕ) (st : Scan) : Type 0 where
+  pub passes : (k x : ℕ) → st .len + k < room → p x ≡ true → scan-step (skip k st) x ≡ skip (k + 1) st
+  pub stays : (k : ℕ) → st .len + k ≤ room → Valid (skip k st)
+
+skip-zero : (st : Scan) → skip 0 st ≡ st
+skip-zero st = simp add-zero
+
+module _ (p : ℕ → Bool) (room : ℕ) (st : Scan) (g : Glides p room st) where
+  glide : (k : ℕ) (xs ys : List ℕ) → st .len + k + length xs ≤ room
+      → scan (skip k st) (xs ++ ys) ≡ scan (skip (k + span p xs) st) (drop (span p xs) xs ++ ys)
+  unfolding span
+  glide k [] ys h = sym (ap (λ n. scan (skip n st) ys) (add-zero k))
+  glide k (x ∷ xs) ys h =
+      cond-case (λ n. scan (skip k st) (x ∷ (xs ++ ys)) ≡ scan (skip (k + n) st) (drop n (x ∷ xs) ++ ys)) (p x)
+      (λ t. ap (λ z. scan z (xs ++ ys)) (g .passes k x (omega arith) t)
+      ∙ glide (k + 1) xs ys (omega arith)
+      ∙ ap (λ n. scan (skip n st) (drop (span p xs) xs ++ ys)) (add-assoc k 1 (span p xs))
+      ∙ ap (λ n. scan (skip (k + (1 + span p xs)) st) (drop n (x ∷ xs) ++ ys)) (sym (one-add (span p xs))))
+      (λ t. sym (ap (λ n. scan (skip n st) (x ∷ (xs ++ ys))) (add-zero k)))
+
+  pub ahead-by : (l : List ℕ) (i e k : ℕ) → i ≤ e → e ≤ length l → st .len + (e - i) ≤ room → k ≡ span p (take (e - i) (drop i l)) → Ahead l i st k
+  ahead-by l i e k ie el fits is =
+      let xs : List ℕ = take (e - i) (drop i l) in
+      let ys : List ℕ = drop (e - i) (drop i l) in
+      let long : length xs ≡ e - i = simp (length-take, length-drop) (omega arith) in
+      let short : k ≤ length xs = omega (arith, span-le p xs) in
+      let first : 0 + span p xs ≡ k = omega arith in
+      record {
+        within = omega arith;
+        kept = g .stays k (omega arith);
+        same-end =
+            ap (λ z. scan z (drop i l)) (sym (skip-zero st))
+            ∙ ap (scan (skip 0 st)) (sym (take-append-drop (e - i) (drop i l)))
+            ∙ glide 0 xs ys (omega arith)
+            ∙ ap (λ n. scan (skip n st) (drop (span p xs) xs ++ ys)) first
+            ∙ ap (λ n. scan (skip k st) (drop n xs ++ ys)) (sym is)
+            ∙ ap (scan (skip k st)) (sym (drop-append-le k xs ys short) ∙ ap (drop k) (take-append-drop (e - i) (drop i l)) ∙ drop-drop k i l);
+      }
+
+-- an octet that stands for itself
+reads-plain : (s : Style) (f : Field) (x : ℕ) → plain s f x ≡ true → reads s f fresh x ≡ into fresh
+reads-plain s f x h =
+    simp (not-true (stops s f x) (and-left (not (stops s f x)) (not (opens s x)) h), not-true (opens s x) (and-right (not (stops s f x)) (not (opens s x)) h))
+
+most-few : (c : ℕ) → most-of c ≤ 32768
+most-few c = cond-case (λ n. n ≤ 32768) (eqb c 8 || eqb c 9 || eqb c 12) (λ h. omega arith) (λ h. omega arith)
+
+span-any : (xs : List ℕ) → span (λ x. true) xs ≡ length xs
+unfolding span
+span-any [] = refl
+span-any (x ∷ xs) = omega (arith, span-any xs)
+
+module _ (st : Scan) (v : Valid st) where
+  valid-on : (k : ℕ) → 2 < st .phase → st .len + k ≤ len-max (st .phase) → (st .phase ≡ 12 → st .len + k ≤ most-of (st .command))
+      → (st .phase ≡ 13 → st .len + k ≤ st .size) → Valid (skip k st)
+  valid-on k far short body counted =
+      record {
+        known = v .known;
+        few = v .few;
+        short = short;
+        small = v .small;
+        place = omega arith;
+        fresh-word = λ e. absurd (omega arith);
+        word-so-far = λ e. absurd (omega arith);
+        body-so-far = body;
+        counted-so-far = counted;
+        clean-code = v .clean-code;
+        clean-match = v .clean-match;
+        clean-size = v .clean-size;
+        no-lines = v .no-lines;
+        unsized = v .unsized;
+      }
+
+  -- in a value
+  pub glides-value : {y : Style} → y ≡ style-of (st .command) → st .phase ≡ 7 → Glides (plain-in (y .escapes)) 512 st
+  unfolding scan-step on-value
+  glides-value same e =
+      record {
+        passes = λ k x h t.
+            simp (e, reads-plain (style-of (st .command)) in-value x (rw same at t), le-leb (st .len + (k + 1)) line-max (omega arith), v .clean-match (omega arith), v .clean-code (omega arith), add-assoc);
+        stays = λ k h. valid-on k (omega arith) (rw e h) (λ e′. absurd (omega arith)) (λ e′. absurd (omega arith));
+      }
+
+  -- in a name that is not content-length
+  pub glides-name : {y : Style} → y ≡ style-of (st .command) → st .phase ≡ 5 → st .matched ≡ 15 → Glides (plain-in (y .escapes)) 511 st
+  unfolding scan-step on-name
+  glides-name same e m =
+      record {
+        passes = λ k x h t.
+            simp (e, m, reads-plain (style-of (st .command)) in-name x (rw same at t), le-leb (st .len + (k + 2)) line-max (omega arith), v .clean-code (omega arith), add-assoc);
+        stays = λ k h. valid-on k (omega arith) (rw e h) (λ e′. absurd (omega arith)) (λ e′. absurd (omega arith));
+      }
+
+  -- in a body without a length
+  pub glides-body : st .phase ≡ 12 → Glides not-zero (most-of (st .command)) st
+  unfolding scan-step on-body
+  glides-body e =
+      record {
+        passes = λ k x h t.
+            simp (
+              e,
+              not-true (eqb x 0) t,
+              lt-ltb (st .len + k) (most-of (st .command)) h,
+              v .clean-match (omega arith),
+              v .clean-code (omega arith),
+              v .clean-size (v .unsized e) (λ e′. omega arith),
+              add-assoc,
+            );
+        stays = λ k h. valid-on k (omega arith) (rw e (omega (arith, most-few (st .command)))) (λ e′. h) (λ e′. absurd (omega arith));
+      }
+
+  -- in a body with one
+  pub glides-counted : st .phase ≡ 13 → Glides (λ x. true) (st .size) st
+  unfolding scan-step on-counted
+  glides-counted e =
+      record {
+        passes = λ k x h t. simp (e, lt-ltb (st .len + k) (st .size) h, v .clean-match (omega arith), v .clean-code (omega arith), add-assoc);
+        stays = λ k h. valid-on k (omega arith) (rw e (omega arith)) (λ e′. absurd (omega arith)) (λ e′. h);
+      }
+
+  -- any octets of it
+  pub ahead-counted : st .phase ≡ 13 → (l : List ℕ) (i e : ℕ) → i ≤ e → e ≤ length l → st .len + (e - i) ≤ st .size → Ahead l i st (e - i)
+  ahead-counted ph l i e ie el fits =
+      ahead-by (λ x. true) (st .size) st (glides-counted ph) l i e (e - i) ie el fits
+      (sym (span-any (take (e - i) (drop i l)) ∙ simp (length-take, length-drop) (omega arith)))
+
+  -- no octet
+  pub ahead-none : (l : List ℕ) (i : ℕ) → i ≤ length l → Ahead l i st 0
+  ahead-none l i h =
+      record {
+        within = omega arith;
+        kept = rw skip-zero v;
+        same-end = sym (ap (λ z. scan z (drop (i + 0) l)) (skip-zero st) ∙ ap (λ n. scan st (drop n l)) (add-zero i));
+      }

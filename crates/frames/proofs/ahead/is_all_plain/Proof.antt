@@ -1,0 +1,56 @@
+-- `ahead::is_all_plain` meets its contract: the test goes on from the flag.
+use mathlib.Core.Bool.{_&&_}
+use Rattle.headers.specs.Rows.{every}
+use Rattle.frames.specs.Scanning.{plain-in}
+use Rattle.frames.proofs.Gliding.{every-more, every-done}
+use borrow.Author.Needs.{needs}
+use Prim.Native.Nat.{_-_}
+use lib.ListN.{length, drop}
+use mathlib.Core.Path.{_≡_, sym, _∙_}
+use Rattle.frames.proofs.ahead.is_all_plain.Statement.{statement}
+use Rattle.frames.proofs.ahead.is_all_plain.Tie as tie
+
+abbrev Inv-loop : tie.InvT-loop
+Inv-loop s escapes ok₀ i₀ ok i = ok && every (plain-in escapes) (drop i s) ≡ every (plain-in escapes) s
+
+abbrev μ-loop : tie.MeasureT-loop
+μ-loop s escapes ok₀ i₀ ok i = length s - i
+
+loop-holds : tie.Need-loop-holds Inv-loop μ-loop
+loop-holds c = search needs
+
+shared-slice-read-is-plain : tie.Need-shared-slice-read-is-plain Inv-loop μ-loop
+shared-slice-read-is-plain c = search needs
+
+is-plain-requires : tie.Need-is-plain-requires Inv-loop μ-loop
+is-plain-requires c κs = search needs
+
+add-i : tie.Need-add-i Inv-loop μ-loop
+add-i c = search needs
+
+loop-less : tie.Need-loop-less Inv-loop μ-loop
+loop-less c = search needs
+
+loop-again : tie.Need-loop-again Inv-loop μ-loop
+loop-again c =
+    let l = c .before .before .before .loop in
+    let a = c .before .before .before .before .before .args in
+    rw (c .is-plain .ensures)
+    (every-more (plain-in (a .escapes)) (a .s .now) (l .i) (l .ok) (c .before .before .loop-test .taken) ∙ l .inv)
+
+returns : tie.Need-returns Inv-loop μ-loop
+returns c = sym (every-done (plain-in (c .before .before .before .args .escapes)) _ (c .before .loop .i) (c .before .loop .ok) (c .loop-test .left)) ∙ c .before .loop .inv
+
+pub is-all-plain-spec : {M : Type 1} → statement M
+is-all-plain-spec =
+    tie.close
+    (tie.spec
+    Inv-loop
+    μ-loop
+    loop-holds
+    shared-slice-read-is-plain
+    is-plain-requires
+    add-i
+    loop-less
+    loop-again
+    returns)
