@@ -16,3 +16,6 @@ pub mod Validity
 pub mod Gliding
 pub mod Sizes
 pub mod Packing
+pub mod Bounds
+pub mod Steps
+pub mod Running

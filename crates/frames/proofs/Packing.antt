@@ -45,6 +45,14 @@ packed-back r (small-invalid {k = k} {n = n} hk hn) =
     let n′ : a / 256 ≡ n = omega arith in
     rw (t, q, k′, n′)
 
+-- the numbers of a small reply, one by one
+pub item-numbers : {k u c h s l : ℕ} → Small (Complete k u c h s l) → SmallFrame u c h s l
+item-numbers (small-beat fits) = record { used-fits = fits; command-fits = omega arith; headers-fit = omega arith; start-fits = omega arith; len-fits = omega arith }
+item-numbers (small-frame f) = f
+
+pub refusal-numbers : {k n : ℕ} → Small (Invalid k n) → (k < 256) × (n < 65536)
+refusal-numbers (small-invalid a b) = (a, b)
+
 number-small : (c : Command) → number c < 16
 number-small = elim [ ABORT ↦ omega arith | ACK ↦ omega arith | BEGIN ↦ omega arith | COMMIT ↦ omega arith | CONNECT ↦ omega arith | CONNECTED ↦ omega arith | DISCONNECT ↦ omega arith | ERROR ↦ omega arith | MESSAGE ↦ omega arith | NACK ↦ omega arith | RECEIPT ↦ omega arith | SEND ↦ omega arith | STOMP ↦ omega arith | SUBSCRIBE ↦ omega arith | UNSUBSCRIBE ↦ omega arith ]
 

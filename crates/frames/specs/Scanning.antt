@@ -106,13 +106,16 @@ module _ (st : Scan) where
   unfoldable pub on-start : ℕ → Scan
   on-start x = cond (eqb x 10) beat-read (cond (eqb x 13) (to-phase 1 0) (on-word x))
 
+  -- the colon is read: a content-length begins, if none is declared yet, or another value
+  abbrev pub value-begins : Scan
+  value-begins = cond (not (st .sized) && eqb (st .matched) 14) (in-line 9 0 0 (st .len + 1)) (in-line 7 0 (st .size) (st .len + 1))
+
   abbrev pub on-name-by : ℕ → Into → Scan
   on-name-by x (into p) = cond (leb (st .len + 1 + owes p + 1) line-max) (in-line (name-phase p) (advance (st .matched) x) (st .size) (st .len + 1)) (invalid (numbered long-line))
   on-name-by x (bad i) = invalid (numbered (faulty i))
   on-name-by x stop =
       cond (eqb x 58)
-      (cond (eqb (st .len) 0) (invalid (numbered nameless))
-      (cond (not (st .sized) && eqb (st .matched) 14) (in-line 9 0 0 (st .len + 1)) (in-line 7 0 (st .size) (st .len + 1))))
+      (cond (eqb (st .len) 0) (invalid (numbered nameless)) value-begins)
       (invalid (numbered no-colon))
 
   unfoldable pub on-name : Part → ℕ → Scan
@@ -143,11 +146,11 @@ module _ (st : Scan) where
   abbrev pub grows : ℕ → Bool
   grows x = is-digit x && leb (st .size * 10 + digit-value x) (most-of (st .command))
 
+  abbrev pub on-digit : ℕ → Scan
+  on-digit x = cond (grows x) (in-line 9 0 (st .size * 10 + digit-value x) (st .len + 1)) (invalid (numbered bad-length))
+
   abbrev pub on-length-by : ℕ → Into → Scan
-  on-length-by x (into p) =
-      cond (leb (st .len + 1 + owes p) line-max)
-      (cond (grows x) (in-line 9 0 (st .size * 10 + digit-value x) (st .len + 1)) (invalid (numbered bad-length)))
-      (invalid (numbered long-line))
+  on-length-by x (into p) = cond (leb (st .len + 1 + owes p) line-max) (on-digit x) (invalid (numbered long-line))
   on-length-by x (bad i) = invalid (numbered (faulty i))
   on-length-by x stop =
       cond (eqb x 58) (invalid (numbered second-colon))

@@ -2,4 +2,6 @@
 mod word; // the words of commands
 mod scan; // what of an item has been read, in numbers
 mod ahead; // plain stretches at a go
+mod run; // a row of octets
 pub mod parse; // the reply
+mod exports; // calls for C

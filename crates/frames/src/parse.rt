@@ -1,4 +1,10 @@
 // Parsing: the reply to any octets.
+ghost use mathlib.Core.Path.{_≡_};
+ghost use Prim.Native.Nat.{_-_};
+ghost use Rattle.frames.specs.Grammar.{v1-2};
+ghost use Rattle.frames.specs.Parsing.{parsed};
+ghost use Rattle.frames.specs.Exactness.{Exact};
+ghost use Rattle.frames.specs.Answers.{parsed-says};
 
 // The first item: 1 a heart-beat, 2 a frame; the octets used; of a frame its command, the number of its headers, and where its body
 // begins and how long it is.
@@ -22,4 +28,50 @@ pub enum Parsed {
     Complete(Item),
     Incomplete,
     Invalid(Refusal),
+}
+
+// a less b, or 0.
+fn less(a: usize, b: usize) -> usize
+    ensures { λ r. ⌜ r ≡ a - b ⌝ }
+{
+    if a < b { 0 } else { a - b }
+}
+
+// The reply to the octets: of the item that they begin with, that they can still be finished, or where and why not.
+pub fn parse(octets: &[u8]) -> Parsed
+    ensures { λ r. ⌜
+        (parsed-says r ≡ parsed v1-2 (now (octets .entry)))
+        × Exact v1-2 (now (octets .entry)) (parsed-says r)
+        ⌝ }
+{
+    let st = crate::run::run(octets, 0, crate::scan::nothing_read());
+    let phase = st.phase;
+    if phase == 14 {
+        return Parsed::Complete(Item {
+            kind: 1,
+            len: st.at,
+            command: 0,
+            headers: 0,
+            body: 0,
+            body_len: 0,
+        });
+    }
+    if phase == 15 {
+        let body = less(less(st.at, 1), st.len);
+        return Parsed::Complete(Item {
+            kind: 2,
+            len: st.at,
+            command: st.command,
+            headers: st.lines,
+            body,
+            body_len: st.len,
+        });
+    }
+    if phase == 16 {
+        return Parsed::Invalid(Refusal {
+            code: st.code,
+            offset: st.at,
+        });
+    }
+    Parsed::Incomplete
 }

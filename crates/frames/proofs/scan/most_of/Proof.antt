@@ -1,4 +1,4 @@
--- `scan::most_of` meets its contract: each test that led there picks the number.
+-- `scan::most_of` meets its contract: each test that led there picks the limit.
 use borrow.Author.Tests.{eq-eqb, ne-eqb}
 use Rattle.frames.proofs.scan.most_of.Statement.{statement}
 use Rattle.frames.proofs.scan.most_of.Tie as tie

@@ -1,0 +1,52 @@
+-- What a state that a run leaves keeps is enough for one octet more. Assumes nothing.
+use mathlib.Core.Path.{_≡_, refl}
+use mathlib.Core.Bool.{Bool, true, false, _&&_}
+use Prim.Native.Nat.{ℕ, zero, suc, _+_, _<_, _≤_}
+use native.Mathlib.Nat.{le-of-suc-le-suc}
+use native.Mathlib.Omega.{arith}
+use lib.Dec.{T, leb, ltb, eqb, ltb→lt}
+use borrow.Author.Tests.{leb-true, ne-eqb}
+use Rattle.headers.proofs.Rows.{and-left, and-right}
+use Rattle.frames.specs.declared.scan.Scan.{Scan}
+use Rattle.frames.specs.Scanning.{Reached, Bounded, len-max, outside, Valid, scan-step}
+
+-- a test that holds of each number below n
+abbrev each : (ℕ → Bool) → ℕ → Bool
+each f zero = true
+each f (suc n) = f 0 && each (λ k. f (suc k)) n
+
+each-one : (f : ℕ → Bool) (n k : ℕ) → each f n ≡ true → k < n → f k ≡ true
+each-one f zero k h l = absurd (omega arith)
+each-one f (suc n) zero h l = and-left (f 0) (each (λ k. f (suc k)) n) h
+each-one f (suc n) (suc k) h l = each-one (λ k. f (suc k)) n k (and-right (f 0) (each (λ k. f (suc k)) n) h) (le-of-suc-le-suc l)
+
+-- the longest line or body at a phase, and the octets outside the lines with it
+abbrev longest : ℕ → Bool
+longest p = leb (len-max p) 32768
+
+abbrev widest : ℕ → Bool
+widest p = leb (outside p + len-max p) 49231
+
+pub bounded : (st : Scan) → Valid st → Bounded st
+bounded st v =
+    let p = st .phase in
+    let a = leb-true (len-max p) 32768 (each-one longest 17 p refl (omega arith)) in
+    let b = leb-true (outside p + len-max p) 49231 (each-one widest 17 p refl (omega arith)) in
+    record { few-lines = omega arith; small-size = v .small; small-len = omega arith; small-at = omega arith }
+
+-- where a line begins, nothing of it is read; where an item begins, nothing of its word is
+module _ (st : Scan) (v : Valid st) where
+  pub line-begins : st .phase ≡ 4 → st .len ≡ 0
+  line-begins h = let s = rw h at v .short in omega arith
+
+  pub word-begins : st .phase ≡ 0 → Reached (st .command) (st .at)
+  word-begins h = record { nothing = λ e. v .fresh-word h .0; something = λ l. absurd (omega (arith, v .fresh-word h .1)) }
+
+-- the ends stay
+pub stays : (st : Scan) (x : ℕ) → 14 ≤ st .phase → scan-step st x ≡ st
+unfolding scan-step
+stays st x h =
+    simp (off 7 tt, off 5 tt, off 4 tt, off 12 tt, off 13 tt, off 2 tt, off 9 tt, off 8 tt, off 6 tt, off 10 tt, off 11 tt, off 0 tt, off 3 tt, off 1 tt)
+  where
+    off : (k : ℕ) → T (ltb k 14) → eqb (st .phase) k ≡ false
+    off k l = ne-eqb (st .phase) k (λ e. omega (arith, ltb→lt k 14 l))

@@ -1,0 +1,62 @@
+-- A run over the octets of a row from a place on. Assumes nothing.
+use mathlib.Core.Path.{_≡_, refl, sym, _∙_, ap, subst}
+use mathlib.Core.Bool.{Bool, true, false}
+use mathlib.Core.List.{List, [], _∷_}
+use Prim.Native.Nat.{ℕ, suc, _+_, _≤_, _<_}
+use native.Mathlib.Numerals.{add-one}
+use native.Mathlib.Omega.{arith}
+use lib.Dec.{eqb}
+use lib.ListN.{length, drop, getD, drop-of-length-le}
+use lib.Seq.{drop-cons}
+use borrow.Author.Tests.{eqb-true, lt-ltb}
+use Rattle.headers.specs.Rows.{every, is-octet}
+use Rattle.headers.proofs.Rows.{cond-case}
+use Rattle.frames.specs.declared.scan.Scan.{Scan}
+use Rattle.frames.specs.Grammar.{v1-2}
+use Rattle.frames.specs.Replies.{Reply, Complete, Incomplete, Invalid}
+use Rattle.frames.specs.Parsing.{parsed}
+use Rattle.frames.specs.Exactness.{Exact}
+use Rattle.frames.specs.Scanning.{scan-step, scan, nothing-read, scan-reply, Valid, skip, Ahead}
+use Rattle.frames.proofs.Exact.{exact}
+use Rattle.frames.proofs.Scanning.{scanned}
+
+-- an end stays as it is
+step-ended : (st : Scan) (x : ℕ) → 13 < st .phase → scan-step st x ≡ st
+unfolding scan-step
+step-ended st x h =
+    let same : Scan → Type 0 = λ z. z ≡ st in
+    let no : (n : ℕ) → n ≤ 13 → eqb (st .phase) n ≡ false = λ n k. other n k (eqb (st .phase) n) refl in
+    rw (no 7 (omega arith), no 5 (omega arith), no 4 (omega arith), no 12 (omega arith), no 13 (omega arith), no 2 (omega arith), no 9 (omega arith), no 8 (omega arith), no 6 (omega arith), no 10 (omega arith), no 11 (omega arith), no 0 (omega arith), no 3 (omega arith), no 1 (omega arith)) refl
+  where
+    other : (n : ℕ) → n ≤ 13 → (b : Bool) → eqb (st .phase) n ≡ b → eqb (st .phase) n ≡ false
+    other n k false e = e
+    other n k true e = absurd (omega (arith, eqb-true (st .phase) n e))
+
+pub scan-ended : (xs : List ℕ) (st : Scan) → 13 < st .phase → scan st xs ≡ st
+scan-ended [] st h = refl
+scan-ended (x ∷ xs) st h = ap (λ z. scan z xs) (step-ended st x h) ∙ scan-ended xs st h
+
+module _ (s : List ℕ) (i : ℕ) (st : Scan) where
+  pub scan-next : i < length s → scan st (drop i s) ≡ scan (scan-step st (getD s i 0)) (drop (i + 1) s)
+  scan-next h = rw (add-one, drop-cons s i 0 h) refl
+
+  pub scan-end : length s ≤ i → scan st (drop i s) ≡ st
+  scan-end h = rw (drop-of-length-le s h) refl
+
+-- a stretch passed at a go, of the state that the code has then
+module _ {s : List ℕ} {i k : ℕ} {st st′ : Scan} (a : Ahead s i st k) (e : st′ ≡ skip k st) where
+  pub ahead-scan : scan st (drop i s) ≡ scan st′ (drop (i + k) s)
+  ahead-scan = a .same-end ∙ ap (λ z. scan z (drop (i + k) s)) (sym e)
+
+  pub ahead-valid : Valid st′
+  ahead-valid = subst Valid (sym e) (a .kept)
+
+-- what a slice of octets holds
+pub octets-known : (xs : List ℕ) → ((i : ℕ) → getD xs i 0 < 256) → every is-octet xs ≡ true
+octets-known [] h = refl
+octets-known (x ∷ xs) h = rw (lt-ltb x 256 (h 0), octets-known xs (λ i. h (suc i))) refl
+
+-- the reply, from the state after all octets
+module _ (xs : List ℕ) (h : (i : ℕ) → getD xs i 0 < 256) (st : Scan) (e : st ≡ scan nothing-read xs) where
+  pub replied : (r : Reply) → r ≡ scan-reply st → (r ≡ parsed v1-2 xs) × Exact v1-2 xs r
+  replied r q = let p = q ∙ ap scan-reply e ∙ scanned v1-2 xs in (p, subst (Exact v1-2 xs) (sym p) (exact v1-2 xs (octets-known xs h)))

@@ -1,0 +1,74 @@
+use Prim.Native.Nat.{ℕ, _≤_, _<_, _-_, _+_, _*_}
+use native.Mathlib.Omega.{arith}
+use lib.ListN.{length}
+use mathlib.Core.Path.{_≡_, sym, _∙_, ap, subst}
+use Rattle.frames.specs.Grammar.{v1-2}
+use Rattle.frames.specs.Parsing.{parsed}
+use Rattle.frames.specs.declared.parse.Parsed.{Parsed}
+use Rattle.frames.specs.Answers.{parsed-says, packed, Small}
+use Rattle.frames.proofs.Packing.{item-numbers, refusal-numbers, reply-small}
+use borrow.Author.Needs.{needs}
+use Rattle.frames.proofs.exports.stomp_parse.Statement.{statement}
+use Rattle.frames.proofs.exports.stomp_parse.Tie as tie
+use Rattle.frames.proofs.exports.stomp_parse.Reads as reads
+use Rattle.frames.proofs.exports.stomp_parse.Lts as lts
+use Rattle.frames.proofs.exports.pack_item.Reads as pack-item-reads
+use Rattle.frames.proofs.exports.pack_refusal.Reads as pack-refusal-reads
+use Rattle.frames.proofs.parse.parse.Reads as parse-reads
+
+-- the reply is small, and packing it packs what the definition gives
+small : (c : tie.After-parse) (p : Parsed) → c .parse .result ≡ p → Small (parsed-says p)
+small c p e = subst (λ z. Small (parsed-says z)) e (reply-small v1-2 _ _ (c .parse .ensures .1))
+
+gives : (c : tie.After-parse) (p : Parsed) → c .parse .result ≡ p → packed (parsed-says p) ≡ packed (parsed v1-2 (c .before .before .args .octets .now))
+gives c p e = ap (λ z. packed (parsed-says z)) (sym e) ∙ ap packed (c .parse .ensures .0)
+
+-- src/exports.rt:37:11
+parse-requires : tie.Need-parse-requires
+parse-requires c κs = search needs
+
+-- src/exports.rt:38:26
+enum-known-i : tie.Need-enum-known-i
+enum-known-i c = search needs
+
+-- src/exports.rt:38:32
+pack-item-requires : tie.Need-pack-item-requires
+pack-item-requires c κs = item-numbers (small (c .before .before .before) _ (c .before .i .given .1))
+
+-- src/exports.rt:39:31
+enum-told : tie.Need-enum-told
+enum-told c = search needs
+
+-- src/exports.rt:40:25
+enum-known-r : tie.Need-enum-known-r
+enum-known-r c = search needs
+
+-- src/exports.rt:40:31
+pack-refusal-requires : tie.Need-pack-refusal-requires
+pack-refusal-requires c κs = refusal-numbers (small (c .before .before .before) _ (c .before .r .given .1))
+
+-- src/exports.rt:33:1
+returns : tie.Need-returns
+returns c = c .pack-item .ensures ∙ gives (c .before .before .before .before) _ (c .before .before .i .given .1)
+
+-- src/exports.rt:33:1
+returns-2 : tie.Need-returns-2
+returns-2 c = gives (c .before .before) _ (c .enum-told .given .1)
+
+-- src/exports.rt:33:1
+returns-3 : tie.Need-returns-3
+returns-3 c = c .pack-refusal .ensures ∙ gives (c .before .before .before .before) _ (c .before .before .r .given .1)
+
+pub stomp-parse-spec : {M : Type 1} → statement M
+stomp-parse-spec =
+    tie.close
+    (tie.spec
+    parse-requires
+    enum-known-i
+    pack-item-requires
+    enum-told
+    enum-known-r
+    pack-refusal-requires
+    returns
+    returns-2
+    returns-3)

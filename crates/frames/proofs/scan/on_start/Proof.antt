@@ -1,0 +1,32 @@
+-- `scan::on_start` meets its contract: each test that led there picks the next state.
+use Rattle.frames.specs.Scanning.{on-start}
+use borrow.Author.Tests.{eq-eqb, ne-eqb}
+use borrow.Author.Needs.{needs}
+use Rattle.frames.proofs.scan.on_start.Statement.{statement}
+use Rattle.frames.proofs.scan.on_start.Tie as tie
+
+to-phase-requires : tie.Need-to-phase-requires
+to-phase-requires c κs = search needs
+
+returns : tie.Need-returns
+unfolding on-start
+returns c = simp (c .to-phase .ensures, eq-eqb _ _ (c .before .if1 .taken))
+
+to-phase-requires-2 : tie.Need-to-phase-requires-2
+to-phase-requires-2 c κs = search needs
+
+returns-2 : tie.Need-returns-2
+unfolding on-start
+returns-2 c = simp (c .to-phase2 .ensures, ne-eqb _ _ (c .before .before .if1 .left), eq-eqb _ _ (c .before .if2 .taken))
+
+on-word-requires : tie.Need-on-word-requires
+on-word-requires c κs = search needs
+
+returns-3 : tie.Need-returns-3
+unfolding on-start
+returns-3 c = simp (c .on-word .ensures, ne-eqb _ _ (c .before .before .if1 .left), ne-eqb _ _ (c .before .if2 .left))
+
+pub on-start-spec : {M : Type 1} → statement M
+on-start-spec =
+    tie.close
+    (tie.spec to-phase-requires returns to-phase-requires-2 returns-2 on-word-requires returns-3)

@@ -1,0 +1,42 @@
+// Calls for C: numbers and byte slices, and an answer in one number.
+ghost use mathlib.Core.Path.{_≡_};
+ghost use Prim.Native.Nat.{_<_};
+ghost use Rattle.frames.specs.Grammar.{v1-2};
+ghost use Rattle.frames.specs.Parsing.{parsed};
+ghost use Rattle.frames.specs.Answers.{parsed-says, packed, SmallFrame};
+use crate::parse::Item;
+use crate::parse::Parsed;
+use crate::parse::Refusal;
+
+// An item in one number.
+fn pack_item(i: Item) -> u64
+    requires { ⌜ SmallFrame (i .len) (i .command) (i .headers) (i .body) (i .«body_len») ⌝ }
+    ensures { λ r. ⌜ r ≡ packed (parsed-says (Parsed.Complete i)) ⌝ }
+{
+    if i.kind == 1 {
+        return 1 + 4 * (i.len as u64);
+    }
+    let body = (i.body as u64) + 65536 * (i.body_len as u64);
+    let rest = (i.command as u64) + 16 * ((i.headers as u64) + 64 * body);
+    2 + 4 * ((i.len as u64) + 65536 * rest)
+}
+
+// A refusal in one number.
+fn pack_refusal(r: Refusal) -> u64
+    requires { ⌜ (r .code < 256) × (r .offset < 65536) ⌝ }
+    ensures { λ p. ⌜ p ≡ packed (parsed-says (Parsed.Invalid r)) ⌝ }
+{
+    3 + 4 * ((r.code as u64) + 256 * (r.offset as u64))
+}
+
+// What parse replies, in one number.
+#[no_mangle]
+pub extern "C" fn stomp_parse(octets: &[u8]) -> u64
+    ensures { λ r. ⌜ r ≡ packed (parsed v1-2 (now (octets .entry))) ⌝ }
+{
+    match crate::parse::parse(octets) {
+        Parsed::Complete(i) => pack_item(i),
+        Parsed::Incomplete => 0,
+        Parsed::Invalid(r) => pack_refusal(r),
+    }
+}
