@@ -10,10 +10,9 @@ use lib.ListN.{length, drop, getD, drop-of-length-le}
 use lib.Seq.{drop-cons}
 use borrow.Author.Tests.{eqb-true, lt-ltb}
 use Rattle.headers.specs.Rows.{every, is-octet}
-use Rattle.headers.proofs.Rows.{cond-case}
 use Rattle.frames.specs.declared.scan.Scan.{Scan}
 use Rattle.frames.specs.Grammar.{v1-2}
-use Rattle.frames.specs.Replies.{Reply, Complete, Incomplete, Invalid}
+use Rattle.frames.specs.Replies.{Reply}
 use Rattle.frames.specs.Parsing.{parsed}
 use Rattle.frames.specs.Exactness.{Exact}
 use Rattle.frames.specs.Scanning.{scan-step, scan, nothing-read, scan-reply, Valid, skip, Ahead}

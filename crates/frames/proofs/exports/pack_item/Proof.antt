@@ -1,14 +1,8 @@
-use Prim.Native.Nat.{ℕ, _≤_, _<_, _-_, _+_, _*_}
-use native.Mathlib.Omega.{arith}
-use lib.ListN.{length}
-use mathlib.Core.Path.{_≡_}
+use mathlib.Core.Path.{refl}
 use borrow.Author.Needs.{needs}
 use borrow.Author.Tests.{ne-eqb}
-use mathlib.Core.Path.{refl}
 use Rattle.frames.proofs.exports.pack_item.Statement.{statement}
 use Rattle.frames.proofs.exports.pack_item.Tie as tie
-use Rattle.frames.proofs.exports.pack_item.Reads as reads
-use Rattle.frames.proofs.exports.pack_item.Lts as lts
 
 -- src/exports.rt:17:20
 mul-result : tie.Need-mul-result

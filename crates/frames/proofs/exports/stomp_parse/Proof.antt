@@ -1,6 +1,3 @@
-use Prim.Native.Nat.{ℕ, _≤_, _<_, _-_, _+_, _*_}
-use native.Mathlib.Omega.{arith}
-use lib.ListN.{length}
 use mathlib.Core.Path.{_≡_, sym, _∙_, ap, subst}
 use Rattle.frames.specs.Grammar.{v1-2}
 use Rattle.frames.specs.Parsing.{parsed}
@@ -10,11 +7,6 @@ use Rattle.frames.proofs.Packing.{item-numbers, refusal-numbers, reply-
 use borrow.Author.Needs.{needs}
 use Rattle.frames.proofs.exports.stomp_parse.Statement.{statement}
 use Rattle.frames.proofs.exports.stomp_parse.Tie as tie
-use Rattle.frames.proofs.exports.stomp_parse.Reads as reads
-use Rattle.frames.proofs.exports.stomp_parse.Lts as lts
-use Rattle.frames.proofs.exports.pack_item.Reads as pack-item-reads
-use Rattle.frames.proofs.exports.pack_refusal.Reads as pack-refusal-reads
-use Rattle.frames.proofs.parse.parse.Reads as parse-reads
 
 -- the reply is small, and packing it packs what the definition gives
 small : (c : tie.After-parse) (p : Parsed) → c .parse .result ≡ p → Small (parsed-says p)

@@ -1,7 +1,5 @@
 use borrow.Author.Needs.{needs}
-use Prim.Native.Nat.{ℕ, _≤_, _<_, _-_, _+_, _*_}
 use native.Mathlib.Omega.{arith}
-use lib.ListN.{length}
 use mathlib.Core.Path.{_≡_, refl, sym, _∙_, ap, subst}
 use borrow.Author.Tests.{ne-eqb}
 use Rattle.frames.specs.Grammar.{v1-2}
@@ -13,11 +11,6 @@ use Rattle.frames.proofs.Validity.{valid-nothing}
 use Rattle.frames.proofs.Running.{replied}
 use Rattle.frames.proofs.parse.parse.Statement.{statement}
 use Rattle.frames.proofs.parse.parse.Tie as tie
-use Rattle.frames.proofs.parse.parse.Reads as reads
-use Rattle.frames.proofs.parse.parse.Lts as lts
-use Rattle.frames.proofs.parse.less.Reads as less-reads
-use Rattle.frames.proofs.run.run.Reads as run-reads
-use Rattle.frames.proofs.scan.nothing_read.Reads as nothing-read-reads
 
 -- src/parse.rt:47:41
 nothing-read-requires : tie.Need-nothing-read-requires

@@ -1,5 +1,5 @@
 use borrow.Author.Needs.{needs}
-use Prim.Native.Nat.{ℕ, _≤_, _<_, _-_, _+_, _*_}
+use Prim.Native.Nat.{_≤_, _-_, _+_}
 use native.Mathlib.Omega.{arith}
 use lib.ListN.{length, drop}
 use mathlib.Core.Path.{_≡_, refl, sym, _∙_, ap, subst}
@@ -8,11 +8,6 @@ use Rattle.frames.proofs.Validity.{valid-step}
 use Rattle.frames.proofs.Running.{scan-next, scan-end, scan-ended, ahead-scan, ahead-valid}
 use Rattle.frames.proofs.run.run.Statement.{statement}
 use Rattle.frames.proofs.run.run.Tie as tie
-use Rattle.frames.proofs.run.run.Reads as reads
-use Rattle.frames.proofs.run.run.Lts as lts
-use Rattle.frames.proofs.ahead.ahead.Reads as ahead-reads
-use Rattle.frames.proofs.ahead.skip.Reads as skip-reads
-use Rattle.frames.proofs.scan.step.Reads as step-reads
 
 abbrev Inv-loop : tie.InvT-loop
 Inv-loop s from st₀ i₀ st i = (i ≤ length s) × Valid st × (scan st (drop i s) ≡ scan st₀ (drop from s))
