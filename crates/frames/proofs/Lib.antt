@@ -13,6 +13,7 @@ pub mod Examples
 pub mod Scanning
 pub mod Words
 pub mod Validity
+pub mod Checks
 pub mod Gliding
 pub mod Sizes
 pub mod Packing

@@ -8,4 +8,5 @@ pub mod Parsing
 pub mod Examples
 pub mod Scanning
 pub mod Words
+pub mod Validity
 pub mod Answers

@@ -1,6 +1,7 @@
 // Frames: the grammar of items, and parsing.
 mod word; // the words of commands
 mod scan; // what of an item has been read, in numbers
+mod valid; // whether a state is one that a run can leave
 mod ahead; // plain stretches at a go
 mod run; // a row of octets
 pub mod parse; // the reply

@@ -1,0 +1,131 @@
+// Whether a state is one that a run can leave, by tests of its numbers in constant time.
+ghost use mathlib.Core.Path.{_≡_};
+ghost use mathlib.Core.Bool.{true};
+ghost use Prim.Native.Nat.{_≤_};
+ghost use lib.ListN.{getD};
+ghost use Rattle.frames.specs.Scanning.{Valid, len-max, line-open, outside};
+ghost use Rattle.frames.specs.Validity.{leasts, lengths, is-reached, is-small, is-so-far, is-clean};
+use crate::scan::Scan;
+
+// The longest line or body at a phase.
+fn len_max(phase: u8) -> usize
+    ensures { λ r. ⌜ r ≡ len-max phase ⌝ }
+{
+    match phase {
+        5 => 511,
+        6 => 510,
+        7 => 512,
+        8 => 511,
+        9 => 512,
+        12 => 32768,
+        13 => 32768,
+        15 => 32768,
+        _ => 0,
+    }
+}
+
+// 1 in a line.
+fn line_open(phase: u8) -> usize
+    ensures { λ r. ⌜ r ≡ line-open phase ⌝ }
+{
+    if (5 <= phase) & (phase <= 9) { 1 } else { 0 }
+}
+
+// The octets of an item outside its lines and its body.
+fn outside(phase: u8) -> usize
+    ensures { λ r. ⌜ r ≡ outside phase ⌝ }
+{
+    match phase {
+        0 => 0,
+        1 => 1,
+        2 => 11,
+        3 => 12,
+        10 => 12,
+        11 => 14,
+        12 => 15,
+        13 => 15,
+        14 => 2,
+        15 => 16,
+        16 => 49231,
+        _ => 13,
+    }
+}
+
+// How many letters tell a command's word from those of the commands before it.
+fn least(c: u32) -> usize
+    requires { ⌜ c ≤ 15 ⌝ }
+    ensures { λ r. ⌜ r ≡ getD leasts c 0 ⌝ }
+{
+    let table = [0usize, 1, 2, 1, 1, 3, 8, 1, 1, 1, 1, 1, 1, 2, 2, 1];
+    let i = c as usize;
+    table[i]
+}
+
+// How many letters a command's word has.
+fn word_len(c: u32) -> usize
+    requires { ⌜ c ≤ 15 ⌝ }
+    ensures { λ r. ⌜ r ≡ getD lengths c 0 ⌝ }
+{
+    let table = [0usize, 5, 3, 5, 6, 7, 9, 10, 5, 7, 4, 7, 4, 5, 9, 11];
+    let i = c as usize;
+    table[i]
+}
+
+// Whether c is the first command that begins with the first k letters of its word.
+fn is_reached(c: u32, k: usize) -> bool
+    ensures { λ r. ⌜ r ≡ is-reached c k ⌝ }
+{
+    if c <= 15 {
+        return (least(c) <= k) & (k <= word_len(c));
+    }
+    false
+}
+
+// Whether the numbers are small: each sum only where it fits.
+fn is_small(st: Scan) -> bool
+    ensures { λ r. ⌜ r ≡ is-small st ⌝ }
+{
+    let phase = st.phase;
+    if 16 < phase {
+        return false;
+    }
+    if 32 - line_open(phase) < st.lines {
+        return false;
+    }
+    if len_max(phase) < st.len {
+        return false;
+    }
+    (st.size <= 32768) & (st.at <= outside(phase) + 514 * st.lines + st.len)
+}
+
+// Whether the word and the body so far are some that a run can have.
+fn is_so_far(st: Scan) -> bool
+    ensures { λ r. ⌜ r ≡ is-so-far st ⌝ }
+{
+    let phase = st.phase;
+    let reached = is_reached(st.command, st.at);
+    let most = crate::scan::most_of(st.command);
+    ((phase != 0) | ((st.command == 0) & (st.at == 0)))
+        & ((phase != 2) | reached)
+        & ((phase != 12) | (st.len <= most))
+        & ((phase != 13) | (st.len <= st.size))
+}
+
+// Whether what a phase does not use is 0.
+fn is_clean(st: Scan) -> bool
+    ensures { λ r. ⌜ r ≡ is-clean st ⌝ }
+{
+    let phase = st.phase;
+    (!(phase < 4) | (st.lines == 0))
+        & (!(phase < 16) | (st.code == 0))
+        & (!(6 < phase) | (st.matched == 0))
+        & (st.sized | ((phase == 9) | (st.size == 0)))
+        & ((phase != 12) | !st.sized)
+}
+
+// Whether a state is valid: constant time, and every state that a run leaves passes.
+pub(crate) fn is_valid(st: Scan) -> bool
+    ensures { λ r. ⌜ (r ≡ true → Valid st) × (Valid st → r ≡ true) ⌝ }
+{
+    is_small(st) & is_so_far(st) & is_clean(st)
+}
