@@ -1,0 +1,293 @@
+//! Tests of the rules against slower readings of the definitions: items are put together by the
+//! grammar instead of taken apart, and "can still be finished" is looked up among their beginnings.
+
+use crate::item::{can_be_finished, first_item, parse, Answer, Command};
+use crate::listing;
+use crate::random::Random;
+use crate::streams;
+use std::collections::HashSet;
+
+/// The octets that the small rows are made of.
+const SMALL: &[u8] = b"ac\\:\n\r\0";
+
+/// All rows of so many octets.
+fn rows(length: usize) -> Vec<Vec<u8>> {
+    let mut rows = vec![Vec::new()];
+    for _ in 0..length {
+        rows = product(
+            &rows,
+            &SMALL.iter().map(|&octet| vec![octet]).collect::<Vec<_>>(),
+        );
+    }
+    rows
+}
+
+fn product(fronts: &[Vec<u8>], backs: &[Vec<u8>]) -> Vec<Vec<u8>> {
+    let with = |front: &Vec<u8>| -> Vec<Vec<u8>> {
+        backs
+            .iter()
+            .map(|back| [&front[..], back].concat())
+            .collect()
+    };
+    fronts.iter().flat_map(with).collect()
+}
+
+/// All texts of so many octets: sound octets and whole escapes.
+fn texts(command: Command, length: usize) -> Vec<Vec<u8>> {
+    if length == 0 {
+        return vec![Vec::new()];
+    }
+    let singles: &[u8] = if command.escapes() {
+        b"ac\0"
+    } else {
+        b"ac\0\\"
+    };
+    let singles: Vec<_> = singles.iter().map(|&octet| vec![octet]).collect();
+    let mut all = product(&singles, &texts(command, length - 1));
+    if command.escapes() && length > 1 {
+        let escapes = [b"\\c".to_vec(), b"\\\\".to_vec()];
+        all.extend(product(&escapes, &texts(command, length - 2)));
+    }
+    all
+}
+
+/// All header lines of so many octets, their line end counted.
+fn lines(command: Command, length: usize) -> Vec<Vec<u8>> {
+    let mut all = Vec::new();
+    for (end, width) in [(&b"\n"[..], 1), (b"\r\n", 2)] {
+        for name in 1..length.saturating_sub(width) {
+            let value = length - width - 1 - name;
+            let named = product(&texts(command, name), &[b":".to_vec()]);
+            let whole = product(&named, &texts(command, value));
+            all.extend(product(&whole, &[end.to_vec()]));
+        }
+    }
+    all
+}
+
+/// All header blocks of so many octets, with the empty line.
+fn blocks(command: Command, length: usize) -> Vec<Vec<u8>> {
+    let mut all = match length {
+        1 => vec![b"\n".to_vec()],
+        2 => vec![b"\r\n".to_vec()],
+        _ => Vec::new(),
+    };
+    for first in 1..length {
+        all.extend(product(
+            &lines(command, first),
+            &blocks(command, length - first),
+        ));
+    }
+    all
+}
+
+/// All that can follow the command's line in a frame, of so many octets.
+fn tails(command: Command, length: usize) -> Vec<Vec<u8>> {
+    let mut all = Vec::new();
+    for body in 0..length.saturating_sub(1) {
+        if body > 0 && !command.has_body() {
+            continue;
+        }
+        let bodies: Vec<_> = rows(body)
+            .into_iter()
+            .filter(|row| !row.contains(&0))
+            .collect();
+        let fronts = product(&blocks(command, length - body - 1), &bodies);
+        all.extend(product(&fronts, &[vec![0]]));
+    }
+    all
+}
+
+fn small_commands() -> Vec<Command> {
+    [&b"ACK"[..], b"SEND", b"CONNECT"]
+        .iter()
+        .filter_map(|name| Command::named(name))
+        .collect()
+}
+
+fn is_item(row: &[u8]) -> bool {
+    first_item(row).is_some_and(|item| item.length() == row.len())
+}
+
+#[test]
+fn items_are_those_of_the_grammar() {
+    for command in small_commands() {
+        let head = [command.name(), b"\n"].concat();
+        for length in 0..=7 {
+            let made: HashSet<Vec<u8>> = tails(command, length).into_iter().collect();
+            for tail in rows(length) {
+                assert_eq!(
+                    is_item(&[&head[..], &tail].concat()),
+                    made.contains(&tail),
+                    "{tail:?}"
+                );
+            }
+        }
+    }
+}
+
+#[test]
+fn unfinished_are_the_beginnings_of_items() {
+    for command in small_commands() {
+        let head = [command.name(), b"\n"].concat();
+        let mut beginnings = HashSet::new();
+        for tail in (0..=9).flat_map(|length| tails(command, length)) {
+            for end in 0..tail.len().min(5) {
+                beginnings.insert(tail[..end].to_vec());
+            }
+        }
+        for tail in (0..=4).flat_map(rows) {
+            let found = can_be_finished(&[&head[..], &tail].concat());
+            assert_eq!(found, beginnings.contains(&tail), "{head:?} {tail:?}");
+        }
+    }
+}
+
+/// Frames with up to two lines, whole or not: what content-length makes of the body.
+#[test]
+fn content_length_decides() {
+    let names = ["content-length", "a", "content-lengt"];
+    let values = [
+        "", "0", "1", "00", "01", "2", "10", "0a", "-1", "+1", " 1", "32769",
+    ];
+    let mut blocks = vec![Vec::new()];
+    let single: Vec<Vec<(&str, &str)>> = names
+        .iter()
+        .flat_map(|name| values.map(|value| vec![(*name, value)]))
+        .collect();
+    blocks.extend(single.iter().cloned());
+    for first in &single {
+        blocks.extend(single.iter().map(|second| [&first[..], second].concat()));
+    }
+    let bodies: Vec<Vec<u8>> = (0..=3)
+        .flat_map(rows)
+        .filter(|row| row.iter().all(|octet| b"a\0\r".contains(octet)))
+        .collect();
+    for command in small_commands() {
+        for block in &blocks {
+            for body in &bodies {
+                check_content_length(command, block, body);
+            }
+        }
+    }
+}
+
+fn check_content_length(command: Command, block: &[(&str, &str)], body: &[u8]) {
+    let mut frame = [command.name(), b"\n"].concat();
+    for (name, value) in block {
+        frame.extend_from_slice(format!("{name}:{value}\n").as_bytes());
+    }
+    frame.extend_from_slice(b"\n");
+    frame.extend_from_slice(body);
+    frame.push(0);
+    let digits = |text: &str| text.bytes().all(|octet| (b'0'..=b'9').contains(&octet));
+    let sound = match block.iter().find(|(name, _)| *name == "content-length") {
+        Some((_, value)) => digits(value) && value.parse() == Ok(body.len()),
+        None => !body.contains(&0),
+    };
+    let allowed = body.is_empty() || command.has_body();
+    assert_eq!(
+        is_item(&frame),
+        sound && allowed,
+        "{:?}",
+        String::from_utf8_lossy(&frame)
+    );
+}
+
+/// Whether a header line can go on, counted octet by octet with what it owes.
+fn can_go_on(command: Command, line: &[u8]) -> bool {
+    let (mut colon, mut escape) = (false, false);
+    for (index, &octet) in line.iter().enumerate() {
+        let letter = escape && b"rnc\\".contains(&octet);
+        if (escape && !letter) || octet == b'\n' || octet == b'\r' {
+            return false;
+        }
+        if octet == b':' {
+            if colon || index == 0 {
+                return false;
+            }
+            colon = true;
+        }
+        escape = !escape && octet == b'\\' && command.escapes();
+        if index + 1 + usize::from(!colon) + usize::from(escape) > 512 {
+            return false;
+        }
+    }
+    true
+}
+
+#[test]
+fn lines_owe_what_is_missing() {
+    let mut random = Random::new(1);
+    for round in 0..30_000 {
+        let command = small_commands()[round % 3];
+        let mut line = vec![b'v'; random.between(500, 514)];
+        if random.once_in(2) {
+            let colon = random.between(1, line.len() - 1);
+            line[colon] = b':';
+        }
+        for _ in 0..random.between(0, 3) {
+            let place = line.len() - 1 - random.below(6);
+            line[place] = random.pick(b"\\\\c:\n\ra");
+        }
+        let row = [command.name(), b"\n", &line].concat();
+        let whole = line.contains(&b'\n') || line.ends_with(b"\r");
+        if !whole {
+            assert_eq!(can_be_finished(&row), can_go_on(command, &line), "{line:?}");
+        }
+    }
+}
+
+/// The halving search finds what trying every beginning finds.
+#[test]
+fn the_offset_is_the_first_octet_that_no_item_has() {
+    let mut random = Random::new(2);
+    for _ in 0..3_000 {
+        let stream = streams::stream(&mut random);
+        let row = &stream[listing::read(&stream).reached..];
+        if row.len() > 200 {
+            continue;
+        }
+        if let Answer::Invalid { offset, .. } = parse(row) {
+            assert!((0..=offset).all(|end| can_be_finished(&row[..end])));
+            assert!((offset + 1..=row.len()).all(|end| !can_be_finished(&row[..end])));
+        }
+    }
+}
+
+/// The examples P1 to P13 and the listing that document 01 prints.
+#[test]
+fn examples() {
+    let examples: [(&[u8], &str); 14] = [
+        (b"", "0 end\n"),
+        (b"\n", "0 beat 1\n1 end\n"),
+        (b"\r\n", "0 beat 2\n2 end\n"),
+        (b"\rS", "0 refused 2 1\n"),
+        (b"SENT", "0 refused 1 3\n"),
+        (
+            b"SEND\ndestination:/p\n\nok\0",
+            "0 frame 12 24 1 21 2\n24 end\n",
+        ),
+        (b"ACK\nid:a\\cb\n\n\0", "0 frame 2 14 1 13 0\n14 end\n"),
+        (b"ACK\nid:a\\t", "0 refused 3 9\n"),
+        (b"ACK\n\nx", "0 refused 7 5\n"),
+        (
+            b"SEND\ncontent-length:1\n\n\0\0",
+            "0 frame 12 25 1 23 1\n25 end\n",
+        ),
+        (b"SEND\ncontent-length:32769", "0 refused 6 24\n"),
+        (b"ACK\ncontent-length:1", "0 refused 6 19\n"),
+        (
+            b"MESSAGE\nrun:b\nrun:a\n\n\0",
+            "0 frame 9 22 2 21 0\n22 end\n",
+        ),
+        (
+            b"\nACK\nid:a\\cb\n\n\0SENT",
+            "0 beat 1\n1 frame 2 14 1 13 0\n15 refused 1 3\n",
+        ),
+    ];
+    for (stream, listed) in examples {
+        assert_eq!(listing::of(stream), listed);
+    }
+    assert_eq!(parse(b""), Answer::Incomplete);
+}

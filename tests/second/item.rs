@@ -1,0 +1,309 @@
+//! The rules of document 01, "Items on the wire", read over whole items and whole lines.
+//!
+//! `first_item` is the only place that knows the format. Whether octets can still be finished is
+//! asked as the document asks it: is there a row of octets after them that makes the whole an item?
+
+use crate::table;
+
+/// The sizes.
+pub const MAX_LINES: usize = 32;
+pub const MAX_LINE: usize = 512;
+pub const MAX_BODY: usize = 32_768;
+
+pub const NUL: u8 = 0;
+pub const LF: u8 = 10;
+pub const CR: u8 = 13;
+pub const COLON: u8 = 58;
+pub const BACKSLASH: u8 = 92;
+
+/// The octets that may follow a backslash, where there are escapes.
+pub const ESCAPE_LETTERS: &[u8] = b"rnc\\";
+
+pub const CONTENT_LENGTH: &[u8] = b"content-length";
+
+/// The commands, in the order of their numbers; the first one is number 1.
+pub const COMMANDS: [&[u8]; 15] = [
+    b"ABORT",
+    b"ACK",
+    b"BEGIN",
+    b"COMMIT",
+    b"CONNECT",
+    b"CONNECTED",
+    b"DISCONNECT",
+    b"ERROR",
+    b"MESSAGE",
+    b"NACK",
+    b"RECEIPT",
+    b"SEND",
+    b"STOMP",
+    b"SUBSCRIBE",
+    b"UNSUBSCRIBE",
+];
+
+/// A command, held as its number, from 1.
+#[derive(Clone, Copy, PartialEq, Eq, Debug)]
+pub struct Command(pub usize);
+
+impl Command {
+    /// The command whose name the row is.
+    pub fn named(row: &[u8]) -> Option<Command> {
+        let index = COMMANDS.iter().position(|name| *name == row)?;
+        Some(Command(index + 1))
+    }
+
+    pub fn name(self) -> &'static [u8] {
+        COMMANDS[self.0 - 1]
+    }
+
+    /// "In CONNECT and CONNECTED there are no escapes." STOMP has them.
+    pub fn escapes(self) -> bool {
+        self.name() != b"CONNECT" && self.name() != b"CONNECTED"
+    }
+
+    /// "Only SEND, MESSAGE and ERROR may have a body."
+    pub fn has_body(self) -> bool {
+        [&b"SEND"[..], b"MESSAGE", b"ERROR"].contains(&self.name())
+    }
+
+    /// The longest body that the command may have.
+    pub fn max_body(self) -> usize {
+        if self.has_body() {
+            MAX_BODY
+        } else {
+            0
+        }
+    }
+}
+
+/// A frame's numbers: `length` is octets used, places count from the frame's start.
+#[derive(Clone, Copy, PartialEq, Eq, Debug)]
+pub struct Frame {
+    pub command: Command,
+    pub length: usize,
+    pub headers: usize,
+    pub body_start: usize,
+    pub body_length: usize,
+}
+
+/// An item. A heart-beat is the document's beat.
+#[derive(Clone, Copy, PartialEq, Eq, Debug)]
+pub enum Item {
+    HeartBeat { length: usize },
+    Frame(Frame),
+}
+
+impl Item {
+    pub fn length(self) -> usize {
+        match self {
+            Item::HeartBeat { length } => length,
+            Item::Frame(frame) => frame.length,
+        }
+    }
+}
+
+/// What parsing (the document's judging) answers: found, more, or refused with number and place.
+#[derive(Clone, Copy, PartialEq, Eq, Debug)]
+pub enum Answer {
+    Complete(Item),
+    Incomplete,
+    Invalid { code: usize, offset: usize },
+}
+
+/// Parses the first item of a row. The offset is the length of the longest viable beginning: that
+/// many octets can be had by an item, and with the octet that follows them they cannot.
+pub fn parse(row: &[u8]) -> Answer {
+    if let Some(item) = first_item(row) {
+        return Answer::Complete(item);
+    }
+    if can_be_finished(row) {
+        return Answer::Incomplete;
+    }
+    let offset = longest_viable(row);
+    let code = table::code(&row[..offset], row[offset]);
+    Answer::Invalid { code, offset }
+}
+
+/// The item that a beginning of the row is, if there is one. There is at most one, because no item
+/// is the beginning of a longer item.
+pub fn first_item(row: &[u8]) -> Option<Item> {
+    match line_end(row) {
+        Some(length) => Some(Item::HeartBeat { length }),
+        None => first_frame(row).map(Item::Frame),
+    }
+}
+
+/// "A line end is octet 10, or 13 then 10": the length of the one that the row begins with.
+fn line_end(row: &[u8]) -> Option<usize> {
+    if row.starts_with(&[LF]) {
+        Some(1)
+    } else if row.starts_with(&[CR, LF]) {
+        Some(2)
+    } else {
+        None
+    }
+}
+
+/// "command, line end, header lines each with a line end, an empty line, body, octet 0"
+fn first_frame(row: &[u8]) -> Option<Frame> {
+    let (command, block_start) = command_line(row)?;
+    let block = header_block(command, &row[block_start..])?;
+    let body_start = block_start + block.length;
+    let body_length = body(command, block.content_length, &row[body_start..])?;
+    Some(Frame {
+        command,
+        length: body_start + body_length + 1,
+        headers: block.lines,
+        body_start,
+        body_length,
+    })
+}
+
+/// The command that the row begins with, and the length of its line with the line end.
+pub fn command_line(row: &[u8]) -> Option<(Command, usize)> {
+    let (line, length) = first_line(row)?;
+    Some((Command::named(line)?, length))
+}
+
+/// The row's first line without its line end, and its length with the line end. No line of an item
+/// holds a raw 10 or 13, so the line reaches up to the first 10, and a 13 before that belongs to the
+/// line end. A line longer than the limit is not looked at further than the limit.
+pub fn first_line(row: &[u8]) -> Option<(&[u8], usize)> {
+    let reach = row.len().min(MAX_LINE + 2);
+    let end = row[..reach].iter().position(|&octet| octet == LF)?;
+    let line = &row[..end];
+    Some((line.strip_suffix(&[CR]).unwrap_or(line), end + 1))
+}
+
+/// A frame's header lines and the empty line: how many lines, what the first content-length says,
+/// and the length of it all.
+pub struct HeaderBlock {
+    pub lines: usize,
+    pub content_length: Option<usize>,
+    pub length: usize,
+}
+
+/// The header lines and the empty line that the row begins with.
+pub fn header_block(command: Command, row: &[u8]) -> Option<HeaderBlock> {
+    let mut block = HeaderBlock {
+        lines: 0,
+        content_length: None,
+        length: 0,
+    };
+    loop {
+        let (line, length) = first_line(&row[block.length..])?;
+        block.length += length;
+        if line.is_empty() {
+            return Some(block);
+        }
+        if block.lines == MAX_LINES {
+            return None;
+        }
+        block.lines += 1;
+        let (name, value) = header_line(command, line)?;
+        // "The first entry named content-length decides ... Later entries are not examined."
+        if name == CONTENT_LENGTH && block.content_length.is_none() {
+            block.content_length = Some(content_length(command, value)?);
+        }
+    }
+}
+
+/// "A header line is a name of at least one octet, a colon, a value that may be empty." Gives name
+/// and value, both raw.
+fn header_line(command: Command, line: &[u8]) -> Option<(&[u8], &[u8])> {
+    let colon = line.iter().position(|&octet| octet == COLON)?;
+    let (name, value) = (&line[..colon], &line[colon + 1..]);
+    let sound = line.len() <= MAX_LINE
+        && !name.is_empty()
+        && is_text(command, name)
+        && is_text(command, value);
+    sound.then_some((name, value))
+}
+
+/// Raw header text: no 10, 13 or colon; where the command escapes, whole escapes only.
+fn is_text(command: Command, text: &[u8]) -> bool {
+    match text {
+        [] => true,
+        [LF | CR | COLON, ..] => false,
+        [BACKSLASH, rest @ ..] if command.escapes() => match rest {
+            [letter, rest @ ..] => ESCAPE_LETTERS.contains(letter) && is_text(command, rest),
+            [] => false,
+        },
+        [_, rest @ ..] => is_text(command, rest),
+    }
+}
+
+/// "one or more digits, leading zeros allowed, at most 32,768, and 0 where no body is allowed"
+pub fn content_length(command: Command, value: &[u8]) -> Option<usize> {
+    if value.is_empty() || !value.iter().all(u8::is_ascii_digit) {
+        return None;
+    }
+    // Without its leading zeros a number of more than five digits is above every limit, and one of
+    // five digits fits any integer.
+    let zeros = value.iter().take_while(|&&digit| digit == b'0').count();
+    let digits = &value[zeros..];
+    if digits.len() > 5 {
+        return None;
+    }
+    let number = digits
+        .iter()
+        .fold(0, |sum, &digit| sum * 10 + usize::from(digit - b'0'));
+    (number <= command.max_body()).then_some(number)
+}
+
+/// The length of the body that the row begins with, if octet 0 follows it. "The body is that many
+/// octets, whatever they are, then octet 0. Without the entry the body ends before the first octet 0."
+fn body(command: Command, declared: Option<usize>, row: &[u8]) -> Option<usize> {
+    let length = match declared {
+        Some(length) => length,
+        None => row
+            .iter()
+            .take(command.max_body() + 1)
+            .position(|&octet| octet == NUL)?,
+    };
+    (row.get(length) == Some(&NUL)).then_some(length)
+}
+
+/// What may be missing from an unfinished item behind its command's letters, up to its body: nothing,
+/// the empty line, a line end and the empty line; before those, in a header line, a colon, an escape's
+/// letter, a digit of a content-length.
+const ENDINGS: [&[u8]; 8] = [
+    b"", b"\n", b"\n\n", b":\n\n", b"c\n\n", b"c:\n\n", b"0\n\n", b":0\n\n",
+];
+
+/// "Octets are an unfinished beginning, and can still be finished, exactly if one or more octets
+/// after them make the whole an item." The endings tried are the shortest ones for each case; where
+/// a longer ending makes an item, one of these does too.
+pub fn can_be_finished(row: &[u8]) -> bool {
+    let finishes_here = |ending: &&[u8]| finishes(row, ending);
+    let finishes_command = |name: &&[u8]| match name.strip_prefix(row) {
+        Some(letters) => finishes(row, &[letters, b"\n\n"].concat()),
+        None => false,
+    };
+    ENDINGS.iter().any(finishes_here) || COMMANDS.iter().any(finishes_command)
+}
+
+/// Whether the row, the ending and then some octets 0 make an item that is longer than the row. The
+/// octets 0 fill up the longest body and end the frame; those that are not needed stay behind it.
+fn finishes(row: &[u8], ending: &[u8]) -> bool {
+    let mut whole = Vec::with_capacity(row.len() + ending.len() + MAX_BODY + 1);
+    whole.extend_from_slice(row);
+    whole.extend_from_slice(ending);
+    whole.resize(whole.len() + MAX_BODY + 1, NUL);
+    first_item(&whole).is_some_and(|item| item.length() > row.len())
+}
+
+/// The length of the longest beginning that can still be finished, of a row that holds no item and
+/// cannot be finished itself. Every beginning of an unfinished beginning can be finished too, so the
+/// search may halve: `low` octets always can be finished, `high` octets never.
+fn longest_viable(row: &[u8]) -> usize {
+    let (mut low, mut high) = (0, row.len());
+    while high - low > 1 {
+        let middle = (low + high) / 2;
+        if can_be_finished(&row[..middle]) {
+            low = middle;
+        } else {
+            high = middle;
+        }
+    }
+    low
+}

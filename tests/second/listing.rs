@@ -1,0 +1,87 @@
+//! The listing of a stream: its items one after another, and how it ends.
+
+use crate::item::{parse, Answer, Item};
+use std::fmt::Write;
+
+/// How a stream ends, behind its last item.
+pub enum End {
+    Refused { code: usize, offset: usize },
+    More,
+    Nothing,
+}
+
+/// A stream taken apart: each item with its start, then the start reached and what is there. Starts
+/// count from the stream's beginning.
+pub struct Listing {
+    pub items: Vec<(usize, Item)>,
+    pub reached: usize,
+    pub end: End,
+}
+
+/// Takes a stream apart, item by item.
+pub fn read(stream: &[u8]) -> Listing {
+    let mut items = Vec::new();
+    let mut reached = 0;
+    while reached < stream.len() {
+        match parse(&stream[reached..]) {
+            Answer::Complete(item) => {
+                items.push((reached, item));
+                reached += item.length();
+            }
+            Answer::Incomplete => {
+                return Listing {
+                    items,
+                    reached,
+                    end: End::More,
+                }
+            }
+            Answer::Invalid { code, offset } => {
+                return Listing {
+                    items,
+                    reached,
+                    end: End::Refused { code, offset },
+                };
+            }
+        }
+    }
+    Listing {
+        items,
+        reached,
+        end: End::Nothing,
+    }
+}
+
+/// Writes a listing: each line ends in LF.
+pub fn write(listing: &Listing) -> String {
+    let mut text = String::new();
+    for (start, item) in &listing.items {
+        write_item(&mut text, *start, item);
+    }
+    let start = listing.reached;
+    let written = match listing.end {
+        End::Refused { code, offset } => writeln!(text, "{start} refused {code} {offset}"),
+        End::More => writeln!(text, "{start} more"),
+        End::Nothing => writeln!(text, "{start} end"),
+    };
+    written.expect("writing into a string");
+    text
+}
+
+/// The item's start, then its octets for a beat, or command, octets, headers, body start and body
+/// length.
+fn write_item(text: &mut String, start: usize, item: &Item) {
+    let written = match item {
+        Item::HeartBeat { length } => writeln!(text, "{start} beat {length}"),
+        Item::Frame(frame) => writeln!(
+            text,
+            "{start} frame {} {} {} {} {}",
+            frame.command.0, frame.length, frame.headers, frame.body_start, frame.body_length
+        ),
+    };
+    written.expect("writing into a string");
+}
+
+/// The listing of a stream, written.
+pub fn of(stream: &[u8]) -> String {
+    write(&read(stream))
+}

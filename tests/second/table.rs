@@ -1,0 +1,207 @@
+//! The table of refusals, document 01, "The judge's three replies": one predicate for each row, asked
+//! in the rows' order about the octet at the place. "Where several fit one octet, the lowest number is
+//! given", so the first row that fits gives the number.
+
+use crate::item::{
+    command_line, content_length, first_line, header_block, Command, BACKSLASH, COLON, COMMANDS,
+    CONTENT_LENGTH, CR, ESCAPE_LETTERS, LF, MAX_BODY, MAX_LINE, MAX_LINES, NUL,
+};
+
+/// Where in an item the octet at the place stands.
+enum Part<'a> {
+    /// In the command or its line end, or at the item's start.
+    Command,
+    /// In a header line or its line end, or at the line's start: the whole lines before it, and what
+    /// there is of the line itself.
+    Line {
+        command: Command,
+        earlier: Vec<&'a [u8]>,
+        line: &'a [u8],
+    },
+    /// In the body, or where octet 0 ends it: what content-length says, and the octets read.
+    Body {
+        command: Command,
+        declared: Option<usize>,
+        read: usize,
+    },
+}
+
+/// The octet at the place with what stands before it in its item.
+struct Place<'a> {
+    before: &'a [u8],
+    octet: u8,
+    part: Part<'a>,
+}
+
+type Row = fn(&Place) -> bool;
+
+const ROWS: [Row; 7] = [
+    leaves_no_command,
+    follows_13,
+    spoils_line,
+    makes_line_too_long,
+    begins_line_too_many,
+    spoils_content_length,
+    stands_in_place_of_0,
+];
+
+/// The number of the refusal at an octet, where `before` can still be finished and cannot with the
+/// octet behind it.
+pub fn code(before: &[u8], octet: u8) -> usize {
+    let place = Place {
+        before,
+        octet,
+        part: part_after(before),
+    };
+    let row = ROWS.iter().position(|fits| fits(&place));
+    row.expect("a row of the table fits every refused octet") + 1
+}
+
+/// Finds the part of the item that the octet after `before` stands in, by whole lines.
+fn part_after(before: &[u8]) -> Part<'_> {
+    let Some((command, start)) = command_line(before) else {
+        return Part::Command;
+    };
+    let mut rest = &before[start..];
+    if let Some(block) = header_block(command, rest) {
+        let read = rest.len() - block.length;
+        return Part::Body {
+            command,
+            declared: block.content_length,
+            read,
+        };
+    }
+    let mut earlier = Vec::new();
+    while let Some((line, length)) = first_line(rest) {
+        earlier.push(line);
+        rest = &rest[length..];
+    }
+    Part::Line {
+        command,
+        earlier,
+        line: rest,
+    }
+}
+
+fn is_line_end(octet: u8) -> bool {
+    octet == LF || octet == CR
+}
+
+/// Whether a 13 that begins a line end stands just before the place. In command and header lines
+/// every 13 does; in a body a 13 is an octet like any other.
+fn after_13(place: &Place) -> bool {
+    let in_body = matches!(place.part, Part::Body { .. });
+    !in_body && place.before.last() == Some(&CR)
+}
+
+/// "1 | leaves no command, and is not the start of a beat; never after a 13"
+fn leaves_no_command(place: &Place) -> bool {
+    if !matches!(place.part, Part::Command) || after_13(place) {
+        return false;
+    }
+    let with = [place.before, &[place.octet]].concat();
+    let begins = |name: &&[u8]| name.starts_with(&with);
+    let ends = is_line_end(place.octet) && Command::named(place.before).is_some();
+    let is_beat = is_line_end(place.octet) && place.before.is_empty();
+    !COMMANDS.iter().any(begins) && !ends && !is_beat
+}
+
+/// "2 | follows 13 and is not 10"
+fn follows_13(place: &Place) -> bool {
+    after_13(place) && place.octet != LF
+}
+
+/// "3 | spoils the header line: colon with an empty name, second colon, line end before the colon,
+/// wrong or cut escape"
+fn spoils_line(place: &Place) -> bool {
+    let Part::Line { command, line, .. } = &place.part else {
+        return false;
+    };
+    let colon_before = line.contains(&COLON);
+    let colon_with_empty_name = line.is_empty() && place.octet == COLON;
+    let second_colon = colon_before && place.octet == COLON;
+    // "A 13 in a header line can only begin a line end." In an empty line the line end is in place.
+    let line_end_before_colon = !line.is_empty() && !colon_before && is_line_end(place.octet);
+    let bad_escape = in_escape(*command, line) && !ESCAPE_LETTERS.contains(&place.octet);
+    colon_with_empty_name || second_colon || line_end_before_colon || bad_escape
+}
+
+/// "4 | makes the line, with what it still owes, longer than 512; a missing colon owes 1, an
+/// unfinished escape 1"
+fn makes_line_too_long(place: &Place) -> bool {
+    let Part::Line { command, line, .. } = &place.part else {
+        return false;
+    };
+    if is_line_end(place.octet) {
+        return false;
+    }
+    let with = [line, &[place.octet][..]].concat();
+    let owed = usize::from(!with.contains(&COLON)) + usize::from(in_escape(*command, &with));
+    with.len() + owed > MAX_LINE
+}
+
+/// "5 | begins a 33rd header line"
+fn begins_line_too_many(place: &Place) -> bool {
+    let Part::Line { earlier, line, .. } = &place.part else {
+        return false;
+    };
+    earlier.len() == MAX_LINES && line.is_empty() && !is_line_end(place.octet)
+}
+
+/// "6 | spoils the first content-length: not a digit, line end with no digit, value too large"
+fn spoils_content_length(place: &Place) -> bool {
+    let Part::Line {
+        command,
+        earlier,
+        line,
+    } = &place.part
+    else {
+        return false;
+    };
+    let Some(digits) = content_length_value(line) else {
+        return false;
+    };
+    if earlier
+        .iter()
+        .any(|line| content_length_value(line).is_some())
+    {
+        return false;
+    }
+    if is_line_end(place.octet) {
+        return digits.is_empty();
+    }
+    // With the octet behind them the digits are no number, or one that is too large.
+    content_length(*command, &[digits, &[place.octet]].concat()).is_none()
+}
+
+/// "7 | stands where only octet 0 can: empty body, 32,768 octets read, or content-length used up"
+fn stands_in_place_of_0(place: &Place) -> bool {
+    let Part::Body {
+        command,
+        declared,
+        read,
+    } = &place.part
+    else {
+        return false;
+    };
+    let empty_body = !command.has_body();
+    let all_read = *read == MAX_BODY;
+    let used_up = *declared == Some(*read);
+    (empty_body || all_read || used_up) && place.octet != NUL
+}
+
+/// What there is of the value, where the line is named content-length.
+fn content_length_value(line: &[u8]) -> Option<&[u8]> {
+    line.strip_prefix(CONTENT_LENGTH)?.strip_prefix(&[COLON])
+}
+
+/// Whether the line stops inside an escape: an odd number of backslashes at its end, where the
+/// command escapes. (What stands before is sound, so those backslashes pair up from the left.)
+fn in_escape(command: Command, line: &[u8]) -> bool {
+    let backslashes = line
+        .iter()
+        .rev()
+        .take_while(|&&octet| octet == BACKSLASH)
+        .count();
+    command.escapes() && backslashes % 2 == 1
+}
