@@ -11,7 +11,7 @@ use lib.ListN.{length, length-append}
 use Rattle.headers.specs.Rows.{All}
 use Rattle.headers.specs.declared.text.Style.{Style}
 use Rattle.frames.specs.Grammar.{Version, Command, word, most, end, Line, line, lines, LineOk, LengthOk, BodyOk, declared, Tree, heart-beat, frame, octets, Shaped, ABORT, ACK, BEGIN, COMMIT, CONNECT, CONNECTED, DISCONNECT, ERROR, MESSAGE, NACK, RECEIPT, SEND, STOMP, SUBSCRIBE, UNSUBSCRIBE}
-use Rattle.frames.specs.Replies.{Reply, Incomplete}
+use Rattle.frames.specs.Replies.{Reply, Complete, Incomplete, Invalid, told, used-of}
 use Rattle.frames.specs.Exactness.{Item, Viable, Exact}
 
 end-short : (e : Bool) → length (end e) ≤ 2
@@ -31,6 +31,10 @@ lines-short s (l ∷ ls) (ok, oks) =
 body-short : (m : ℕ) (d : Option (List ℕ)) (b : List ℕ) → LengthOk m d → BodyOk m d b → length b ≤ m
 body-short m none b l h = h .0
 body-short m (some v) b l h = omega (arith, l .small)
+
+told-used : (t : Tree) → used-of (told t) ≡ length (octets t)
+told-used (heart-beat e) = refl
+told-used (frame h e b) = refl
 
 module _ (ver : Version) where
   pub tree-short : (t : Tree) → Shaped ver t → length (octets t) ≤ 49228
@@ -55,3 +59,11 @@ module _ (ver : Version) where
   -- so an Incomplete reply is only given to fewer
   pub incomplete-short : (xs : List ℕ) (r : Reply) → Exact ver xs r → r ≡ Incomplete → length xs < 49228
   incomplete-short xs r x e = viable-short xs (rw e at (x .claims) .0)
+
+  -- the octets of an item are among those given
+  pub used-within : (xs : List ℕ) (r : Reply) → Exact ver xs r → used-of r ≤ length xs
+  used-within xs (Complete k u c h s l) x =
+      let (t, rest, b, e, only, not) = x .claims in
+      omega (arith, ap used-of e, told-used t, ap length (b .1), length-append (octets t) rest)
+  used-within xs Incomplete x = omega arith
+  used-within xs (Invalid k n) x = omega arith

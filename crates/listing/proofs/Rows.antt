@@ -14,7 +14,8 @@ use Rattle.headers.specs.Answers.{accepted, refused, left-in, decimal-answer}
 use borrow.Rule.Slice.PartMut.{midOf, putMid}
 use Rattle.headers.proofs.Put.{store-grow, put-grow}
 use Rattle.headers.proofs.Numerals.{length-shortest, size-least}
-use Rattle.listing.specs.Lines.{numbers, behind-at}
+use Rattle.headers.proofs.Rows.{cond-case}
+use Rattle.listing.specs.Lines.{numbers, behind-at, line-used, line-left}
 
 -- a number of 64 bits has at most twenty digits
 pub shortest-twenty : (n : ℕ) → n < 2 ^ 64 → length (shortest n) ≤ 20
@@ -66,3 +67,9 @@ put-both d l ys S R k r ek er el kept fits is =
     let mid : length (midOf k (length l - k) l) ≡ length d - k = simp (length-take, length-drop) (omega arith) in
     let room : k + r ≤ length d = omega (arith, simp length-append at (ap length is)) in
     (whole, put-grow d l S R ys k r el (sym ek) (sym er) room is ∙ ap (λ z. (S ++ R) ++ drop z d) whole, room)
+
+-- a line that is left in a buffer is no longer than the buffer
+pub line-fits : (d d′ l : List ℕ) → d′ ≡ line-left d l → length d′ ≡ length d → line-used (length d) l ≤ length d
+line-fits d d′ l e same =
+    cond-case (λ k. k ≤ length d) (ltb (length d) 160) (λ h. omega arith)
+    λ h. let z : line-left d l ≡ l ++ drop (length l) d = rw h refl in omega (arith, ap length (e ∙ z), length-append l (drop (length l) d))

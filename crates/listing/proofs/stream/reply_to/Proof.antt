@@ -1,0 +1,36 @@
+use Prim.Native.Nat.{_≤_, _-_}
+use native.Mathlib.Omega.{arith}
+use lib.ListN.{length, take, drop, length-take, length-drop}
+use Rattle.frames.specs.Grammar.{v1-2}
+use Rattle.frames.proofs.Sizes.{used-within}
+use borrow.Author.Needs.{needs}
+use Rattle.listing.proofs.stream.reply_to.Statement.{statement}
+use Rattle.listing.proofs.stream.reply_to.Tie as tie
+
+-- src/stream.rt:173:26
+sub-parse : tie.Need-sub-parse
+sub-parse c = search needs
+
+-- src/stream.rt:173:26
+part-parse-start : tie.Need-part-parse-start
+part-parse-start c = search needs
+
+-- src/stream.rt:173:26
+part-parse-end : tie.Need-part-parse-end
+part-parse-end c = search needs
+
+-- src/stream.rt:173:5
+parse-requires : tie.Need-parse-requires
+parse-requires c κs = search needs
+
+-- src/stream.rt:166:1
+returns : tie.Need-returns
+returns c =
+    let a = c .before .before .before .args in
+    let xs = take (a .hi - a .lo) (drop (a .lo) (a .buf .now)) in
+    let long : length xs ≤ a .hi - a .lo = simp (length-take, length-drop) (omega arith) in
+    (c .parse .ensures .0, omega (arith, used-within v1-2 xs _ (c .parse .ensures .1), long, c .before .before .before .pre .0))
+
+pub reply-to-spec : {M : Type 1} → statement M
+reply-to-spec =
+    tie.close (tie.spec sub-parse part-parse-start part-parse-end parse-requires returns)

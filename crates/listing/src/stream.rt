@@ -1,0 +1,229 @@
+// The listing of a stream: its octets pass through one buffer, and the lines of its items through another.
+ghost use mathlib.Core.Path.{_≡_};
+ghost use Prim.Native.Nat.{_+_, _-_, _≤_, _<_, min};
+ghost use lib.ListN.{length, take, drop};
+ghost use Rattle.frames.specs.Grammar.{v1-2};
+ghost use Rattle.frames.specs.Parsing.{parsed};
+ghost use Rattle.frames.specs.Replies.{used-of};
+ghost use Rattle.frames.specs.Answers.{parsed-says};
+ghost use Rattle.listing.specs.Streams.{Room};
+use frames::parse::Parsed;
+
+// How far a stream is listed.
+pub struct Progress {
+    // The octets read and not yet listed, in the one buffer.
+    pub lo: usize,
+    pub hi: usize,
+    // The octets of lines not yet written, at the front of the other.
+    pub used: usize,
+    // Where the next item starts in the stream.
+    pub start: u64,
+    // The stream has no more octets.
+    pub ended: bool,
+    // Reading, writing or counting failed.
+    pub failed: bool,
+    // The last line is laid out.
+    pub done: bool,
+}
+
+// The octets that are not listed moved to the front: how many they are.
+fn shift(buf: &mut [u8], lo: usize, hi: usize) -> usize
+    requires { ⌜ (lo ≤ hi) × (hi ≤ length (now buf)) ⌝ }
+    ensures { λ r. ⌜ (r ≤ length (now (buf .entry))) × (length (now (buf .exit)) ≡ length (now (buf .entry))) ⌝ }
+{
+    let n = hi - lo;
+    let mut i = 0usize;
+    while i < n {
+        buf[i] = buf[lo + i];
+        i += 1;
+    }
+    n
+}
+
+// How much of a buffer is filled, and whether that is for want of more or for a failure.
+struct Filled {
+    hi: usize,
+    ended: bool,
+    failed: bool,
+}
+
+// Octets of fd behind the first ones of buf, until buf is full or fd has no more.
+fn fill(fd: i32, buf: &mut [u8], from: usize) -> Filled
+    requires { ⌜ from ≤ length (now buf) ⌝ }
+    ensures { λ r. ⌜ (r .hi ≤ length (now (buf .entry))) × (length (now (buf .exit)) ≡ length (now (buf .entry))) ⌝ }
+{
+    let mut hi = from;
+    while hi < buf.len() {
+        let part = &mut buf[hi..];
+        let got = libc::read(fd, part);
+        let n = io::count(got, part);
+        if n == 0 {
+            return Filled {
+                hi,
+                ended: true,
+                failed: got < 0,
+            };
+        }
+        hi += n;
+    }
+    Filled {
+        hi,
+        ended: false,
+        failed: false,
+    }
+}
+
+// More octets to list.
+fn refill(fd: i32, buf: &mut [u8], p: Progress) -> Progress
+    requires { ⌜ (p .lo ≤ p .hi) × (p .hi ≤ length (now buf)) ⌝ }
+    ensures { λ r. ⌜
+        (r .lo ≡ 0) × (r .hi ≤ length (now (buf .entry))) × (r .used ≡ p .used)
+        × (length (now (buf .exit)) ≡ length (now (buf .entry)))
+        ⌝ }
+{
+    let n = shift(buf, p.lo, p.hi);
+    let f = fill(fd, buf, n);
+    Progress {
+        lo: 0,
+        hi: f.hi,
+        used: p.used,
+        start: p.start,
+        ended: f.ended,
+        failed: f.failed,
+        done: false,
+    }
+}
+
+// The lines laid out are written.
+fn flush(out: &[u8], p: Progress) -> Progress
+    requires { ⌜ p .used ≤ length (now out) ⌝ }
+    ensures { λ r. ⌜ (r .lo ≡ p .lo) × (r .hi ≡ p .hi) × (r .used ≡ 0) ⌝ }
+{
+    let used = p.used;
+    let written = io::write_all(1, &out[0..used]);
+    Progress {
+        lo: p.lo,
+        hi: p.hi,
+        used: 0,
+        start: p.start,
+        ended: p.ended,
+        failed: p.failed | !written,
+        done: p.done,
+    }
+}
+
+// The lesser of two numbers.
+fn lesser(a: u64, b: u64) -> u64
+    ensures { λ r. ⌜ r ≡ min a b ⌝ }
+{
+    if a < b { a } else { b }
+}
+
+// A line of k octets is laid out, for n octets of the stream. Behind the largest position there is none, and counting fails.
+fn advance(p: Progress, n: usize, k: usize, last: bool) -> Progress
+    requires { ⌜ (p .lo + n ≤ p .hi) × (p .used + k < 18446744073709551616) ⌝ }
+    ensures { λ r. ⌜ (r .lo ≡ p .lo + n) × (r .hi ≡ p .hi) × (r .used ≡ p .used + k) ⌝ }
+{
+    let most = u64::MAX - p.start;
+    let on = lesser(n as u64, most);
+    Progress {
+        lo: p.lo + n,
+        hi: p.hi,
+        used: p.used + k,
+        start: p.start + on,
+        ended: p.ended,
+        failed: on < (n as u64),
+        done: last,
+    }
+}
+
+// The octets of the item that a reply tells of, or 0.
+fn used_of(reply: Parsed) -> usize
+    ensures { λ r. ⌜ r ≡ used-of (parsed-says reply) ⌝ }
+{
+    match reply {
+        Parsed::Complete(i) => i.len,
+        Parsed::Incomplete => 0,
+        Parsed::Invalid(r) => 0,
+    }
+}
+
+fn is_complete(reply: Parsed) -> bool {
+    match reply {
+        Parsed::Complete(i) => true,
+        _ => false,
+    }
+}
+
+fn is_incomplete(reply: Parsed) -> bool {
+    match reply {
+        Parsed::Incomplete => true,
+        _ => false,
+    }
+}
+
+// The reply to the octets from lo to hi.
+fn reply_to(buf: &[u8], lo: usize, hi: usize) -> Parsed
+    requires { ⌜ (lo ≤ hi) × (hi ≤ length (now buf)) ⌝ }
+    ensures { λ r. ⌜
+        (parsed-says r ≡ parsed v1-2 (take (hi - lo) (drop lo (now (buf .entry)))))
+        × (lo + used-of (parsed-says r) ≤ hi)
+        ⌝ }
+{
+    frames::parse::parse(&buf[lo..hi])
+}
+
+// The line of a reply behind the lines laid out: its length.
+fn lay(out: &mut [u8], used: usize, start: u64, reply: Parsed, nothing_left: bool) -> usize
+    requires { ⌜ used ≤ length (now out) ⌝ }
+    ensures { λ r. ⌜ (used + r ≤ length (now (out .entry))) × (length (now (out .exit)) ≡ length (now (out .entry))) ⌝ }
+{
+    crate::line::put_line(&mut out[used..], start, reply, nothing_left)
+}
+
+// One line, or one reading, or one writing.
+fn turn(fd: i32, buf: &mut [u8], out: &mut [u8], p: Progress) -> Progress
+    requires { ⌜ Room (length (now buf)) (length (now out)) p ⌝ }
+    ensures { λ r. ⌜
+        Room (length (now (buf .entry))) (length (now (out .entry))) r
+        × (length (now (buf .exit)) ≡ length (now (buf .entry))) × (length (now (out .exit)) ≡ length (now (out .entry)))
+        ⌝ }
+{
+    let used = p.used;
+    if out.len() - used < 160 {
+        return flush(out, p);
+    }
+    let reply = reply_to(buf, p.lo, p.hi);
+    if is_incomplete(reply) & !p.ended {
+        return refill(fd, buf, p);
+    }
+    let k = lay(out, used, p.start, reply, p.lo == p.hi);
+    advance(p, used_of(reply), k, !is_complete(reply))
+}
+
+// Lists the octets of fd on standard output, with two buffers: whether the last line is written.
+fn list_in(fd: i32, buf: &mut [u8], out: &mut [u8]) -> bool {
+    let mut p = Progress {
+        lo: 0,
+        hi: 0,
+        used: 0,
+        start: 0,
+        ended: false,
+        failed: false,
+        done: false,
+    };
+    let mut turns = u64::MAX;
+    while turns > 0 && !(p.failed | p.done) {
+        p = turn(fd, buf, out, p);
+        turns -= 1;
+    }
+    let q = flush(out, p);
+    q.done & !q.failed
+}
+
+// Lists the octets of fd on standard output, to their end, a line for each item: whether the last line is written.
+pub fn list(fd: i32) -> bool {
+    let mut octets = io::large_buffer();
+    let mut lines = io::large_buffer();
+    list_in(fd, &mut octets, &mut lines)
+}
