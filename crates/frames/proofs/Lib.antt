@@ -20,3 +20,4 @@ pub mod Packing
 pub mod Bounds
 pub mod Steps
 pub mod Running
+pub mod Named

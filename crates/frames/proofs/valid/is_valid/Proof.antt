@@ -1,5 +1,4 @@
 -- `valid::is_valid` meets its contract: the tests pass exactly where the state is valid.
-use mathlib.Core.Path.{_≡_, refl}
 use borrow.Author.Needs.{needs}
 use Rattle.frames.specs.Validity.{is-valid}
 use Rattle.frames.proofs.Checks.{valid-tested}
