@@ -1,24 +1,13 @@
 -- What a state that a run leaves keeps is enough for one octet more. Assumes nothing.
 use mathlib.Core.Path.{_≡_, refl}
-use mathlib.Core.Bool.{Bool, true, false, _&&_}
-use Prim.Native.Nat.{ℕ, zero, suc, _+_, _<_, _≤_}
-use native.Mathlib.Nat.{le-of-suc-le-suc}
+use mathlib.Core.Bool.{Bool, false}
+use Prim.Native.Nat.{ℕ, _+_, _≤_}
 use native.Mathlib.Omega.{arith}
 use lib.Dec.{T, leb, ltb, eqb, ltb→lt}
 use borrow.Author.Tests.{leb-true, ne-eqb}
-use Rattle.headers.proofs.Rows.{and-left, and-right}
+use Rattle.frames.proofs.Upto.{upto-at}
 use Rattle.frames.specs.declared.scan.Scan.{Scan}
 use Rattle.frames.specs.Scanning.{Reached, Bounded, len-max, outside, Valid, scan-step}
-
--- a test that holds of each number below n
-abbrev each : (ℕ → Bool) → ℕ → Bool
-each f zero = true
-each f (suc n) = f 0 && each (λ k. f (suc k)) n
-
-each-one : (f : ℕ → Bool) (n k : ℕ) → each f n ≡ true → k < n → f k ≡ true
-each-one f zero k h l = absurd (omega arith)
-each-one f (suc n) zero h l = and-left (f 0) (each (λ k. f (suc k)) n) h
-each-one f (suc n) (suc k) h l = each-one (λ k. f (suc k)) n k (and-right (f 0) (each (λ k. f (suc k)) n) h) (le-of-suc-le-suc l)
 
 -- the longest line or body at a phase, and the octets outside the lines with it
 abbrev longest : ℕ → Bool
@@ -30,8 +19,8 @@ widest p = leb (outside p + len-max p) 49231
 pub bounded : (st : Scan) → Valid st → Bounded st
 bounded st v =
     let p = st .phase in
-    let a = leb-true (len-max p) 32768 (each-one longest 17 p refl (omega arith)) in
-    let b = leb-true (outside p + len-max p) 49231 (each-one widest 17 p refl (omega arith)) in
+    let a = leb-true (len-max p) 32768 (upto-at longest 17 p refl (omega arith)) in
+    let b = leb-true (outside p + len-max p) 49231 (upto-at widest 17 p refl (omega arith)) in
     record { few-lines = omega arith; small-size = v .small; small-len = omega arith; small-at = omega arith }
 
 -- where a line begins, nothing of it is read; where an item begins, nothing of its word is

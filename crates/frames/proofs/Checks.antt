@@ -9,6 +9,7 @@ use lib.Dec.{eqb, leb, ltb}
 use borrow.Author.Tests.{leb-true, ltb-true, eqb-true, lt-ltb, le-leb, eq-eqb, not-true}
 use Rattle.headers.specs.Rows.{begins}
 use Rattle.headers.proofs.Rows.{and-left, and-right}
+use Rattle.frames.proofs.Upto.{upto, upto-at}
 use Rattle.frames.specs.Open.{all}
 use Rattle.frames.specs.Parsing.{first}
 use Rattle.frames.specs.declared.scan.Scan.{Scan}
@@ -62,16 +63,6 @@ turned : {b : Bool} {A B : Type 0} → Decides b A → (A → B) → (B → A) �
 turned p f g = record { pass = λ h. f (p .pass h); sure = λ y. p .sure (g y) }
 
 -- ---- which commands and places are reached: computed at each number up to 15 and each place up to 11
-
--- the test passes at each number below n
-abbrev upto : (ℕ → Bool) → ℕ → Bool
-upto f zero = true
-upto f (suc n) = f 0 && upto (λ i. f (suc i)) n
-
-upto-at : (f : ℕ → Bool) (n k : ℕ) → upto f n ≡ true → k < n → f k ≡ true
-upto-at f zero k t h = absurd (omega arith)
-upto-at f (suc n) zero t h = and-left (f 0) (upto (λ i. f (suc i)) n) t
-upto-at f (suc n) (suc k) t h = upto-at (λ i. f (suc i)) n k (and-right (f 0) (upto (λ i. f (suc i)) n) t) (omega arith)
 
 -- Reached, by the words
 abbrev by-word : ℕ → ℕ → Bool

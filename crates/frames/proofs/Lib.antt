@@ -11,6 +11,7 @@ pub mod Exact
 pub mod Lowest
 pub mod Examples
 pub mod Scanning
+pub mod Upto
 pub mod Words
 pub mod Validity
 pub mod Checks

@@ -1,14 +1,12 @@
 -- A run over the octets of a row from a place on. Assumes nothing.
 use mathlib.Core.Path.{_≡_, refl, sym, _∙_, ap, subst}
-use mathlib.Core.Bool.{Bool, true, false}
+use mathlib.Core.Bool.{true}
 use mathlib.Core.List.{List, [], _∷_}
 use Prim.Native.Nat.{ℕ, suc, _+_, _≤_, _<_}
 use native.Mathlib.Numerals.{add-one}
-use native.Mathlib.Omega.{arith}
-use lib.Dec.{eqb}
 use lib.ListN.{length, drop, getD, drop-of-length-le}
 use lib.Seq.{drop-cons}
-use borrow.Author.Tests.{eqb-true, lt-ltb}
+use borrow.Author.Tests.{lt-ltb}
 use Rattle.headers.specs.Rows.{every, is-octet}
 use Rattle.frames.specs.declared.scan.Scan.{Scan}
 use Rattle.frames.specs.Grammar.{v1-2}
@@ -18,22 +16,12 @@ use Rattle.frames.specs.Exactness.{Exact}
 use Rattle.frames.specs.Scanning.{scan-step, scan, nothing-read, scan-reply, Valid, skip, Ahead}
 use Rattle.frames.proofs.Exact.{exact}
 use Rattle.frames.proofs.Scanning.{scanned}
+use Rattle.frames.proofs.Bounds.{stays}
 
--- an end stays as it is
-step-ended : (st : Scan) (x : ℕ) → 13 < st .phase → scan-step st x ≡ st
-unfolding scan-step
-step-ended st x h =
-    let same : Scan → Type 0 = λ z. z ≡ st in
-    let no : (n : ℕ) → n ≤ 13 → eqb (st .phase) n ≡ false = λ n k. other n k (eqb (st .phase) n) refl in
-    rw (no 7 (omega arith), no 5 (omega arith), no 4 (omega arith), no 12 (omega arith), no 13 (omega arith), no 2 (omega arith), no 9 (omega arith), no 8 (omega arith), no 6 (omega arith), no 10 (omega arith), no 11 (omega arith), no 0 (omega arith), no 3 (omega arith), no 1 (omega arith)) refl
-  where
-    other : (n : ℕ) → n ≤ 13 → (b : Bool) → eqb (st .phase) n ≡ b → eqb (st .phase) n ≡ false
-    other n k false e = e
-    other n k true e = absurd (omega (arith, eqb-true (st .phase) n e))
-
+-- a run that has ended stays as it is
 pub scan-ended : (xs : List ℕ) (st : Scan) → 13 < st .phase → scan st xs ≡ st
 scan-ended [] st h = refl
-scan-ended (x ∷ xs) st h = ap (λ z. scan z xs) (step-ended st x h) ∙ scan-ended xs st h
+scan-ended (x ∷ xs) st h = ap (λ z. scan z xs) (stays st x h) ∙ scan-ended xs st h
 
 module _ (s : List ℕ) (i : ℕ) (st : Scan) where
   pub scan-next : i < length s → scan st (drop i s) ≡ scan (scan-step st (getD s i 0)) (drop (i + 1) s)

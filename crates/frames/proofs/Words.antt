@@ -10,7 +10,8 @@ use lib.Seq.{length-take-le}
 use lib.Dec.{eqb, leb, ltb}
 use borrow.Author.Tests.{leb-true, eqb-true, lt-ltb, le-leb, eq-eqb}
 use Rattle.headers.specs.Rows.{begins}
-use Rattle.headers.proofs.Rows.{and-left, and-right, refuted, begins-snoc}
+use Rattle.headers.proofs.Rows.{refuted, begins-snoc}
+use Rattle.frames.proofs.Upto.{upto, upto-at}
 use Rattle.frames.specs.Grammar.{Command, number, word, ABORT, ACK, BEGIN, COMMIT, CONNECT, CONNECTED, DISCONNECT, ERROR, MESSAGE, NACK, RECEIPT, SEND, STOMP, SUBSCRIBE, UNSUBSCRIBE}
 use Rattle.frames.specs.Open.{all}
 use Rattle.frames.specs.Parsing.{first}
@@ -19,16 +20,6 @@ use Rattle.frames.specs.Words.{packed}
 use Rattle.frames.proofs.Scanning.{word-number}
 
 -- ---- tests at each number, and at each command and place
-
--- the test passes at each number below n
-abbrev upto : (ℕ → Bool) → ℕ → Bool
-upto f zero = true
-upto f (suc n) = f 0 && upto (λ i. f (suc i)) n
-
-upto-at : (f : ℕ → Bool) (n k : ℕ) → upto f n ≡ true → k < n → f k ≡ true
-upto-at f zero k t h = absurd (omega arith)
-upto-at f (suc n) zero t h = and-left (f 0) (upto (λ i. f (suc i)) n) t
-upto-at f (suc n) (suc k) t h = upto-at (λ i. f (suc i)) n k (and-right (f 0) (upto (λ i. f (suc i)) n) t) (omega arith)
 
 abbrev everywhere : (ℕ → ℕ → Bool) → Bool
 everywhere f = upto (λ c. upto (f c) 12) 16
