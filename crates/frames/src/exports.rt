@@ -3,7 +3,7 @@ ghost use mathlib.Core.Path.{_≡_};
 ghost use Prim.Native.Nat.{_<_};
 ghost use Rattle.frames.specs.Grammar.{v1-2};
 ghost use Rattle.frames.specs.Parsing.{parsed};
-ghost use Rattle.frames.specs.Answers.{parsed-says, packed, SmallFrame};
+ghost use Rattle.frames.specs.Answers.{parsed-says, packed, unpacked, SmallFrame};
 use crate::parse::Item;
 use crate::parse::Parsed;
 use crate::parse::Refusal;
@@ -29,10 +29,13 @@ fn pack_refusal(r: Refusal) -> u64
     3 + 4 * ((r.code as u64) + 256 * (r.offset as u64))
 }
 
-// What parse replies, in one number.
+// What parse replies, in one number; its fields read back.
 #[no_mangle]
 pub extern "C" fn stomp_parse(octets: &[u8]) -> u64
-    ensures { λ r. ⌜ r ≡ packed (parsed v1-2 (now (octets .entry))) ⌝ }
+    ensures { λ r. ⌜
+        (r ≡ packed (parsed v1-2 (now (octets .entry))))
+        × (unpacked r ≡ parsed v1-2 (now (octets .entry)))
+        ⌝ }
 {
     match crate::parse::parse(octets) {
         Parsed::Complete(i) => pack_item(i),

@@ -1,19 +1,23 @@
-use mathlib.Core.Path.{_≡_, sym, _∙_, ap, subst}
+use mathlib.Core.Path.{_≡_, refl, sym, _∙_, ap, subst}
+use Prim.Native.Nat.{ℕ}
 use Rattle.frames.specs.Grammar.{v1-2}
 use Rattle.frames.specs.Parsing.{parsed}
 use Rattle.frames.specs.declared.parse.Parsed.{Parsed}
-use Rattle.frames.specs.Answers.{parsed-says, packed, Small}
-use Rattle.frames.proofs.Packing.{item-numbers, refusal-numbers, reply-small}
+use Rattle.frames.specs.Answers.{parsed-says, packed, unpacked, Small}
+use Rattle.frames.proofs.Packing.{packed-back, item-numbers, refusal-numbers, reply-small}
 use borrow.Author.Needs.{needs}
 use Rattle.frames.proofs.exports.stomp_parse.Statement.{statement}
 use Rattle.frames.proofs.exports.stomp_parse.Tie as tie
 
--- the reply is small, and packing it packs what the definition gives
+-- the reply is small; packing it packs what the definition gives, and that reads back
 small : (c : tie.After-parse) (p : Parsed) → c .parse .result ≡ p → Small (parsed-says p)
 small c p e = subst (λ z. Small (parsed-says z)) e (reply-small v1-2 _ _ (c .parse .ensures .1))
 
-gives : (c : tie.After-parse) (p : Parsed) → c .parse .result ≡ p → packed (parsed-says p) ≡ packed (parsed v1-2 (c .before .before .args .octets .now))
-gives c p e = ap (λ z. packed (parsed-says z)) (sym e) ∙ ap packed (c .parse .ensures .0)
+gives : (c : tie.After-parse) (p : Parsed) (n : ℕ) → c .parse .result ≡ p → n ≡ packed (parsed-says p) → let r = parsed v1-2 (c .before .before .args .octets .now) in (n ≡ packed r) × (unpacked n ≡ r)
+gives c p n e q =
+    let h = ap parsed-says (sym e) ∙ c .parse .ensures .0 in
+    let k = q ∙ ap packed h in
+    (k, ap unpacked k ∙ packed-back _ (subst Small h (small c p e)))
 
 -- src/exports.rt:37:11
 parse-requires : tie.Need-parse-requires
@@ -41,15 +45,15 @@ pack-refusal-requires c κs = refusal-numbers (small (c .before .before .before)
 
 -- src/exports.rt:33:1
 returns : tie.Need-returns
-returns c = c .pack-item .ensures ∙ gives (c .before .before .before .before) _ (c .before .before .i .given .1)
+returns c = gives (c .before .before .before .before) _ _ (c .before .before .i .given .1) (c .pack-item .ensures)
 
 -- src/exports.rt:33:1
 returns-2 : tie.Need-returns-2
-returns-2 c = gives (c .before .before) _ (c .enum-told .given .1)
+returns-2 c = gives (c .before .before) _ _ (c .enum-told .given .1) refl
 
 -- src/exports.rt:33:1
 returns-3 : tie.Need-returns-3
-returns-3 c = c .pack-refusal .ensures ∙ gives (c .before .before .before .before) _ (c .before .before .r .given .1)
+returns-3 c = gives (c .before .before .before .before) _ _ (c .before .before .r .given .1) (c .pack-refusal .ensures)
 
 pub stomp-parse-spec : {M : Type 1} → statement M
 stomp-parse-spec =
