@@ -5,8 +5,8 @@ use mathlib.Core.List.{List, [], _∷_, _++_, append-assoc, append-nil}
 use Prim.Native.Nat.{ℕ, suc, _+_, _-_, _^_, _≤_, _<_}
 use native.Mathlib.Omega.{arith}
 use native.Mathlib.Numerals.{add-one}
-use lib.ListN.{length, drop, getD, set, drop-of-length-le, length-drop, length-take, length-append}
-use lib.Seq.{drop-cons}
+use lib.ListN.{length, take, drop, getD, set, drop-of-length-le, length-drop, length-take, length-append}
+use lib.Seq.{drop-cons, length-take-le, take-suc, getD-append-add, getD-drop}
 use lib.Dec.{ltb}
 use borrow.Author.Tests.{lt-ltb, le-ltb, ltb-true, ltb-false}
 use Rattle.headers.specs.Numbers.{shortest}
@@ -15,6 +15,7 @@ use borrow.Rule.Slice.PartMut.{midOf, putMid}
 use Rattle.headers.proofs.Put.{store-grow, put-grow}
 use Rattle.headers.proofs.Numerals.{length-shortest, size-least}
 use Rattle.headers.proofs.Rows.{cond-case}
+use Rattle.listing.specs.Streams.{moved}
 use Rattle.listing.specs.Lines.{numbers, behind-at, line-used, line-left}
 
 -- a number of 64 bits has at most twenty digits
@@ -73,3 +74,17 @@ pub line-fits : (d d′ l : List ℕ) → d′ ≡ line-left d l → length d′
 line-fits d d′ l e same =
     cond-case (λ k. k ≤ length d) (ltb (length d) 160) (λ h. omega arith)
     λ h. let z : line-left d l ≡ l ++ drop (length l) d = rw h refl in omega (arith, ap length (e ∙ z), length-append l (drop (length l) d))
+
+-- one octet more is moved to the front
+pub moved-more : (lo : ℕ) (d : List ℕ) (i : ℕ) → lo + i < length d → set (moved lo d i) i (getD (moved lo d i) (lo + i) 0) ≡ moved lo d (i + 1)
+moved-more lo d i h =
+    let rest = drop lo d in
+    let room : i < length rest = simp length-drop (omega arith) in
+    let front = length-take-le i rest (omega arith) in
+    let far : lo + i ≡ length (take i rest) + lo = omega arith in
+    let near : i + lo ≡ lo + i = omega arith in
+    let octet : getD (moved lo d i) (lo + i) 0 ≡ getD rest i 0 =
+    ap (λ z. getD (moved lo d i) z 0) far ∙ getD-append-add (take i rest) (drop i d) lo 0 ∙ getD-drop i d lo 0 ∙ ap (λ z. getD d z 0) near
+    ∙ sym (getD-drop lo d i 0) in
+    store-grow d (moved lo d i) (take i rest) i (getD (moved lo d i) (lo + i) 0) refl front (omega arith)
+    ∙ ap (λ z. z ++ drop (i + 1) d) (ap (λ v. take i rest ++ (v ∷ [])) octet ∙ sym (take-suc rest i 0 room) ∙ ap (λ z. take z rest) (sym (add-one i)))

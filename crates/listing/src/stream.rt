@@ -6,7 +6,7 @@ ghost use Rattle.frames.specs.Grammar.{v1-2};
 ghost use Rattle.frames.specs.Parsing.{parsed};
 ghost use Rattle.frames.specs.Replies.{used-of};
 ghost use Rattle.frames.specs.Answers.{parsed-says};
-ghost use Rattle.listing.specs.Streams.{Room};
+ghost use Rattle.listing.specs.Streams.{Room, moved};
 use frames::parse::Parsed;
 
 // How far a stream is listed.
@@ -29,7 +29,7 @@ pub struct Progress {
 // The octets that are not listed moved to the front: how many they are.
 fn shift(buf: &mut [u8], lo: usize, hi: usize) -> usize
     requires { ⌜ (lo ≤ hi) × (hi ≤ length (now buf)) ⌝ }
-    ensures { λ r. ⌜ (r ≤ length (now (buf .entry))) × (length (now (buf .exit)) ≡ length (now (buf .entry))) ⌝ }
+    ensures { λ r. ⌜ (r ≡ hi - lo) × (now (buf .exit) ≡ moved lo (now (buf .entry)) r) × (length (now (buf .exit)) ≡ length (now (buf .entry))) ⌝ }
 {
     let n = hi - lo;
     let mut i = 0usize;
