@@ -12,13 +12,16 @@ use Rattle.frames.proofs.ahead.body_span.Statement.{statement}
 use Rattle.frames.proofs.ahead.body_span.Tie as tie
 
 abbrev Inv-loop : tie.InvT-loop
-Inv-loop s i₀ i = (i ≤ length s) × (i + span not-zero (drop i s) ≡ span not-zero s)
+Inv-loop s far i₀ i = (i ≤ length s) × (i + span not-zero (drop i s) ≡ span not-zero s)
 
 abbrev μ-loop : tie.MeasureT-loop
-μ-loop s i₀ i = length s - i
+μ-loop s far i₀ i = length s - i
 
 clear-blocks-requires : tie.Need-clear-blocks-requires Inv-loop μ-loop
 clear-blocks-requires c κs = search needs
+
+clear-blocks-requires-2 : tie.Need-clear-blocks-requires-2 Inv-loop μ-loop
+clear-blocks-requires-2 c κs = search needs
 
 loop-holds : tie.Need-loop-holds Inv-loop μ-loop
 loop-holds c = search needs
@@ -50,6 +53,7 @@ body-span-spec =
     Inv-loop
     μ-loop
     clear-blocks-requires
+    clear-blocks-requires-2
     loop-holds
     shared-slice-read-if1
     returns

@@ -10,10 +10,10 @@ use Rattle.frames.proofs.ahead.clear_blocks.Statement.{statement}
 use Rattle.frames.proofs.ahead.clear_blocks.Tie as tie
 
 abbrev Inv-loop : tie.InvT-loop
-Inv-loop s i₀ i = (i ≤ length s) × (i + span not-zero (drop i s) ≡ span not-zero s)
+Inv-loop s from size i₀ i = (i ≤ length s) × (i + span not-zero (drop i s) ≡ from + span not-zero (drop from s))
 
 abbrev μ-loop : tie.MeasureT-loop
-μ-loop s i₀ i = length s - i
+μ-loop s from size i₀ i = length s - i
 
 loop-holds : tie.Need-loop-holds Inv-loop μ-loop
 loop-holds c = search needs
@@ -44,7 +44,7 @@ loop-again c =
     let b = c .before .before .before .before in
     let l = b .loop in
     let a = b .before .before .args in
-    (omega arith, span-block not-zero (a .s .now) (l .i) (l .i + 128) (omega arith) (omega arith) (sym (c .before .is-clear .ensures) ∙ c .if1 .taken) ∙ l .inv .1)
+    (omega arith, span-block not-zero (a .s .now) (l .i) (l .i + a .size) (omega arith) (omega arith) (sym (c .before .is-clear .ensures) ∙ c .if1 .taken) ∙ l .inv .1)
 
 returns : tie.Need-returns Inv-loop μ-loop
 returns c = search needs

@@ -21,11 +21,11 @@ plain-blocks-requires c κs = search needs
 loop-holds : tie.Need-loop-holds Inv-loop μ-loop
 loop-holds c = search needs
 
-shared-slice-read-is-plain : tie.Need-shared-slice-read-is-plain Inv-loop μ-loop
-shared-slice-read-is-plain c = search needs
+shared-slice-read-is-plain-alone : tie.Need-shared-slice-read-is-plain-alone Inv-loop μ-loop
+shared-slice-read-is-plain-alone c = search needs
 
-is-plain-requires : tie.Need-is-plain-requires Inv-loop μ-loop
-is-plain-requires c κs = search needs
+is-plain-alone-requires : tie.Need-is-plain-alone-requires Inv-loop μ-loop
+is-plain-alone-requires c κs = search needs
 
 add-i : tie.Need-add-i Inv-loop μ-loop
 add-i c = search needs
@@ -38,14 +38,14 @@ loop-again c =
     let l = c .before .before .before .before .loop in
     let a = c .before .before .before .before .before .before .before .args in
     let t = c .before .before .before .loop-test .taken in
-    (omega arith, span-more (plain-in (a .escapes)) (a .s .now) (l .i) t (sym (c .before .is-plain .ensures) ∙ c .if1 .taken) ∙ l .inv .1)
+    (omega arith, span-more (plain-in (a .escapes)) (a .s .now) (l .i) t (sym (c .before .is-plain-alone .ensures) ∙ c .if1 .taken) ∙ l .inv .1)
 
 returns : tie.Need-returns Inv-loop μ-loop
 returns c =
     let l = c .before .before .before .before .loop in
     let a = c .before .before .before .before .before .before .before .args in
     let t = c .before .before .before .loop-test .taken in
-    span-stop (plain-in (a .escapes)) (a .s .now) (l .i) t (sym (c .before .is-plain .ensures) ∙ c .if1 .left) ∙ l .inv .1
+    span-stop (plain-in (a .escapes)) (a .s .now) (l .i) t (sym (c .before .is-plain-alone .ensures) ∙ c .if1 .left) ∙ l .inv .1
 
 returns-2 : tie.Need-returns-2 Inv-loop μ-loop
 returns-2 c = span-end (plain-in (c .before .before .before .before .args .escapes)) _ _ (c .loop-test .left) ∙ c .before .loop .inv .1
@@ -58,8 +58,8 @@ plain-span-spec =
     μ-loop
     plain-blocks-requires
     loop-holds
-    shared-slice-read-is-plain
-    is-plain-requires
+    shared-slice-read-is-plain-alone
+    is-plain-alone-requires
     add-i
     loop-less
     loop-again
