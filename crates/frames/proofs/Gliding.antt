@@ -1,6 +1,6 @@
 -- Plain stretches at a go: the front of a row that passes a test, and the states that pass it unchanged but for their counts.
 -- Assumes nothing.
-use mathlib.Core.Path.{_≡_, refl, sym, _∙_, ap}
+use mathlib.Core.Path.{_≡_, refl, sym, _∙_, ap, subst}
 use mathlib.Core.Bool.{Bool, true, false, _&&_, _||_, not, and-assoc, and-true}
 use mathlib.Core.List.{List, [], _∷_, _++_}
 use Prim.Native.Nat.{ℕ, _+_, _-_, _≤_, _<_}
@@ -10,16 +10,17 @@ use native.Mathlib.Omega.{arith}
 use lib.Dec.{eqb}
 use lib.ListN.{length, take, drop, getD, drop-of-length-le, take-append-drop, length-take, length-drop}
 use lib.Seq.{drop-cons, drop-append-le, drop-drop}
-use borrow.Author.Tests.{le-leb, lt-ltb, not-true}
+use borrow.Author.Tests.{le-leb, lt-ltb, not-true, eqb-true}
 use Rattle.headers.specs.Rows.{every}
-use Rattle.headers.specs.Text.{fresh, into, reads, plain, stops, opens}
+use Rattle.headers.specs.Text.{fresh, into, reads, plain, stops, opens, is-letter}
 use Rattle.headers.specs.Lines.{line-max}
 use Rattle.headers.specs.declared.text.Style.{Style}
 use Rattle.headers.specs.declared.text.Field.{Field}
 use Rattle.headers.specs.declared.text.Field.the-variants.{Name as in-name, Value as in-value}
 use Rattle.headers.proofs.Rows.{cond-case, and-left, and-right, every-step, every-end}
 use Rattle.frames.specs.declared.scan.Scan.{Scan}
-use Rattle.frames.specs.Scanning.{style-of, most-of, on-value, on-name, on-body, on-counted, scan-step, scan, len-max, outside, Valid, span, plain-in, not-zero, skip, Ahead}
+use Rattle.frames.specs.Scanning.{style-of, most-of, in-line, on-value, on-name, on-body, on-counted, scan-step, scan, len-max, outside, Valid, span, plain-in, not-zero, skip, Ahead}
+use Rattle.frames.proofs.Steps.{read-open, read-letter}
 
 -- ---- The front of a row that passes a test
 
@@ -237,3 +238,70 @@ module _ (st : Scan) (v : Valid st) where
         kept = rw skip-zero v;
         same-end = sym (ap (λ z. scan z (drop (i + 0) l)) (skip-zero st) ∙ ap (λ n. scan st (drop n l)) (add-zero i));
       }
+
+  -- the backslash of an escape in a value, and the letter after it
+  opened : {y : Style} (x : ℕ) → y ≡ style-of (st .command) → st .phase ≡ 7 → st .len + 2 ≤ 512 → opens y x ≡ true → scan-step st x ≡ in-line st 8 0 (st .size) (st .len + 1)
+  unfolding scan-step on-value
+  opened {y} x same e h o =
+      let n : x ≡ 92 = eqb-true x 92 (and-right (y .escapes) (eqb x 92) o) in
+      let q : stops y in-value x ≡ false = rw n refl in
+      simp (e, read-open in-value x same refl q refl o, le-leb (st .len + 2) line-max (omega arith), add-assoc)
+
+  lettered : {y : Style} (x : ℕ) → y ≡ style-of (st .command) → st .phase ≡ 7 → st .len + 2 ≤ 512 → is-letter y x ≡ true → scan-step (in-line st 8 0 (st .size) (st .len + 1)) x ≡ skip 2 st
+  unfolding scan-step on-value
+  lettered x same e h t =
+      simp (e, read-letter in-value x same refl t, le-leb (st .len + 2) line-max (omega arith), v .clean-match (omega arith), v .clean-code (omega arith), add-assoc)
+
+  ahead-escape : {y : Style} (l : List ℕ) (i : ℕ) → y ≡ style-of (st .command) → st .phase ≡ 7 → st .len + 2 ≤ 512 → i + 2 ≤ length l
+      → opens y (getD l i 0) ≡ true → is-letter y (getD l (i + 1) 0) ≡ true → Ahead l i st 2
+  ahead-escape l i same e h el o t =
+      let next : (z : Scan) (n : ℕ) → n < length l → scan z (drop n l) ≡ scan (scan-step z (getD l n 0)) (drop (n + 1) l) = λ z n k. rw (add-one, drop-cons l n 0 k) refl in
+      record {
+        within = el;
+        kept = valid-on 2 (omega arith) (rw e h) (λ e′. absurd (omega arith)) (λ e′. absurd (omega arith));
+        same-end =
+            next st i (omega arith)
+            ∙ ap (λ z. scan z (drop (i + 1) l)) (opened (getD l i 0) same e h o)
+            ∙ next (in-line st 8 0 (st .size) (st .len + 1)) (i + 1) (omega arith)
+            ∙ ap (λ z. scan z (drop (i + 1 + 1) l)) (lettered (getD l (i + 1) 0) same e h t)
+            ∙ ap (λ n. scan (skip 2 st) (drop n l)) (add-assoc i 1 1);
+      }
+
+-- one stretch after another
+ahead-then : (st : Scan) (l : List ℕ) (i k m : ℕ) → Ahead l i st k → Ahead l (i + k) (skip k st) m → Ahead l i st (k + m)
+ahead-then st l i k m a b =
+    let same : skip m (skip k st) ≡ skip (k + m) st = simp add-assoc in
+    record {
+      within = omega (arith, b .within);
+      kept = subst Valid same (b .kept);
+      same-end = a .same-end ∙ b .same-end ∙ ap (λ z. scan z (drop (i + k + m) l)) same ∙ ap (λ n. scan (skip (k + m) st) (drop n l)) (add-assoc i k m);
+    }
+
+pub span-part : (p : ℕ → Bool) (l : List ℕ) (i e k : ℕ) → i ≤ e → e ≤ length l → k ≡ span p (take (e - i) (drop i l)) → i + k ≤ e
+span-part p l i e k ie el is =
+    let long : length (take (e - i) (drop i l)) ≡ e - i = simp (length-take, length-drop) (omega arith) in
+    omega (arith, span-le p (take (e - i) (drop i l)))
+
+-- a value in which e is no further than its line may go takes the octets from i to j
+abbrev pub Takes : Style → List ℕ → ℕ → ℕ → ℕ → Type 0
+Takes y l i e j = (st : Scan) → Valid st → y ≡ style-of (st .command) → st .phase ≡ 7 → st .len + (e - i) ≤ 512 → Ahead l i st (j - i)
+
+module _ (y : Style) (l : List ℕ) (i e : ℕ) (el : e ≤ length l) where
+  pub takes-first : (k : ℕ) → i ≤ e → k ≡ span (plain-in (y .escapes)) (take (e - i) (drop i l)) → Takes y l i e (i + k)
+  takes-first k ie is st v same ph fits =
+      let n : k ≡ i + k - i = omega arith in
+      subst (Ahead l i st) n (ahead-by (plain-in (y .escapes)) 512 st (glides-value st v same ph) l i e k ie el fits is)
+
+  pub takes-more : (j k : ℕ) → i ≤ j → j + 2 ≤ e → opens y (getD l j 0) ≡ true → is-letter y (getD l (j + 1) 0) ≡ true
+      → k ≡ span (plain-in (y .escapes)) (take (e - (j + 2)) (drop (j + 2) l)) → Takes y l i e j → Takes y l i e (j + 2 + k)
+  takes-more j k ij je o t is takes st v same ph fits =
+      let d : ℕ = j - i in
+      let a : Ahead l i st d = takes st v same ph fits in
+      let at : j ≡ i + d = omega arith in
+      let b : Ahead l j (skip d st) 2 = ahead-escape (skip d st) (a .kept) l j same ph (omega arith) (omega arith) o t in
+      let ab : Ahead l i st (d + 2) = ahead-then st l i d 2 a (subst (λ n. Ahead l n (skip d st) 2) at b) in
+      let g : Ahead l (j + 2) (skip (d + 2) st) k =
+      ahead-by (plain-in (y .escapes)) 512 (skip (d + 2) st) (glides-value (skip (d + 2) st) (ab .kept) same ph) l (j + 2) e k je el (omega arith) is in
+      let at2 : j + 2 ≡ i + (d + 2) = omega arith in
+      let n : d + 2 + k ≡ j + 2 + k - i = omega arith in
+      subst (Ahead l i st) n (ahead-then st l i (d + 2) k ab (subst (λ n. Ahead l n (skip (d + 2) st) k) at2 g))

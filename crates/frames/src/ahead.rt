@@ -70,6 +70,21 @@ fn plain_span(s: &[u8], escapes: bool) -> usize
     i
 }
 
+// The same, one by one: for short stretches.
+fn few_plain(s: &[u8], escapes: bool) -> usize
+    ensures { λ r. ⌜ r ≡ span (plain-in escapes) (now (s .entry)) ⌝ }
+{
+    let mut i = 0usize;
+    while i < s.len() {
+        if is_plain_alone(escapes, s[i]) {
+            i += 1;
+        } else {
+            return i;
+        }
+    }
+    i
+}
+
 // Whether no octet of a block is 0.
 fn is_clear(s: &[u8]) -> bool
     ensures { λ r. ⌜ r ≡ every not-zero (now (s .entry)) ⌝ }
@@ -123,6 +138,27 @@ fn upto(i: usize, room: usize, n: usize) -> usize
     if n - i < room { n } else { i + room }
 }
 
+// How many octets of s from i on a value takes, whole escapes among them.
+fn value_span(s: &[u8], i: usize, st: Scan) -> usize
+    requires { ⌜ (i ≤ length (now s)) × Valid st × (st .phase ≡ 7) ⌝ }
+    ensures { λ r. ⌜ Ahead (now (s .entry)) i st r ⌝ }
+{
+    let style = crate::scan::style_of(st.command);
+    let e = upto(i, 512 - st.len, s.len());
+    let mut j = i + plain_span(&s[i..e], style.escapes);
+    while 2 <= e - j {
+        if !headers::is_open(style, s[j]) {
+            return j - i;
+        }
+        if !headers::is_letter(style, s[j + 1]) {
+            return j - i;
+        }
+        let f = j + 2;
+        j = f + few_plain(&s[f..e], style.escapes);
+    }
+    j - i
+}
+
 // How many octets of s from i on the state passes at a go.
 pub(crate) fn ahead(s: &[u8], i: usize, st: Scan) -> usize
     requires { ⌜ (i ≤ length (now s)) × Valid st ⌝ }
@@ -131,8 +167,7 @@ pub(crate) fn ahead(s: &[u8], i: usize, st: Scan) -> usize
     let phase = st.phase;
     let len = st.len;
     if phase == 7 {
-        let e = upto(i, 512 - len, s.len());
-        return plain_span(&s[i..e], crate::scan::style_of(st.command).escapes);
+        return value_span(s, i, st);
     }
     if phase == 5 {
         if st.matched == 15 {

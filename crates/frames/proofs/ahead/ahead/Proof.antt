@@ -1,13 +1,19 @@
 -- `ahead::ahead` meets its contract: each phase glides as far as the room and the octets' test let it.
 use Rattle.frames.specs.Scanning.{not-zero}
-use Rattle.frames.proofs.Gliding.{value-short, name-short, ahead-by, glides-value, glides-name, glides-body, ahead-counted, ahead-none}
+use Rattle.frames.proofs.Gliding.{name-short, ahead-by, glides-name, glides-body, ahead-counted, ahead-none}
 use native.Mathlib.Omega.{arith}
 use borrow.Author.Needs.{needs}
 use Rattle.frames.proofs.ahead.ahead.Statement.{statement}
 use Rattle.frames.proofs.ahead.ahead.Tie as tie
 
+value-span-requires : tie.Need-value-span-requires
+value-span-requires c κs = (c .before .before .pre .0, c .before .before .pre .1, c .if1 .taken)
+
+returns : tie.Need-returns
+returns c = c .value-span .ensures
+
 sub-upto : tie.Need-sub-upto
-sub-upto c = omega (arith, value-short (c .before .before .pre .1) (c .if1 .taken))
+sub-upto c = omega (arith, name-short (c .before .before .before .before .before .pre .1) (c .before .before .if2 .taken))
 
 upto-requires : tie.Need-upto-requires
 upto-requires c κs = search needs
@@ -27,35 +33,6 @@ style-of-requires c κs = search needs
 plain-span-requires : tie.Need-plain-span-requires
 plain-span-requires c κs = search needs
 
-returns : tie.Need-returns
-returns c =
-    let b = c .before .before .before .before in
-    let a = b .before .before in
-    let v = a .pre .1 in
-    let h = value-short v (b .if1 .taken) in
-    ahead-by _ 512 (a .args .st) (glides-value (a .args .st) v (c .before .style-of .ensures) (b .if1 .taken)) _ _ (c .before .before .before .upto .result) _ (omega arith) (omega arith) (omega arith) (c .plain-span .ensures)
-
-sub-upto-2 : tie.Need-sub-upto-2
-sub-upto-2 c = omega (arith, name-short (c .before .before .before .before .before .pre .1) (c .before .before .if2 .taken))
-
-upto-requires-2 : tie.Need-upto-requires-2
-upto-requires-2 c κs = search needs
-
-sub-plain-span-2 : tie.Need-sub-plain-span-2
-sub-plain-span-2 c = search needs
-
-part-plain-span-start-2 : tie.Need-part-plain-span-start-2
-part-plain-span-start-2 c = search needs
-
-part-plain-span-end-2 : tie.Need-part-plain-span-end-2
-part-plain-span-end-2 c = search needs
-
-style-of-requires-2 : tie.Need-style-of-requires-2
-style-of-requires-2 c κs = search needs
-
-plain-span-requires-2 : tie.Need-plain-span-requires-2
-plain-span-requires-2 c κs = search needs
-
 returns-2 : tie.Need-returns-2
 returns-2 c =
     let b = c .before .before .before .before in
@@ -63,16 +40,16 @@ returns-2 c =
     let a = p .before .before .before in
     let v = a .pre .1 in
     let h = name-short v (p .if2 .taken) in
-    ahead-by _ 511 (a .args .st) (glides-name (a .args .st) v (c .before .style-of2 .ensures) (p .if2 .taken) (b .if3 .taken)) _ _ (c .before .before .before .upto2 .result) _ (omega arith) (omega arith) (omega arith) (c .plain-span2 .ensures)
+    ahead-by _ 511 (a .args .st) (glides-name (a .args .st) v (c .before .style-of .ensures) (p .if2 .taken) (b .if3 .taken)) _ _ (c .before .before .before .upto .result) _ (omega arith) (omega arith) (omega arith) (c .plain-span .ensures)
 
 returns-3 : tie.Need-returns-3
 returns-3 c = let a = c .before .before .before .before .before in ahead-none (a .args .st) (a .pre .1) _ _ (a .pre .0)
 
-sub-upto-3 : tie.Need-sub-upto-3
-sub-upto-3 c = c .before .before .before .before .before .pre .1 .counted-so-far (c .before .if4 .taken)
+sub-upto-2 : tie.Need-sub-upto-2
+sub-upto-2 c = c .before .before .before .before .before .pre .1 .counted-so-far (c .before .if4 .taken)
 
-upto-requires-3 : tie.Need-upto-requires-3
-upto-requires-3 c κs = search needs
+upto-requires-2 : tie.Need-upto-requires-2
+upto-requires-2 c κs = search needs
 
 sub-result : tie.Need-sub-result
 sub-result c = search needs
@@ -83,16 +60,16 @@ returns-4 c =
     let v = a .pre .1 in
     let ph = c .before .before .if4 .taken in
     let h = v .counted-so-far ph in
-    ahead-counted (a .args .st) v ph _ _ (c .upto3 .result) (omega arith) (omega arith) (omega arith)
+    ahead-counted (a .args .st) v ph _ _ (c .upto2 .result) (omega arith) (omega arith) (omega arith)
 
 most-of-requires : tie.Need-most-of-requires
 most-of-requires c κs = search needs
 
-sub-upto-4 : tie.Need-sub-upto-4
-sub-upto-4 c = rw (c .most-of .ensures) (c .before .before .before .before .before .before .pre .1 .body-so-far (c .before .if5 .taken))
+sub-upto-3 : tie.Need-sub-upto-3
+sub-upto-3 c = rw (c .most-of .ensures) (c .before .before .before .before .before .before .pre .1 .body-so-far (c .before .if5 .taken))
 
-upto-requires-4 : tie.Need-upto-requires-4
-upto-requires-4 c κs = search needs
+upto-requires-3 : tie.Need-upto-requires-3
+upto-requires-3 c κs = search needs
 
 sub-body-span : tie.Need-sub-body-span
 sub-body-span c = search needs
@@ -112,7 +89,7 @@ returns-5 c =
     let v = a .pre .1 in
     let ph = c .before .before .before .before .if5 .taken in
     let h = v .body-so-far ph in
-    ahead-by not-zero _ (a .args .st) (glides-body (a .args .st) v ph) _ _ (c .before .before .upto4 .result) _ (omega arith) (omega arith) (omega arith) (c .body-span .ensures)
+    ahead-by not-zero _ (a .args .st) (glides-body (a .args .st) v ph) _ _ (c .before .before .upto3 .result) _ (omega arith) (omega arith) (omega arith) (c .body-span .ensures)
 
 returns-6 : tie.Need-returns-6
 returns-6 c = let a = c .before .before .before .before .before in ahead-none (a .args .st) (a .pre .1) _ _ (a .pre .0)
@@ -121,6 +98,8 @@ pub ahead-spec : {M : Type 1} → statement M
 ahead-spec =
     tie.close
     (tie.spec
+    value-span-requires
+    returns
     sub-upto
     upto-requires
     sub-plain-span
@@ -128,23 +107,15 @@ ahead-spec =
     part-plain-span-end
     style-of-requires
     plain-span-requires
-    returns
-    sub-upto-2
-    upto-requires-2
-    sub-plain-span-2
-    part-plain-span-start-2
-    part-plain-span-end-2
-    style-of-requires-2
-    plain-span-requires-2
     returns-2
     returns-3
-    sub-upto-3
-    upto-requires-3
+    sub-upto-2
+    upto-requires-2
     sub-result
     returns-4
     most-of-requires
-    sub-upto-4
-    upto-requires-4
+    sub-upto-3
+    upto-requires-3
     sub-body-span
     part-body-span-start
     part-body-span-end
