@@ -1,13 +1,17 @@
 -- What an octet of header text does, by the tests that the code makes; and whether a line is still short enough. Assumes nothing.
-use mathlib.Core.Path.{_≡_, sym, ap, _∙_}
-use mathlib.Core.Bool.{Bool, true, false}
+use mathlib.Core.Path.{_≡_, refl, sym, ap, _∙_}
+use mathlib.Core.Bool.{Bool, true, false, _&&_, _||_}
 use Prim.Native.Nat.{ℕ, _+_, _<_, _≤_}
 use native.Mathlib.Omega.{arith}
-use lib.Dec.{leb}
-use borrow.Author.Tests.{le-leb, lt-leb}
+use lib.Dec.{eqb, leb, ltb}
+use borrow.Author.Tests.{eqb-true, leb-true, leb-false, le-leb, lt-leb, lt-ltb, le-ltb}
 use Rattle.headers.specs.Text.{fresh, back, into, bad, stop, of-escape, stops, opens, is-letter, reads}
 use Rattle.headers.specs.declared.text.Style.{Style}
 use Rattle.headers.specs.declared.text.Field.{Field}
+use Rattle.headers.proofs.Rows.{or-false-left, or-false-right}
+use Rattle.frames.specs.declared.scan.Scan.{Scan}
+use Rattle.frames.specs.Grammar.{lines-max}
+use Rattle.frames.specs.Scanning.{on-start, on-word, on-begin, on-name, scan-step, line-ends, nameless-at}
 
 -- an octet where a character begins: a stop, the backslash of an escape, or itself
 module _ (f : Field) (x : ℕ) {s t : Style} (e : s ≡ t) where
@@ -40,3 +44,36 @@ module _ (o : ℕ) {n m : ℕ} where
 
   pub long-value : m ≤ n → m + o ≡ 512 → leb (n + 1 + o) 512 ≡ false
   long-value h e = lt-leb (n + 1 + o) 512 (omega arith)
+
+-- where a line or an item begins: the octets that begin no name or no word, and the others
+module _ (st : Scan) (x : ℕ) where
+  pub past-last : eqb x 10 ≡ false → eqb x 13 ≡ false → eqb x 58 ≡ false → nameless-at st x ≡ true → ltb (st .lines) lines-max ≡ false
+  past-last p q r h = le-ltb (st .lines) lines-max (leb-true lines-max (st .lines) (rw (p, q, r) at h))
+
+  pub name-goes-on : {b : Bool} → b ≡ nameless-at st x → eqb (st .phase) 4 && b ≡ false → (eqb (st .phase) 4 ≡ false → st .phase ≡ 5) → scan-step st x ≡ on-name st fresh x
+  unfolding scan-step on-begin
+  name-goes-on e f five = by (eqb (st .phase) 4) refl
+    where
+      by : (a : Bool) → eqb (st .phase) 4 ≡ a → scan-step st x ≡ on-name st fresh x
+      by false q = simp (five q)
+      by true q =
+          let n : nameless-at st x ≡ false = sym e ∙ (rw q at f) in
+          let k = or-false-left (eqb x 10 || eqb x 13) (eqb x 58 || leb lines-max (st .lines)) n in
+          let m = or-false-right (eqb x 10 || eqb x 13) (eqb x 58 || leb lines-max (st .lines)) n in
+          simp (
+            eqb-true (st .phase) 4 q,
+            or-false-left (eqb x 10) (eqb x 13) k,
+            or-false-right (eqb x 10) (eqb x 13) k,
+            or-false-left (eqb x 58) (leb lines-max (st .lines)) m,
+            lt-ltb (st .lines) lines-max (leb-false lines-max (st .lines) (or-false-right (eqb x 58) (leb lines-max (st .lines)) m)),
+          )
+
+  pub word-goes-on : eqb (st .phase) 0 && line-ends x ≡ false → (eqb (st .phase) 0 ≡ false → st .phase ≡ 2) → scan-step st x ≡ on-word st x
+  unfolding scan-step on-start
+  word-goes-on f two = by (eqb (st .phase) 0) refl
+    where
+      by : (a : Bool) → eqb (st .phase) 0 ≡ a → scan-step st x ≡ on-word st x
+      by false q = simp (two q)
+      by true q =
+          let n : line-ends x ≡ false = rw q at f in
+          simp (eqb-true (st .phase) 0 q, or-false-left (eqb x 10) (eqb x 13) n, or-false-right (eqb x 10) (eqb x 13) n)

@@ -169,6 +169,13 @@ module _ (st : Scan) where
       cond (ltb (st .len) (st .size)) (in-line 13 0 (st .size) (st .len + 1))
       (cond (eqb x 0) frame-read (invalid (numbered past-body)))
 
+-- an octet that begins a line end; and one with which no name begins where a line would, or after the last line
+abbrev pub line-ends : ℕ → Bool
+line-ends x = eqb x 10 || eqb x 13
+
+abbrev pub nameless-at : Scan → ℕ → Bool
+nameless-at st x = (eqb x 10 || eqb x 13) || (eqb x 58 || leb lines-max (st .lines))
+
 -- One octet, by the phase; the ends stay as they are.
 unfoldable pub scan-step : Scan → ℕ → Scan
 scan-step st x =

@@ -70,7 +70,7 @@ fn plain_span(s: &[u8], escapes: bool) -> usize
     i
 }
 
-// The same, one by one: for short stretches.
+// The same, one by one: for stretches that are short, as names are.
 fn few_plain(s: &[u8], escapes: bool) -> usize
     ensures { λ r. ⌜ r ≡ span (plain-in escapes) (now (s .entry)) ⌝ }
 {
@@ -172,7 +172,7 @@ pub(crate) fn ahead(s: &[u8], i: usize, st: Scan) -> usize
     if phase == 5 {
         if st.matched == 15 {
             let e = upto(i, 511 - len, s.len());
-            return plain_span(&s[i..e], crate::scan::style_of(st.command).escapes);
+            return few_plain(&s[i..e], crate::scan::style_of(st.command).escapes);
         }
         return 0;
     }

@@ -1,5 +1,6 @@
 // What of an item has been read, in numbers: one state by value, and a step for each octet.
 ghost use mathlib.Core.Path.{_≡_};
+ghost use mathlib.Core.Bool.{true};
 ghost use Prim.Native.Nat.{_<_, _≤_};
 ghost use lib.ListN.{getD};
 ghost use Rattle.headers.specs.Lines.{content-length};
@@ -7,7 +8,7 @@ ghost use Rattle.headers.specs.Text.{fresh, back};
 ghost use Rattle.frames.specs.Scanning.{style-of, most-of, Reached, Bounded, Valid};
 ghost use Rattle.frames.specs.Scanning.{to-phase, in-head, in-line, frame-read, invalid, body-begins, line-read, advance};
 ghost use Rattle.frames.specs.Scanning.{on-10, on-word, on-start, on-name, on-begin, on-value, on-length, on-body, on-counted};
-ghost use Rattle.frames.specs.Scanning.{value-begins, on-digit, scan-step, nothing-read};
+ghost use Rattle.frames.specs.Scanning.{value-begins, on-digit, scan-step, nothing-read, line-ends, nameless-at};
 use headers::Field;
 use headers::Style;
 
@@ -226,17 +227,15 @@ fn on_word(st: Scan, x: u8) -> Scan
     refused(st, 1)
 }
 
+// A line end at the start.
 fn on_start(st: Scan, x: u8) -> Scan
-    requires { ⌜ Bounded st × Reached (st .command) (st .at) ⌝ }
+    requires { ⌜ Bounded st × (line-ends x ≡ true) ⌝ }
     ensures { λ r. ⌜ r ≡ on-start st x ⌝ }
 {
     if x == 10 {
         return to_phase(st, 14, 0);
     }
-    if x == 13 {
-        return to_phase(st, 1, 0);
-    }
-    on_word(st, x)
+    to_phase(st, 1, 0)
 }
 
 // The colon is read.
@@ -292,8 +291,16 @@ fn on_name_back(st: Scan, x: u8) -> Scan
     refused(st, 4)
 }
 
+// Whether no name can begin with the octet, or none at all.
+fn is_nameless(st: Scan, x: u8) -> bool
+    ensures { λ r. ⌜ r ≡ nameless-at st x ⌝ }
+{
+    ((x == 10) | (x == 13)) | ((x == 58) | (32 <= st.lines))
+}
+
+// An octet that begins no name where a line would begin.
 fn on_begin(st: Scan, x: u8) -> Scan
-    requires { ⌜ Bounded st × (st .len ≡ 0) ⌝ }
+    requires { ⌜ Bounded st × (nameless-at st x ≡ true) ⌝ }
     ensures { λ r. ⌜ r ≡ on-begin st x ⌝ }
 {
     if x == 10 {
@@ -304,9 +311,6 @@ fn on_begin(st: Scan, x: u8) -> Scan
     }
     if x == 58 {
         return refused(st, 3);
-    }
-    if st.lines < 32 {
-        return on_name(st, x);
     }
     refused(st, 5)
 }
@@ -440,19 +444,19 @@ fn step_line(st: Scan, x: u8) -> Scan
     if phase == 7 {
         return on_value(st, x);
     }
-    if phase == 5 {
-        return on_name(st, x);
-    }
-    if phase == 4 {
-        return on_begin(st, x);
-    }
     if phase == 9 {
         return on_length(st, x);
     }
     if phase == 8 {
         return on_value_back(st, x);
     }
-    on_name_back(st, x)
+    if phase == 6 {
+        return on_name_back(st, x);
+    }
+    if (phase == 4) & is_nameless(st, x) {
+        return on_begin(st, x);
+    }
+    on_name(st, x)
 }
 
 // One octet before the head.
@@ -461,16 +465,16 @@ fn step_word(st: Scan, x: u8) -> Scan
     ensures { λ r. ⌜ r ≡ scan-step st x ⌝ }
 {
     let phase = st.phase;
-    if phase == 2 {
-        return on_word(st, x);
-    }
-    if phase == 0 {
-        return on_start(st, x);
-    }
     if phase == 3 {
         return on_10(st, to_phase(st, 4, st.command), x);
     }
-    on_10(st, to_phase(st, 14, 0), x)
+    if phase == 1 {
+        return on_10(st, to_phase(st, 14, 0), x);
+    }
+    if (phase == 0) & ((x == 10) | (x == 13)) {
+        return on_start(st, x);
+    }
+    on_word(st, x)
 }
 
 // One octet of a body or of the end of a line; the ends stay as they are.

@@ -18,20 +18,20 @@ sub-upto c = omega (arith, name-short (c .before .before .before .before .before
 upto-requires : tie.Need-upto-requires
 upto-requires c κs = search needs
 
-sub-plain-span : tie.Need-sub-plain-span
-sub-plain-span c = search needs
+sub-few-plain : tie.Need-sub-few-plain
+sub-few-plain c = search needs
 
-part-plain-span-start : tie.Need-part-plain-span-start
-part-plain-span-start c = search needs
+part-few-plain-start : tie.Need-part-few-plain-start
+part-few-plain-start c = search needs
 
-part-plain-span-end : tie.Need-part-plain-span-end
-part-plain-span-end c = search needs
+part-few-plain-end : tie.Need-part-few-plain-end
+part-few-plain-end c = search needs
 
 style-of-requires : tie.Need-style-of-requires
 style-of-requires c κs = search needs
 
-plain-span-requires : tie.Need-plain-span-requires
-plain-span-requires c κs = search needs
+few-plain-requires : tie.Need-few-plain-requires
+few-plain-requires c κs = search needs
 
 returns-2 : tie.Need-returns-2
 returns-2 c =
@@ -40,7 +40,7 @@ returns-2 c =
     let a = p .before .before .before in
     let v = a .pre .1 in
     let h = name-short v (p .if2 .taken) in
-    ahead-by _ 511 (a .args .st) (glides-name (a .args .st) v (c .before .style-of .ensures) (p .if2 .taken) (b .if3 .taken)) _ _ (c .before .before .before .upto .result) _ (omega arith) (omega arith) (omega arith) (c .plain-span .ensures)
+    ahead-by _ 511 (a .args .st) (glides-name (a .args .st) v (c .before .style-of .ensures) (p .if2 .taken) (b .if3 .taken)) _ _ (c .before .before .before .upto .result) _ (omega arith) (omega arith) (omega arith) (c .few-plain .ensures)
 
 returns-3 : tie.Need-returns-3
 returns-3 c = let a = c .before .before .before .before .before in ahead-none (a .args .st) (a .pre .1) _ _ (a .pre .0)
@@ -102,11 +102,11 @@ ahead-spec =
     returns
     sub-upto
     upto-requires
-    sub-plain-span
-    part-plain-span-start
-    part-plain-span-end
+    sub-few-plain
+    part-few-plain-start
+    part-few-plain-end
     style-of-requires
-    plain-span-requires
+    few-plain-requires
     returns-2
     returns-3
     sub-upto-2

@@ -1,6 +1,7 @@
 -- `scan::on_begin` meets its contract: each test that led there picks the next state.
 use Rattle.frames.specs.Scanning.{on-begin}
-use borrow.Author.Tests.{eq-eqb, ne-eqb, lt-ltb, le-ltb}
+use Rattle.frames.proofs.Steps.{past-last}
+use borrow.Author.Tests.{eq-eqb, ne-eqb}
 use borrow.Author.Needs.{needs}
 use Rattle.frames.proofs.scan.on_begin.Statement.{statement}
 use Rattle.frames.proofs.scan.on_begin.Tie as tie
@@ -26,19 +27,17 @@ returns-3 : tie.Need-returns-3
 unfolding on-begin
 returns-3 c = simp (c .refused .ensures, ne-eqb _ _ (c .before .before .before .if1 .left), ne-eqb _ _ (c .before .before .if2 .left), eq-eqb _ _ (c .before .if3 .taken))
 
-on-name-requires : tie.Need-on-name-requires
-on-name-requires c κs = search needs
-
-returns-4 : tie.Need-returns-4
-unfolding on-begin
-returns-4 c = simp (c .on-name .ensures, ne-eqb _ _ (c .before .before .before .before .before .if1 .left), ne-eqb _ _ (c .before .before .before .before .if2 .left), ne-eqb _ _ (c .before .before .before .if3 .left), lt-ltb _ _ (c .before .if4 .taken))
-
 refused-requires-2 : tie.Need-refused-requires-2
 refused-requires-2 c κs = search needs
 
-returns-5 : tie.Need-returns-5
+returns-4 : tie.Need-returns-4
 unfolding on-begin
-returns-5 c = simp (c .refused2 .ensures, ne-eqb _ _ (c .before .before .before .before .before .if1 .left), ne-eqb _ _ (c .before .before .before .before .if2 .left), ne-eqb _ _ (c .before .before .before .if3 .left), le-ltb _ _ (c .before .if4 .left))
+returns-4 c =
+    let a = c .before .before .before .before in
+    let p = ne-eqb _ _ (c .before .before .before .if1 .left) in
+    let q = ne-eqb _ _ (c .before .before .if2 .left) in
+    let r = ne-eqb _ _ (c .before .if3 .left) in
+    simp (c .refused2 .ensures, p, q, r, past-last (a .args .st) (a .args .x) p q r (a .pre .1))
 
 pub on-begin-spec : {M : Type 1} → statement M
 on-begin-spec =
@@ -50,7 +49,5 @@ on-begin-spec =
     returns-2
     refused-requires
     returns-3
-    on-name-requires
-    returns-4
     refused-requires-2
-    returns-5)
+    returns-4)

@@ -2,6 +2,9 @@
 use Rattle.frames.specs.Scanning.{on-start}
 use borrow.Author.Tests.{eq-eqb, ne-eqb}
 use borrow.Author.Needs.{needs}
+use lib.Dec.{eqb}
+use mathlib.Core.Bool.{true, false}
+use mathlib.Core.Path.{_≡_}
 use Rattle.frames.proofs.scan.on_start.Statement.{statement}
 use Rattle.frames.proofs.scan.on_start.Tie as tie
 
@@ -17,16 +20,11 @@ to-phase-requires-2 c κs = search needs
 
 returns-2 : tie.Need-returns-2
 unfolding on-start
-returns-2 c = simp (c .to-phase2 .ensures, ne-eqb _ _ (c .before .before .if1 .left), eq-eqb _ _ (c .before .if2 .taken))
-
-on-word-requires : tie.Need-on-word-requires
-on-word-requires c κs = search needs
-
-returns-3 : tie.Need-returns-3
-unfolding on-start
-returns-3 c = simp (c .on-word .ensures, ne-eqb _ _ (c .before .before .if1 .left), ne-eqb _ _ (c .before .if2 .left))
+returns-2 c =
+    let x = c .before .before .args .x in
+    let p : eqb x 10 ≡ false = ne-eqb x 10 (c .before .if1 .left) in
+    let q : eqb x 13 ≡ true = rw p at (c .before .before .pre .1) in
+    simp (c .to-phase2 .ensures, p, q)
 
 pub on-start-spec : {M : Type 1} → statement M
-on-start-spec =
-    tie.close
-    (tie.spec to-phase-requires returns to-phase-requires-2 returns-2 on-word-requires returns-3)
+on-start-spec = tie.close (tie.spec to-phase-requires returns to-phase-requires-2 returns-2)
