@@ -25,9 +25,6 @@ bounded st v =
 
 -- where a line begins, nothing of it is read; where an item begins, nothing of its word is
 module _ (st : Scan) (v : Valid st) where
-  pub line-begins : st .phase ≡ 4 → st .len ≡ 0
-  line-begins h = let s = rw h at v .short in omega arith
-
   pub word-begins : st .phase ≡ 0 → Reached (st .command) (st .at)
   word-begins h = record { nothing = λ e. v .fresh-word h .0; something = λ l. absurd (omega (arith, v .fresh-word h .1)) }
 

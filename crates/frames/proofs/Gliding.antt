@@ -178,7 +178,7 @@ module _ (st : Scan) (v : Valid st) where
       }
 
   -- in a value
-  pub glides-value : {y : Style} → y ≡ style-of (st .command) → st .phase ≡ 7 → Glides (plain-in (y .escapes)) 512 st
+  glides-value : {y : Style} → y ≡ style-of (st .command) → st .phase ≡ 7 → Glides (plain-in (y .escapes)) 512 st
   unfolding scan-step on-value
   glides-value same e =
       record {
