@@ -1,4 +1,4 @@
--- Reading raw header text: the laws that the frames' judge goes by. Assumes nothing.
+-- Reading raw header text: the laws that parsing goes by. Assumes nothing.
 --     raw-start, raw-text, raw-step    what a reader has read is text, up to the character at hand
 --     raw-finish                       that character can be finished, by as many octets as it owes
 --     text-feeds                       text is read to its end, and what is owed is always still to come

@@ -39,7 +39,7 @@ abbrev pub left-in : Answer → List ℕ → List ℕ → List ℕ
 left-in (accepted values) written before = written ++ drop (length written) before
 left-in (refused k) written before = before
 
--- Looking up a name: "gives the first value's start and length, or says none; a malformed sheet gets 22".
+-- Looking up a name gives the first value's start and length, or says none; a malformed block gets 22.
 abbrev pub first-span : List Span → List ℕ
 first-span [] = []
 first-span (p ∷ ps) = p .start ∷ p .len ∷ []
@@ -73,8 +73,7 @@ entry-says (EntryAt.Entry l) = accepted (l .name ∷ l .value ∷ [])
 entry-says EntryAt.End = accepted []
 entry-says EntryAt.Malformed = refused 22
 
--- One record from raw text, into room octets: "20 it isn't; 21 the sheet is shorter than needed; 23 a decoded line would be longer
--- than 512".
+-- One record from raw text, into room octets. The refusals in order: 20 it is no raw text; 21 there is less room than needed; 23 the decoded line would be longer than 512.
 abbrev pub written-record : Style → List ℕ → List ℕ → List ℕ
 written-record s name value = entry-record (decoded-entry s name value)
 
