@@ -1,26 +1,25 @@
 -- What a state that a run leaves keeps is enough for one octet more. Assumes nothing.
 use mathlib.Core.Path.{_≡_, refl}
-use mathlib.Core.Bool.{Bool, false}
+use mathlib.Core.Bool.{false}
 use Prim.Native.Nat.{ℕ, _+_, _≤_}
 use native.Mathlib.Omega.{arith}
 use lib.Dec.{T, leb, ltb, eqb, ltb→lt}
 use borrow.Author.Tests.{leb-true, ne-eqb}
 use Rattle.frames.proofs.Upto.{upto-at}
 use Rattle.frames.specs.declared.scan.Scan.{Scan}
-use Rattle.frames.specs.Scanning.{Reached, Bounded, len-max, outside, Valid, scan-step}
+use Rattle.frames.specs.Scanning.{Reached, Bounded, len-max, line-open, outside, Valid, scan-step}
 
--- the longest line or body at a phase, and the octets outside the lines with it
-abbrev longest : ℕ → Bool
-longest p = leb (len-max p) 32768
-
-abbrev widest : ℕ → Bool
-widest p = leb (outside p + len-max p) 49231
+-- the numbers of a phase are small
+pub phase-small : (p : ℕ) → p ≤ 16 → (line-open p ≤ 1) × (len-max p ≤ 32768) × (outside p + len-max p ≤ 49231)
+phase-small p h = (
+  leb-true (line-open p) 1 (upto-at (λ q. leb (line-open q) 1) 17 p refl (omega arith)),
+  leb-true (len-max p) 32768 (upto-at (λ q. leb (len-max q) 32768) 17 p refl (omega arith)),
+  leb-true (outside p + len-max p) 49231 (upto-at (λ q. leb (outside q + len-max q) 49231) 17 p refl (omega arith)),
+)
 
 pub bounded : (st : Scan) → Valid st → Bounded st
 bounded st v =
-    let p = st .phase in
-    let a = leb-true (len-max p) 32768 (upto-at longest 17 p refl (omega arith)) in
-    let b = leb-true (outside p + len-max p) 49231 (upto-at widest 17 p refl (omega arith)) in
+    let (o, a, b) = phase-small (st .phase) (v .known) in
     record { few-lines = omega arith; small-size = v .small; small-len = omega arith; small-at = omega arith }
 
 -- where a line begins, nothing of it is read; where an item begins, nothing of its word is

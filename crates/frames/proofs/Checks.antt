@@ -14,8 +14,8 @@ use Rattle.frames.specs.Open.{all}
 use Rattle.frames.specs.Parsing.{first}
 use Rattle.frames.specs.declared.scan.Scan.{Scan}
 use Rattle.frames.specs.Scanning.{most-of, word-of, number-of, scan-step, scan, nothing-read, len-max, line-open, outside, Reached, Valid}
-use Rattle.frames.specs.Validity.{leasts, lengths, is-reached, is-valid}
-use Rattle.frames.proofs.Words.{small}
+use Rattle.frames.specs.Validity.{leasts, is-reached, is-valid}
+use Rattle.frames.proofs.Words.{short, small}
 use Rattle.frames.proofs.Validity.{valid-step, valid-nothing}
 
 -- ---- a test that passes exactly where a fact holds
@@ -90,25 +90,14 @@ agree c k h l =
     alike-eq (is-reached c k) (by-word c k)
     (upto-at (λ i. alike (is-reached c i) (by-word c i)) 12 k (upto-at (λ d. upto (λ i. alike (is-reached d i) (by-word d i)) 12) 16 c refl (omega arith)) (omega arith))
 
-lengths-small : (c : ℕ) → c ≤ 15 → getD lengths c 0 ≤ 11
-lengths-small c h = leb-true (getD lengths c 0) 11 (upto-at (λ d. leb (getD lengths d 0) 11) 16 c refl (omega arith))
-
 pub reached-decides : (c k : ℕ) → Decides (is-reached c k) (Reached c k)
 reached-decides c k =
     record {
       pass = λ t.
-          let (a, (b, l)) = both (is-le c 15) (both (is-le (getD leasts c 0) k) (is-le k (getD lengths c 0))) .pass t in
-          by-word-decides c k .pass (sym (agree c k a (omega (arith, lengths-small c a))) ∙ t);
+          let (a, (b, l)) = both (is-le c 15) (both (is-le (getD leasts c 0) k) (is-le k (length (word-of c)))) .pass t in
+          by-word-decides c k .pass (sym (agree c k a (omega (arith, short c a))) ∙ t);
       sure = λ r. let (a, l) = small c k r in agree c k a l ∙ by-word-decides c k .sure r;
     }
-
--- ---- the numbers of a phase are small
-
-pub phase-small : (p : ℕ) → p ≤ 16 → (line-open p ≤ 1) × (outside p + len-max p ≤ 49231)
-phase-small p h = (
-  leb-true (line-open p) 1 (upto-at (λ q. leb (line-open q) 1) 17 p refl (omega arith)),
-  leb-true (outside p + len-max p) 49231 (upto-at (λ q. leb (outside q + len-max q) 49231) 17 p refl (omega arith)),
-)
 
 -- ---- which states are valid
 

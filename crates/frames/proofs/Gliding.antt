@@ -19,7 +19,7 @@ use Rattle.headers.specs.declared.text.Field.{Field}
 use Rattle.headers.specs.declared.text.Field.the-variants.{Name as in-name, Value as in-value}
 use Rattle.headers.proofs.Rows.{cond-case, and-left, and-right, every-step, every-end}
 use Rattle.frames.specs.declared.scan.Scan.{Scan}
-use Rattle.frames.specs.Scanning.{style-of, most-of, in-line, on-value, on-name, on-body, on-counted, scan-step, scan, len-max, outside, Valid, span, plain-in, not-zero, skip, Ahead}
+use Rattle.frames.specs.Scanning.{style-of, most-of, in-line, on-value, on-name, on-body, on-counted, scan-step, scan, len-max, Valid, span, plain-in, not-zero, skip, Ahead}
 use Rattle.frames.proofs.Steps.{read-open, read-letter}
 
 -- ---- The front of a row that passes a test
@@ -64,36 +64,6 @@ module _ (p : ℕ → Bool) (s : List ℕ) (i : ℕ) where
   span-end h = rw (drop-of-length-le s h) (omega arith)
 
 -- ---- Numbers of a state fit
-
-len-few : (p : ℕ) → len-max p ≤ 32768
-len-few p =
-    let few : ℕ → Type 0 = λ n. n ≤ 32768 in
-    cond-case few (eqb p 5) (λ h. omega arith) λ h.
-    cond-case few (eqb p 6) (λ h. omega arith) λ h.
-    cond-case few (eqb p 7) (λ h. omega arith) λ h.
-    cond-case few (eqb p 8) (λ h. omega arith) λ h.
-    cond-case few (eqb p 9) (λ h. omega arith) λ h.
-    cond-case few (eqb p 12) (λ h. omega arith) λ h.
-    cond-case few (eqb p 13) (λ h. omega arith) λ h.
-    cond-case few (eqb p 15) (λ h. omega arith) λ h. omega arith
-
-outside-few : (p : ℕ) → outside p ≤ 49231
-outside-few p =
-    let few : ℕ → Type 0 = λ n. n ≤ 49231 in
-    cond-case few (eqb p 0) (λ h. omega arith) λ h.
-    cond-case few (eqb p 1) (λ h. omega arith) λ h.
-    cond-case few (eqb p 2) (λ h. omega arith) λ h.
-    cond-case few (eqb p 3) (λ h. omega arith) λ h.
-    cond-case few (eqb p 10) (λ h. omega arith) λ h.
-    cond-case few (eqb p 11) (λ h. omega arith) λ h.
-    cond-case few (eqb p 12) (λ h. omega arith) λ h.
-    cond-case few (eqb p 13) (λ h. omega arith) λ h.
-    cond-case few (eqb p 14) (λ h. omega arith) λ h.
-    cond-case few (eqb p 15) (λ h. omega arith) λ h.
-    cond-case few (eqb p 16) (λ h. omega arith) λ h. omega arith
-
-pub counts-few : {st : Scan} → Valid st → (st .len ≤ 32768) × (st .at ≤ 98447)
-counts-few {st} v = omega (arith, len-few (st .phase), outside-few (st .phase))
 
 pub value-short : {st : Scan} → Valid st → st .phase ≡ 7 → st .len ≤ 512
 value-short v e = omega (arith, ap len-max e)

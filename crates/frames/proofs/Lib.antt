@@ -12,13 +12,13 @@ pub mod Lowest
 pub mod Examples
 pub mod Scanning
 pub mod Upto
+pub mod Bounds
+pub mod Steps
 pub mod Words
 pub mod Validity
 pub mod Checks
 pub mod Gliding
 pub mod Sizes
 pub mod Packing
-pub mod Bounds
-pub mod Steps
 pub mod Running
 pub mod Named

@@ -48,7 +48,7 @@ small-found : (o : Option Command) → number-of o ≤ 15
 small-found none = omega arith
 small-found (some d) = leb-true (number d) 15 (small-number d)
 
-short : (c : ℕ) → c ≤ 15 → length (word-of c) ≤ 11
+pub short : (c : ℕ) → c ≤ 15 → length (word-of c) ≤ 11
 short c h = leb-true (length (word-of c)) 11 (upto-at (λ d. leb (length (word-of d)) 11) 16 c refl (omega arith))
 
 pub small : (c k : ℕ) → Reached c k → (c ≤ 15) × (k ≤ 11)

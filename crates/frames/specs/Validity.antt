@@ -2,21 +2,18 @@
 use mathlib.Core.Bool.{Bool, _&&_, _||_, not}
 use mathlib.Core.List.{List, [], _∷_}
 use Prim.Native.Nat.{ℕ, _+_, _*_}
-use lib.ListN.{getD}
+use lib.ListN.{length, getD}
 use lib.Dec.{eqb, leb, ltb}
 use Rattle.frames.specs.declared.scan.Scan.{Scan}
-use Rattle.frames.specs.Scanning.{most-of, len-max, line-open, outside}
+use Rattle.frames.specs.Scanning.{most-of, word-of, len-max, line-open, outside}
 
--- by a command's number: how many letters tell its word from those of the commands before it, and how many it has; 0 is no command
+-- by a command's number, how many letters tell its word from those of the commands before it; 0 is no command
 abbrev pub leasts : List ℕ
 leasts = 0 ∷ 1 ∷ 2 ∷ 1 ∷ 1 ∷ 3 ∷ 8 ∷ 1 ∷ 1 ∷ 1 ∷ 1 ∷ 1 ∷ 1 ∷ 2 ∷ 2 ∷ 1 ∷ []
 
-abbrev pub lengths : List ℕ
-lengths = 0 ∷ 5 ∷ 3 ∷ 5 ∷ 6 ∷ 7 ∷ 9 ∷ 10 ∷ 5 ∷ 7 ∷ 4 ∷ 7 ∷ 4 ∷ 5 ∷ 9 ∷ 11 ∷ []
-
 -- c is the first command that begins with the first k letters of its word
 abbrev pub is-reached : ℕ → ℕ → Bool
-is-reached c k = leb c 15 && (leb (getD leasts c 0) k && leb k (getD lengths c 0))
+is-reached c k = leb c 15 && (leb (getD leasts c 0) k && leb k (length (word-of c)))
 
 module _ (st : Scan) where
   -- the numbers are small

@@ -2,9 +2,9 @@
 ghost use mathlib.Core.Path.{_≡_};
 ghost use mathlib.Core.Bool.{true};
 ghost use Prim.Native.Nat.{_≤_};
-ghost use lib.ListN.{getD};
-ghost use Rattle.frames.specs.Scanning.{Valid, len-max, line-open, outside};
-ghost use Rattle.frames.specs.Validity.{leasts, lengths, is-reached, is-small, is-so-far, is-clean};
+ghost use lib.ListN.{length, getD};
+ghost use Rattle.frames.specs.Scanning.{word-of, Valid, len-max, line-open, outside};
+ghost use Rattle.frames.specs.Validity.{leasts, is-reached, is-small, is-so-far, is-clean};
 use crate::scan::Scan;
 
 // The longest line or body at a phase.
@@ -64,7 +64,7 @@ fn least(c: u32) -> usize
 // How many letters a command's word has.
 fn word_len(c: u32) -> usize
     requires { ⌜ c ≤ 15 ⌝ }
-    ensures { λ r. ⌜ r ≡ getD lengths c 0 ⌝ }
+    ensures { λ r. ⌜ r ≡ length (word-of c) ⌝ }
 {
     let table = [0usize, 5, 3, 5, 6, 7, 9, 10, 5, 7, 4, 7, 4, 5, 9, 11];
     let i = c as usize;

@@ -9,7 +9,7 @@ use borrow.Author.Needs.{needs}
 use Rattle.frames.specs.declared.scan.Scan.{Scan}
 use Rattle.frames.specs.Scanning.{len-max, line-open, outside}
 use Rattle.frames.specs.Validity.{is-small}
-use Rattle.frames.proofs.Checks.{phase-small}
+use Rattle.frames.proofs.Bounds.{phase-small}
 use Rattle.frames.proofs.valid.is_small.Statement.{statement}
 use Rattle.frames.proofs.valid.is_small.Tie as tie
 
