@@ -19,49 +19,39 @@ put-encoded-requires c κs = let a = c .before .before .before .before .args in
     let pre = c .before .before .before .before .pre in
     omega (arith, long, pre)
 
+-- what is left behind the name is enough
+abbrev Room : tie.After-put-encoded → Type 0
+Room c =
+    let a = c .before .before .before .before .before .args in
+    let p = c .put-encoded in
+    (length (p .last .0) ≡ length (a .d .now)) × (p .result + 1 + length (encode (a .style) (a .value .now)) < length (a .d .now))
+
+room : (c : tie.After-put-encoded) → Room c
+room c =
+    let d = c .before .before .before .before .before in
+    let long = line-long (d .args .style) (entry-of (d .args .name .now) (d .args .value .now)) in
+    omega (arith, long, d .pre, c .put-encoded .kept .0, c .put-encoded .ensures .0)
+
 slice-write-d : tie.Need-slice-write-d
-slice-write-d c = let a = c .before .before .before .before .before .before .before .args in
-    let long = line-long (a .style) (entry-of (a .name .now) (a .value .now)) in
-    let pre = c .before .before .before .before .before .before .before .pre in
-    let p = c .before .before .put-encoded in
-    omega (arith, long, pre, p .kept .0, p .ensures .0)
+slice-write-d c = omega (arith, room (c .before .before))
 
 add-from : tie.Need-add-from
-add-from c = let a = c .before .before .before .before .before .before .before .args in
-    let long = line-long (a .style) (entry-of (a .name .now) (a .value .now)) in
-    let pre = c .before .before .before .before .before .before .before .pre in
-    let p = c .before .before .put-encoded in
-    omega (arith, long, pre, p .kept .0, p .ensures .0)
+add-from c = omega (arith, room (c .before .before))
 
 sub-put-encoded : tie.Need-sub-put-encoded
-sub-put-encoded c = let a = c .before .before .before .before .before .before .before .args in
-    let long = line-long (a .style) (entry-of (a .name .now) (a .value .now)) in
-    let pre = c .before .before .before .before .before .before .before .pre in
-    let p = c .before .before .put-encoded in
-    simp length-set (omega (arith, long, pre, p .kept .0, p .ensures .0))
+sub-put-encoded c = simp length-set (omega (arith, room (c .before .before)))
 
 part-put-encoded-start : tie.Need-part-put-encoded-start
-part-put-encoded-start c = let a = c .before .before .before .before .before .before .before .args in
-    let long = line-long (a .style) (entry-of (a .name .now) (a .value .now)) in
-    let pre = c .before .before .before .before .before .before .before .pre in
-    let p = c .before .before .put-encoded in
-    simp length-set (omega (arith, long, pre, p .kept .0, p .ensures .0))
+part-put-encoded-start c = simp length-set (omega (arith, room (c .before .before)))
 
 part-put-encoded-end : tie.Need-part-put-encoded-end
 part-put-encoded-end c = search needs
 
 put-encoded-requires-2 : tie.Need-put-encoded-requires-2
-put-encoded-requires-2 c κs = let a = c .before .before .before .before .before .before .before .before .args in
-    let long = line-long (a .style) (entry-of (a .name .now) (a .value .now)) in
-    let pre = c .before .before .before .before .before .before .before .before .pre in
-    let p = c .before .before .before .put-encoded in
-    simp (length-take, length-drop, length-set) (omega (arith, long, pre, p .kept .0, p .ensures .0))
+put-encoded-requires-2 c κs = simp (length-take, length-drop, length-set) (omega (arith, room (c .before .before .before)))
 
 add-d : tie.Need-add-d
-add-d c = let a = c .before .before .before .before .before .before .before .before .before .before .before .args in
-    let long = line-long (a .style) (entry-of (a .name .now) (a .value .now)) in
-    let pre = c .before .before .before .before .before .before .before .before .before .before .before .pre in
-    omega (arith, long, pre, c .before .before .before .before .before .before .put-encoded .ensures .0, c .before .before .put-encoded2 .ensures .0)
+add-d c = omega (arith, room (c .before .before .before .before .before .before), c .before .before .put-encoded2 .ensures .0)
 
 abbrev Placed : tie.After-slice-known3 → Type 0
 Placed c =
@@ -79,10 +69,9 @@ placed : (c : tie.After-slice-known3) → Placed c
 placed c =
     let a = c .before .before .before .before .before .before .before .before .before .before .before .args in
     let long = line-long (a .style) (entry-of (a .name .now) (a .value .now)) in
-    let pre = c .before .before .before .before .before .before .before .before .before .before .before .pre in
     let p = c .before .before .before .before .before .before .put-encoded in
     let q = c .before .before .put-encoded2 in
-    let fits : p .result + 1 + q .result < length (a .d .now) = omega (arith, long, pre, p .ensures .0, q .ensures .0) in (
+    let fits : p .result + 1 + q .result < length (a .d .now) = omega (arith, room (c .before .before .before .before .before .before), q .ensures .0) in (
       fits,
       put-marks (a .d .now) (p .last .0) (q .last .0) (encode (a .style) (a .name .now)) (encode (a .style) (a .value .now))
           (p .result) (q .result) 58 (p .ensures .0) (q .ensures .0) fits (p .ensures .1) (q .ensures .1)
