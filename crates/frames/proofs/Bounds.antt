@@ -3,18 +3,18 @@ use mathlib.Core.Path.{_≡_, refl}
 use mathlib.Core.Bool.{false}
 use Prim.Native.Nat.{ℕ, _+_, _≤_}
 use native.Mathlib.Omega.{arith}
-use lib.Dec.{T, leb, ltb, eqb, ltb→lt}
-use borrow.Author.Tests.{leb-true, ne-eqb}
-use Rattle.frames.proofs.Upto.{upto-at}
+use lib.Dec.{T, ltb, eqb, ltb→lt}
+use borrow.Author.Tests.{ne-eqb}
+use Rattle.frames.proofs.Upto.{upto-le}
 use Rattle.frames.specs.declared.scan.Scan.{Scan}
 use Rattle.frames.specs.Scanning.{Reached, Bounded, len-max, line-open, outside, Valid, scan-step}
 
 -- the numbers of a phase are small
 pub phase-small : (p : ℕ) → p ≤ 16 → (line-open p ≤ 1) × (len-max p ≤ 32768) × (outside p + len-max p ≤ 49231)
 phase-small p h = (
-  leb-true (line-open p) 1 (upto-at (λ q. leb (line-open q) 1) 17 p refl (omega arith)),
-  leb-true (len-max p) 32768 (upto-at (λ q. leb (len-max q) 32768) 17 p refl (omega arith)),
-  leb-true (outside p + len-max p) 49231 (upto-at (λ q. leb (outside q + len-max q) 49231) 17 p refl (omega arith)),
+  upto-le line-open 1 17 p refl (omega arith),
+  upto-le len-max 32768 17 p refl (omega arith),
+  upto-le (λ q. outside q + len-max q) 49231 17 p refl (omega arith),
 )
 
 pub bounded : (st : Scan) → Valid st → Bounded st

@@ -21,7 +21,7 @@ use Rattle.headers.proofs.Reading.{Feeds, text-feeds, reads-on}
 use Rattle.frames.specs.Grammar.{Version, Command, word, style, most, end, Line, line, lines, Head, Tree, heart-beat, frame, octets, lines-max, declared, LineOk, LengthOk, BodyOk, Shaped, ABORT, ACK, BEGIN, COMMIT, CONNECT, CONNECTED, DISCONNECT, ERROR, MESSAGE, NACK, RECEIPT, SEND, STOMP, SUBSCRIBE, UNSUBSCRIBE}
 use Rattle.frames.specs.Parsing.{at-word, at-start, at-name, at-begin, at-value, at-body, step}
 use Rattle.frames.proofs.Sound.{declared-append}
-use Rattle.frames.specs.Open.{start, command, begin, name, value, body, opened, new, entry, unseen, watched, partial-amount}
+use Rattle.frames.specs.Open.{start, command, command-13, begin, name, value, body, opened, new, entry, unseen, watched, partial-amount}
 
 amount-left : (m : ℕ) (xs ys : List ℕ) → partial-amount m (xs ++ ys) ≡ true → partial-amount m xs ≡ true
 amount-left m xs ys h =
@@ -49,27 +49,28 @@ full-body m none b h = (omega arith, h .1)
 full-body m (some v) b h = omega arith
 
 module _ (ver : Version) where
-  reads-word : (c : Command) (t : List ℕ) → (run (step ver) start (word c ++ (10 ∷ t)) ≡ run (step ver) (begin (new c false)) t) × (run (step ver) start (word c ++ (13 ∷ 10 ∷ t)) ≡ run (step ver) (begin (new c true)) t)
+  -- a command and the octet behind it
+  pub ends-word : (c : Command) (t : List ℕ) → (run (step ver) start (word c ++ (10 ∷ t)) ≡ run (step ver) (begin (new c false)) t) × (run (step ver) start (word c ++ (13 ∷ t)) ≡ run (step ver) (command-13 c) t)
   unfolding at-start at-word
-  reads-word ABORT t = (refl, refl)
-  reads-word ACK t = (refl, refl)
-  reads-word BEGIN t = (refl, refl)
-  reads-word COMMIT t = (refl, refl)
-  reads-word CONNECT t = (refl, refl)
-  reads-word CONNECTED t = (refl, refl)
-  reads-word DISCONNECT t = (refl, refl)
-  reads-word ERROR t = (refl, refl)
-  reads-word MESSAGE t = (refl, refl)
-  reads-word NACK t = (refl, refl)
-  reads-word RECEIPT t = (refl, refl)
-  reads-word SEND t = (refl, refl)
-  reads-word STOMP t = (refl, refl)
-  reads-word SUBSCRIBE t = (refl, refl)
-  reads-word UNSUBSCRIBE t = (refl, refl)
+  ends-word ABORT t = (refl, refl)
+  ends-word ACK t = (refl, refl)
+  ends-word BEGIN t = (refl, refl)
+  ends-word COMMIT t = (refl, refl)
+  ends-word CONNECT t = (refl, refl)
+  ends-word CONNECTED t = (refl, refl)
+  ends-word DISCONNECT t = (refl, refl)
+  ends-word ERROR t = (refl, refl)
+  ends-word MESSAGE t = (refl, refl)
+  ends-word NACK t = (refl, refl)
+  ends-word RECEIPT t = (refl, refl)
+  ends-word SEND t = (refl, refl)
+  ends-word STOMP t = (refl, refl)
+  ends-word SUBSCRIBE t = (refl, refl)
+  ends-word UNSUBSCRIBE t = (refl, refl)
 
   pub reads-command : (c : Command) (e : Bool) (t : List ℕ) → run (step ver) start (word c ++ (end e ++ t)) ≡ run (step ver) (begin (new c e)) t
-  reads-command c false t = reads-word c t .0
-  reads-command c true t = reads-word c t .1
+  reads-command c false t = ends-word c t .0
+  reads-command c true t = ends-word c (10 ∷ t) .1
 
   name-step : (h : Head) (raw : List ℕ) (p q : Part) (x : ℕ) → reads (style ver (h .command)) in-name p x ≡ into q → length raw + 1 + owes q + 1 ≤ line-max → at-name ver h raw p x ≡ go (name h (raw ++ (x ∷ [])) q)
   unfolding at-name

@@ -1,3 +1,4 @@
+pub mod Commands
 pub mod Recognizer
 pub mod Trichotomy
 pub mod Sound

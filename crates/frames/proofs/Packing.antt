@@ -4,11 +4,12 @@ use mathlib.Core.List.{List, _++_}
 use Prim.Native.Nat.{ℕ, _+_, _*_, _/_, _%_, _<_}
 use native.Mathlib.Omega.{arith}
 use lib.ListN.{length, take, length-append, length-take}
-use Rattle.frames.specs.Grammar.{Version, Command, number, Tree, heart-beat, frame, octets, head, end, Shaped, ABORT, ACK, BEGIN, COMMIT, CONNECT, CONNECTED, DISCONNECT, ERROR, MESSAGE, NACK, RECEIPT, SEND, STOMP, SUBSCRIBE, UNSUBSCRIBE}
+use Rattle.frames.specs.Grammar.{Version, number, Tree, heart-beat, frame, octets, head, end, Shaped}
 use Rattle.frames.specs.Replies.{Reply, Complete, Incomplete, Invalid, told}
 use Rattle.frames.specs.Refusals.{Reason, numbered, no-command, no-10, wrong-escape, nameless, second-colon, no-colon, long-line, many-lines, bad-length, past-body}
 use Rattle.frames.specs.Exactness.{Exact, Claims}
 use Rattle.frames.specs.Answers.{packed-frame, packed, unpacked-frame, unpacked, SmallFrame, Small, small-beat, small-frame, small-incomplete, small-invalid}
+use Rattle.frames.proofs.Commands.{number-small}
 use Rattle.frames.proofs.Sizes.{tree-short, viable-short}
 
 frame-back : (u c h s l : ℕ) → SmallFrame u c h s l → unpacked-frame (packed-frame u c h s l) ≡ Complete 2 u c h s l
@@ -53,9 +54,6 @@ item-numbers (small-frame f) = f
 pub refusal-numbers : {k n : ℕ} → Small (Invalid k n) → (k < 256) × (n < 65536)
 refusal-numbers (small-invalid a b) = (a, b)
 
-number-small : (c : Command) → number c < 16
-number-small = elim [ ABORT ↦ omega arith | ACK ↦ omega arith | BEGIN ↦ omega arith | COMMIT ↦ omega arith | CONNECT ↦ omega arith | CONNECTED ↦ omega arith | DISCONNECT ↦ omega arith | ERROR ↦ omega arith | MESSAGE ↦ omega arith | NACK ↦ omega arith | RECEIPT ↦ omega arith | SEND ↦ omega arith | STOMP ↦ omega arith | SUBSCRIBE ↦ omega arith | UNSUBSCRIBE ↦ omega arith ]
-
 reason-small : (r : Reason) → numbered r < 256
 reason-small = elim [ no-command ↦ omega arith | no-10 ↦ omega arith | wrong-escape ↦ omega arith | nameless ↦ omega arith | second-colon ↦ omega arith | no-colon ↦ omega arith | long-line ↦ omega arith | many-lines ↦ omega arith | bad-length ↦ omega arith | past-body ↦ omega arith ]
 
@@ -66,7 +64,7 @@ module _ (ver : Version) where
       let whole : length (octets (frame h e b)) ≡ length (head h ++ end e) + (length b + 1) = simp length-append (omega arith) in
       let most = tree-short ver (frame h e b) ok in
       let fits : SmallFrame (length (octets (frame h e b))) (number (h .command)) (length (h .entries)) (length (head h ++ end e)) (length b) =
-      record { used-fits = omega arith; command-fits = number-small (h .command); headers-fit = omega (arith, ok .0 .few); start-fits = omega arith; len-fits = omega arith } in
+      record { used-fits = omega arith; command-fits = omega (arith, number-small (h .command)); headers-fit = omega (arith, ok .0 .few); start-fits = omega arith; len-fits = omega arith } in
       small-frame fits
 
   pub reply-small : (xs : List ℕ) (r : Reply) → Exact ver xs r → Small r

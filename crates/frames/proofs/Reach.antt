@@ -16,46 +16,16 @@ use Rattle.headers.specs.declared.text.Field.the-variants.{Name as in-name, Val
 use Rattle.headers.proofs.Reading.{raw-fresh, text-feeds, raw-feeds}
 use Rattle.headers.specs.Numbers.{Amount, decimal}
 use Rattle.frames.specs.Machine.{go, run, going}
-use Rattle.frames.specs.Grammar.{Version, Command, word, style, most, end, lines, Head, head, lines-max, declared, LineOk, LengthOk, HeadOk, ABORT, ACK, BEGIN, COMMIT, CONNECT, CONNECTED, DISCONNECT, ERROR, MESSAGE, NACK, RECEIPT, SEND, STOMP, SUBSCRIBE, UNSUBSCRIBE}
+use Rattle.frames.specs.Grammar.{Version, Command, word, style, most, end, lines, Head, head, lines-max, declared, LineOk, LengthOk, HeadOk}
 use Rattle.frames.specs.Parsing.{first, at-word, at-start, at-begin, at-value, at-body, step}
+use Rattle.frames.proofs.Commands.{each, each-test}
 use Rattle.frames.proofs.Sound.{declared-append}
-use Rattle.frames.proofs.Complete.{reads-command, reads-name, reads-value, begins-name, reads-colon, reads-lines, reads-blank, watched-declared, Amount-amount}
+use Rattle.frames.proofs.Complete.{ends-word, reads-command, reads-name, reads-value, begins-name, reads-colon, reads-lines, reads-blank, watched-declared, Amount-amount}
 use Rattle.frames.specs.Open.{Open, start, heart-beat-13, command, command-13, begin, name, value, line-13, blank-13, body, all, opened, new, entry, unseen, watched, so-far, Ok, NameOk, ValueOk, BodyPart}
 
 -- Commands are letters.
 letters : (c : Command) → every (leb 65) (word c) ≡ true
-letters ABORT = refl
-letters ACK = refl
-letters BEGIN = refl
-letters COMMIT = refl
-letters CONNECT = refl
-letters CONNECTED = refl
-letters DISCONNECT = refl
-letters ERROR = refl
-letters MESSAGE = refl
-letters NACK = refl
-letters RECEIPT = refl
-letters SEND = refl
-letters STOMP = refl
-letters SUBSCRIBE = refl
-letters UNSUBSCRIBE = refl
-
-each : (P : Command → Type 0) → All P all → (c : Command) → P c
-each P h ABORT = h .0
-each P h ACK = h .1 .0
-each P h BEGIN = h .1 .1 .0
-each P h COMMIT = h .1 .1 .1 .0
-each P h CONNECT = h .1 .1 .1 .1 .0
-each P h CONNECTED = h .1 .1 .1 .1 .1 .0
-each P h DISCONNECT = h .1 .1 .1 .1 .1 .1 .0
-each P h ERROR = h .1 .1 .1 .1 .1 .1 .1 .0
-each P h MESSAGE = h .1 .1 .1 .1 .1 .1 .1 .1 .0
-each P h NACK = h .1 .1 .1 .1 .1 .1 .1 .1 .1 .0
-each P h RECEIPT = h .1 .1 .1 .1 .1 .1 .1 .1 .1 .1 .0
-each P h SEND = h .1 .1 .1 .1 .1 .1 .1 .1 .1 .1 .1 .0
-each P h STOMP = h .1 .1 .1 .1 .1 .1 .1 .1 .1 .1 .1 .1 .0
-each P h SUBSCRIBE = h .1 .1 .1 .1 .1 .1 .1 .1 .1 .1 .1 .1 .1 .0
-each P h UNSUBSCRIBE = h .1 .1 .1 .1 .1 .1 .1 .1 .1 .1 .1 .1 .1 .1 .0
+letters = each-test (λ c. every (leb 65) (word c)) refl
 
 first-none : (f : List ℕ → Bool) (cs : List Command) → first f cs ≡ none → All (λ c. f (word c) ≡ false) cs
 first-none f [] h = tt
@@ -110,24 +80,6 @@ module _ (ver : Version) where
       let l : 65 ≤ x = leb-true 65 x (and-left (leb 65 x) (every (leb 65) (xs ++ w)) (rw e at (letters c))) in
       rw (ne-eqb x 10 (omega arith), ne-eqb x 13 (omega arith), word-step c [] x (xs ++ w) e) (reads-word c xs (x ∷ []) w e)
 
-  reads-cr : (c : Command) → run (step ver) start (word c ++ (13 ∷ [])) ≡ going (command-13 c)
-  unfolding at-start at-word
-  reads-cr ABORT = refl
-  reads-cr ACK = refl
-  reads-cr BEGIN = refl
-  reads-cr COMMIT = refl
-  reads-cr CONNECT = refl
-  reads-cr CONNECTED = refl
-  reads-cr DISCONNECT = refl
-  reads-cr ERROR = refl
-  reads-cr MESSAGE = refl
-  reads-cr NACK = refl
-  reads-cr RECEIPT = refl
-  reads-cr SEND = refl
-  reads-cr STOMP = refl
-  reads-cr SUBSCRIBE = refl
-  reads-cr UNSUBSCRIBE = refl
-
   -- a line, up to its colon, and in its value
   reads-part : (h : Head) (raw : List ℕ) (p : Part) (t : List ℕ) → NameOk ver h raw p → run (step ver) (begin h) (raw ++ t) ≡ run (step ver) (name h raw p) t
   reads-part h raw p t ok =
@@ -178,7 +130,7 @@ module _ (ver : Version) where
   reach start ok = refl
   reach heart-beat-13 ok = refl
   reach (command raw) (c, w, e, ne) = starts-word c raw w e ne
-  reach (command-13 c) ok = reads-cr c
+  reach (command-13 c) ok = ends-word ver c [] .1
   reach (begin h) ok = rw append-nil at (reads-head h [] ok)
   reach (name h raw p) ok = reads-head h raw (ok .headed) ∙ (rw append-nil at (reads-part h raw p [] ok))
   reach (value h n raw p) ok = reads-head h (n ++ (58 ∷ raw)) (ok .headed) ∙ (rw append-nil at (reads-value-part h n raw p [] ok))

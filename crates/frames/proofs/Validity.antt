@@ -14,12 +14,13 @@ use Rattle.headers.specs.Text.{Part, fresh, back, Into, into, bad, stop, reads}
 use Rattle.headers.specs.Numbers.{is-digit, digit-value}
 use Rattle.headers.specs.declared.text.Field.the-variants.{Name as in-name, Value as in-value}
 use Rattle.headers.proofs.Rows.{and-right, cond-case, begins-rest, front-of}
-use Rattle.frames.specs.Grammar.{Command, number, word, ABORT, ACK, BEGIN, COMMIT, CONNECT, CONNECTED, DISCONNECT, ERROR, MESSAGE, NACK, RECEIPT, SEND, STOMP, SUBSCRIBE, UNSUBSCRIBE}
+use Rattle.frames.specs.Grammar.{Command, number, word}
 use Rattle.frames.specs.Open.{all}
 use Rattle.frames.specs.Parsing.{first}
 use Rattle.frames.specs.Refusals.{numbered, faulty}
 use Rattle.frames.specs.declared.scan.Scan.{Scan}
 use Rattle.frames.specs.Scanning.{style-of, most-of, word-of, number-of, next-command, whole-command, advance, to-phase, in-head, in-line, frame-read, invalid, body-begins, on-10, on-word, on-start, on-name-by, on-name, on-begin, line-read, on-value-by, on-value, grows, on-length-by, on-length, on-body, on-counted, scan-step, nothing-read, Reached, len-max, line-open, outside, Valid}
+use Rattle.frames.proofs.Commands.{each-le}
 use Rattle.frames.proofs.Sound.{first-some}
 use Rattle.frames.proofs.Scanning.{word-number}
 use Rattle.frames.proofs.Words.{small}
@@ -27,7 +28,7 @@ use Rattle.frames.proofs.Words.{small}
 -- ---- commands as far as they are read
 
 word-long : (c : Command) → length (word c) ≤ 11
-word-long = elim [ ABORT ↦ omega arith | ACK ↦ omega arith | BEGIN ↦ omega arith | COMMIT ↦ omega arith | CONNECT ↦ omega arith | CONNECTED ↦ omega arith | DISCONNECT ↦ omega arith | ERROR ↦ omega arith | MESSAGE ↦ omega arith | NACK ↦ omega arith | RECEIPT ↦ omega arith | SEND ↦ omega arith | STOMP ↦ omega arith | SUBSCRIBE ↦ omega arith | UNSUBSCRIBE ↦ omega arith ]
+word-long = each-le (λ c. length (word c)) 11 refl
 
 pub reached-none : Reached 0 0
 reached-none = record { nothing = λ e. refl; something = λ h. absurd (omega arith) }

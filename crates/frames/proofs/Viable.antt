@@ -16,26 +16,13 @@ use Rattle.frames.proofs.Recognizer.{Viable}
 use Rattle.headers.specs.Text.{Part, fresh}
 use Rattle.headers.specs.declared.text.Field.the-variants.{Value as in-value}
 use Rattle.headers.proofs.Reading.{digits-text, raw-start, raw-finish}
-use Rattle.frames.specs.Grammar.{Version, Command, word, style, most, end, Head, head, heart-beat, frame, octets, declared, HeadOk, Shaped, ABORT, ACK, BEGIN, COMMIT, CONNECT, CONNECTED, DISCONNECT, ERROR, MESSAGE, NACK, RECEIPT, SEND, STOMP, SUBSCRIBE, UNSUBSCRIBE}
+use Rattle.frames.specs.Grammar.{Version, Command, word, style, most, end, Head, head, heart-beat, frame, octets, declared, HeadOk, Shaped}
+use Rattle.frames.proofs.Commands.{each-test}
 use Rattle.frames.proofs.Sound.{body-none, new-ok, opened-ok, head-opened, amount-Amount}
 use Rattle.frames.specs.Open.{Open, start, heart-beat-13, command, command-13, begin, name, value, line-13, blank-13, body, opened, new, entry, unseen, watched, so-far, Ok, NameOk, ValueOk, BodyPart}
 
 word-octets : (c : Command) → every is-octet (word c) ≡ true
-word-octets ABORT = refl
-word-octets ACK = refl
-word-octets BEGIN = refl
-word-octets COMMIT = refl
-word-octets CONNECT = refl
-word-octets CONNECTED = refl
-word-octets DISCONNECT = refl
-word-octets ERROR = refl
-word-octets MESSAGE = refl
-word-octets NACK = refl
-word-octets RECEIPT = refl
-word-octets SEND = refl
-word-octets STOMP = refl
-word-octets SUBSCRIBE = refl
-word-octets UNSUBSCRIBE = refl
+word-octets = each-test (λ c. every is-octet (word c)) refl
 
 module _ (ver : Version) where
   abbrev pub Finishable : List ℕ → Type 0

@@ -8,15 +8,16 @@ use native.Mathlib.Omega.{arith}
 use lib.ListN.{length, take, getD}
 use lib.Seq.{length-take-le}
 use lib.Dec.{eqb, leb, ltb}
-use borrow.Author.Tests.{leb-true, eqb-true, lt-ltb, le-leb, eq-eqb}
+use borrow.Author.Tests.{eqb-true, lt-ltb, le-leb, eq-eqb}
 use Rattle.headers.specs.Rows.{begins}
 use Rattle.headers.proofs.Rows.{refuted, begins-snoc}
-use Rattle.frames.proofs.Upto.{upto, upto-at}
-use Rattle.frames.specs.Grammar.{Command, number, word, ABORT, ACK, BEGIN, COMMIT, CONNECT, CONNECTED, DISCONNECT, ERROR, MESSAGE, NACK, RECEIPT, SEND, STOMP, SUBSCRIBE, UNSUBSCRIBE}
+use Rattle.frames.proofs.Upto.{upto, upto-at, upto-le}
+use Rattle.frames.specs.Grammar.{Command, number, word}
 use Rattle.frames.specs.Open.{all}
 use Rattle.frames.specs.Parsing.{first}
 use Rattle.frames.specs.Scanning.{word-of, number-of, next-command, whole-command, Reached}
 use Rattle.frames.specs.Words.{packed}
+use Rattle.frames.proofs.Commands.{number-small}
 use Rattle.frames.proofs.Scanning.{word-number}
 
 -- ---- tests at each number, and at each command and place
@@ -41,15 +42,12 @@ reached c k = ltb 0 k && (leb k (length (word-of c)) && eqb (number-of (first (b
 reached-true : (c k : ℕ) → Reached c k → 0 < k → reached c k ≡ true
 reached-true c k r h = let (a, b, e) = r .something h in rw (lt-ltb 0 k h, le-leb k (length (word-of c)) b, eq-eqb _ c e)
 
-small-number : (d : Command) → leb (number d) 15 ≡ true
-small-number = elim [ ABORT ↦ refl | ACK ↦ refl | BEGIN ↦ refl | COMMIT ↦ refl | CONNECT ↦ refl | CONNECTED ↦ refl | DISCONNECT ↦ refl | ERROR ↦ refl | MESSAGE ↦ refl | NACK ↦ refl | RECEIPT ↦ refl | SEND ↦ refl | STOMP ↦ refl | SUBSCRIBE ↦ refl | UNSUBSCRIBE ↦ refl ]
-
 small-found : (o : Option Command) → number-of o ≤ 15
 small-found none = omega arith
-small-found (some d) = leb-true (number d) 15 (small-number d)
+small-found (some d) = number-small d
 
 pub short : (c : ℕ) → c ≤ 15 → length (word-of c) ≤ 11
-short c h = leb-true (length (word-of c)) 11 (upto-at (λ d. leb (length (word-of d)) 11) 16 c refl (omega arith))
+short c h = upto-le (λ d. length (word-of d)) 11 16 c refl (omega arith)
 
 pub small : (c k : ℕ) → Reached c k → (c ≤ 15) × (k ≤ 11)
 small c zero r = omega (arith, r .nothing refl)
@@ -124,7 +122,7 @@ parts c k e =
 parts-at : (c k : ℕ) → Reached c k → 0 < k → (d : Command) → parts c k (number d) ≡ true
 parts-at c k r h d =
     upto-at (parts c k) 16 (number d) (at-reached (λ i j. upto (parts i j) 16) refl c k r h)
-    (omega (arith, leb-true (number d) 15 (small-number d)))
+    (omega (arith, number-small d))
 
 none-first : (f : List ℕ → Bool) (cs : List Command) → ((d : Command) → f (word d) ≡ false) → first f cs ≡ none
 none-first f [] h = refl
