@@ -3,13 +3,14 @@
 use mathlib.Core.Path.{_≡_, refl, sym, _∙_, ap, subst}
 use mathlib.Core.Bool.{Bool, true, false, _&&_, _||_, not, and-assoc, and-true}
 use mathlib.Core.List.{List, [], _∷_, _++_}
-use Prim.Native.Nat.{ℕ, _+_, _-_, _≤_, _<_}
+use mathlib.Core.Logic.{_⊎_, inl, inr}
+use Prim.Native.Nat.{ℕ, _+_, _-_, _≤_, _<_, min}
 use native.Mathlib.Numerals.{add-one, one-add}
 use native.Mathlib.Nat.{add-zero, add-assoc}
 use native.Mathlib.Omega.{arith}
 use lib.Dec.{eqb}
 use lib.ListN.{length, take, drop, getD, drop-of-length-le, take-append-drop, length-take, length-drop}
-use lib.Seq.{drop-cons, drop-append-le, drop-drop}
+use lib.Seq.{drop-cons, drop-append-le, drop-drop, take-all}
 use borrow.Author.Tests.{le-leb, lt-ltb, not-true, eqb-true}
 use Rattle.headers.specs.Rows.{every}
 use Rattle.headers.specs.Text.{fresh, into, reads, plain, stops, opens, is-letter}
@@ -24,11 +25,34 @@ use Rattle.frames.proofs.Steps.{read-open, read-letter}
 
 -- ---- The front of a row that passes a test
 
+-- a part's length
+part-long : (l : List ℕ) (i e : ℕ) → i ≤ e → e ≤ length l → length (take (e - i) (drop i l)) ≡ e - i
+part-long l i e ie el = simp (length-take, length-drop) (omega arith)
+
 module _ (p : ℕ → Bool) where
   span-every : (xs ys : List ℕ) → every p xs ≡ true → span p (xs ++ ys) ≡ length xs + span p ys
   unfolding span
   span-every [] ys h = omega arith
   span-every (x ∷ xs) ys h = rw (and-left (p x) (every p xs) h) (omega (arith, span-every xs ys (and-right (p x) (every p xs) h)))
+
+  -- a front that ends within a row, and one that is all of it
+  span-within : (xs ys : List ℕ) → span p xs < length xs → span p (xs ++ ys) ≡ span p xs
+  unfolding span
+  span-within [] ys h = absurd (omega arith)
+  span-within (x ∷ xs) ys h = by (p x) refl (span-within xs ys)
+    where
+      by : (t : Bool) → p x ≡ t → (span p xs < length xs → span p (xs ++ ys) ≡ span p xs) → span p (x ∷ (xs ++ ys)) ≡ span p (x ∷ xs)
+      by true e r = rw e (ap (λ n. 1 + n) (r (omega (arith, rw e at h))))
+      by false e r = rw e
+
+  span-full : (xs : List ℕ) → span p xs ≡ length xs → every p xs ≡ true
+  unfolding span
+  span-full [] h = refl
+  span-full (x ∷ xs) h = by (p x) refl (span-full xs)
+    where
+      by : (t : Bool) → p x ≡ t → (span p xs ≡ length xs → every p xs ≡ true) → every p (x ∷ xs) ≡ true
+      by true e r = rw e (r (omega (arith, rw e at h)))
+      by false e r = absurd (omega (arith, rw e at h))
 
   span-le : (xs : List ℕ) → span p xs ≤ length xs
   unfolding span
@@ -45,11 +69,32 @@ module _ (p : ℕ → Bool) (s : List ℕ) (i : ℕ) where
 
   pub span-block : (e : ℕ) → i ≤ e → e ≤ length s → every p (take (e - i) (drop i s)) ≡ true → e + span p (drop e s) ≡ i + span p (drop i s)
   span-block e ie h t =
-      let long : length (take (e - i) (drop i s)) ≡ e - i = simp (length-take, length-drop) (omega arith) in
+      let long = part-long s i e ie h in
       let q = ap (span p) (sym (take-append-drop (e - i) (drop i s))) ∙ span-every p (take (e - i) (drop i s)) (drop (e - i) (drop i s)) t in
       let sum : i + (e - i) ≡ e = omega arith in
       let r = ap (span p) (drop-drop (e - i) i s ∙ ap (λ n. drop n s) sum) in
       omega arith
+
+  -- a block's front, of k octets: the row's, or all of the block
+  module _ (e : ℕ) {k : ℕ} (ie : i ≤ e) (h : e ≤ length s) (is : k ≡ span p (take (e - i) (drop i s))) where
+    pub block-stop : k < e - i → i + k ≡ i + span p (drop i s)
+    block-stop l =
+        let long = part-long s i e ie h in
+        let q = ap (span p) (sym (take-append-drop (e - i) (drop i s))) ∙ span-within p (take (e - i) (drop i s)) (drop (e - i) (drop i s)) (omega arith) in
+        omega arith
+
+    pub block-more : k ≡ e - i → i + k + span p (drop (i + k) s) ≡ i + span p (drop i s)
+    block-more l =
+        let at : e ≡ i + k = omega arith in
+        rw (← at) (span-block e ie h (span-full p (take (e - i) (drop i s)) (omega (arith, part-long s i e ie h))))
+
+  -- r octets on in the rest of the row
+  pub span-on : {r : ℕ} → i ≤ length s → let rest = take (length s - i) (drop i s) in (r ≤ length rest) × (r + span p (drop r rest) ≡ span p rest)
+      → (i + r ≤ length s) × (i + r + span p (drop (i + r) s) ≡ i + span p (drop i s))
+  span-on {r} h q =
+      let all : take (length s - i) (drop i s) ≡ drop i s = take-all (length s - i) (drop i s) (simp length-drop (omega arith)) in
+      let (short, e) = rw all at q in
+      (omega (arith, length-drop i s), omega (arith, ap (span p) (drop-drop r i s)))
 
   pub span-more : i < length s → p (getD s i 0) ≡ true → i + 1 + span p (drop (i + 1) s) ≡ i + span p (drop i s)
   unfolding span
@@ -63,13 +108,29 @@ module _ (p : ℕ → Bool) (s : List ℕ) (i : ℕ) where
   unfolding span
   span-end h = rw (drop-of-length-le s h) (omega arith)
 
+-- the first octet of a row that fails the test is at k, before i; or none before i does, and k is the row's length
+abbrev pub FirstStop : (ℕ → Bool) → List ℕ → ℕ → ℕ → Type 0
+FirstStop p s k i = (i ≤ length s) × (((k < i) × (k ≡ span p s)) ⊎ ((k ≡ length s) × (i + span p (drop i s) ≡ span p s)))
+
+module _ (p : ℕ → Bool) (s : List ℕ) (i : ℕ) {k : ℕ} where
+  -- one place more: the octet there passes, or fails
+  module _ (h : i < length s) {c k′ : ℕ} (m : k′ ≡ min c k) where
+    pub first-on : p (getD s i 0) ≡ true → c ≡ length s → FirstStop p s k i → FirstStop p s k′ (i + 1)
+    first-on t e (l, inl (a, b)) = (omega arith, inl (omega arith))
+    first-on t e (l, inr (a, b)) = (omega arith, inr (omega arith, span-more p s i h t ∙ b))
+
+    pub first-here : p (getD s i 0) ≡ false → c ≡ i → FirstStop p s k i → FirstStop p s k′ (i + 1)
+    first-here t e (l, inl (a, b)) = (omega arith, inl (omega arith))
+    first-here t e (l, inr (a, b)) = (omega arith, inl (omega (arith, span-stop p s i h t)))
+
+  pub first-end : length s ≤ i → FirstStop p s k i → k ≡ span p s
+  first-end h (l, inl (a, b)) = b
+  first-end h (l, inr (a, b)) = omega (arith, span-end p s i h)
+
 -- ---- Numbers of a state fit
 
-pub value-short : {st : Scan} → Valid st → st .phase ≡ 7 → st .len ≤ 512
-value-short v e = omega (arith, ap len-max e)
-
-pub name-short : {st : Scan} → Valid st → st .phase ≡ 5 → st .len ≤ 511
-name-short v e = omega (arith, ap len-max e)
+pub line-short : {st : Scan} {p : ℕ} → Valid st → st .phase ≡ p → st .len ≤ len-max p
+line-short v e = rw e at (v .short)
 
 -- ---- States that pass octets unchanged but for their counts
 
@@ -98,7 +159,7 @@ module _ (p : ℕ → Bool) (room : ℕ) (st : Scan) (g : Glides p room st) wher
   ahead-by l i e k ie el fits is =
       let xs : List ℕ = take (e - i) (drop i l) in
       let ys : List ℕ = drop (e - i) (drop i l) in
-      let long : length xs ≡ e - i = simp (length-take, length-drop) (omega arith) in
+      let long : length xs ≡ e - i = part-long l i e ie el in
       let short : k ≤ length xs = omega (arith, span-le p xs) in
       let first : 0 + span p xs ≡ k = omega arith in
       record {
@@ -114,7 +175,7 @@ module _ (p : ℕ → Bool) (room : ℕ) (st : Scan) (g : Glides p room st) wher
       }
 
 -- an octet that stands for itself
-reads-plain : (s : Style) (f : Field) (x : ℕ) → plain s f x ≡ true → reads s f fresh x ≡ into fresh
+pub reads-plain : (s : Style) (f : Field) (x : ℕ) → plain s f x ≡ true → reads s f fresh x ≡ into fresh
 reads-plain s f x h =
     simp (not-true (stops s f x) (and-left (not (stops s f x)) (not (opens s x)) h), not-true (opens s x) (and-right (not (stops s f x)) (not (opens s x)) h))
 
@@ -198,16 +259,7 @@ module _ (st : Scan) (v : Valid st) where
   pub ahead-counted : st .phase ≡ 13 → (l : List ℕ) (i e : ℕ) → i ≤ e → e ≤ length l → st .len + (e - i) ≤ st .size → Ahead l i st (e - i)
   ahead-counted ph l i e ie el fits =
       ahead-by (λ x. true) (st .size) st (glides-counted ph) l i e (e - i) ie el fits
-      (sym (span-any (take (e - i) (drop i l)) ∙ simp (length-take, length-drop) (omega arith)))
-
-  -- no octet
-  pub ahead-none : (l : List ℕ) (i : ℕ) → i ≤ length l → Ahead l i st 0
-  ahead-none l i h =
-      record {
-        within = omega arith;
-        kept = rw skip-zero v;
-        same-end = sym (ap (λ z. scan z (drop (i + 0) l)) (skip-zero st) ∙ ap (λ n. scan st (drop n l)) (add-zero i));
-      }
+      (sym (span-any (take (e - i) (drop i l)) ∙ part-long l i e ie el))
 
   -- the backslash of an escape in a value, and the letter after it
   opened : {y : Style} (x : ℕ) → y ≡ style-of (st .command) → st .phase ≡ 7 → st .len + 2 ≤ 512 → opens y x ≡ true → scan-step st x ≡ in-line st 8 0 (st .size) (st .len + 1)
@@ -248,9 +300,7 @@ ahead-then st l i k m a b =
     }
 
 pub span-part : (p : ℕ → Bool) (l : List ℕ) (i e k : ℕ) → i ≤ e → e ≤ length l → k ≡ span p (take (e - i) (drop i l)) → i + k ≤ e
-span-part p l i e k ie el is =
-    let long : length (take (e - i) (drop i l)) ≡ e - i = simp (length-take, length-drop) (omega arith) in
-    omega (arith, span-le p (take (e - i) (drop i l)))
+span-part p l i e k ie el is = omega (arith, part-long l i e ie el, span-le p (take (e - i) (drop i l)))
 
 -- a value in which e is no further than its line may go takes the octets from i to j
 abbrev pub Takes : Style → List ℕ → ℕ → ℕ → ℕ → Type 0

@@ -22,4 +22,5 @@ pub mod Gliding
 pub mod Sizes
 pub mod Packing
 pub mod Running
+pub mod Passing
 pub mod Named

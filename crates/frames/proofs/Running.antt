@@ -13,7 +13,7 @@ use Rattle.frames.specs.Grammar.{v1-2}
 use Rattle.frames.specs.Replies.{Reply}
 use Rattle.frames.specs.Parsing.{parsed}
 use Rattle.frames.specs.Exactness.{Exact}
-use Rattle.frames.specs.Scanning.{scan-step, scan, nothing-read, scan-reply, Valid, skip, Ahead}
+use Rattle.frames.specs.Scanning.{scan-step, scan, nothing-read, scan-reply}
 use Rattle.frames.proofs.Exact.{exact}
 use Rattle.frames.proofs.Scanning.{scanned}
 use Rattle.frames.proofs.Bounds.{stays}
@@ -29,14 +29,6 @@ module _ (s : List ℕ) (i : ℕ) (st : Scan) where
 
   pub scan-end : length s ≤ i → scan st (drop i s) ≡ st
   scan-end h = rw (drop-of-length-le s h) refl
-
--- a stretch passed at a go, of the state that the code has then
-module _ {s : List ℕ} {i k : ℕ} {st st′ : Scan} (a : Ahead s i st k) (e : st′ ≡ skip k st) where
-  pub ahead-scan : scan st (drop i s) ≡ scan st′ (drop (i + k) s)
-  ahead-scan = a .same-end ∙ ap (λ z. scan z (drop (i + k) s)) (sym e)
-
-  pub ahead-valid : Valid st′
-  ahead-valid = subst Valid (sym e) (a .kept)
 
 -- what a slice of octets holds
 pub octets-known : (xs : List ℕ) → ((i : ℕ) → getD xs i 0 < 256) → every is-octet xs ≡ true

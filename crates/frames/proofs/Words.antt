@@ -64,14 +64,19 @@ at-reached f t c k r h =
 
 -- ---- the letters of a word
 
--- not one of the numbers from 1 to n
-abbrev NoneOf : ℕ → ℕ → Type 0
-NoneOf zero c = Unit {0}
-NoneOf (suc n) c = NoneOf n c × (c ≡ suc n → ⊥)
+-- not one of the n numbers from a on
+abbrev NoneOf : ℕ → ℕ → ℕ → Type 0
+NoneOf a zero c = Unit {0}
+NoneOf a (suc n) c = NoneOf a n c × (c ≡ a + n → ⊥)
 
-pub none-left : (n c : ℕ) → c ≤ n → NoneOf n c → c ≡ 0
-none-left zero c h t = omega arith
-none-left (suc n) c h (t, ne) = none-left n c (omega arith) t
+-- a number that is not below them is past them
+pub none-past : (a n c : ℕ) → a ≤ c → NoneOf a n c → a + n ≤ c
+none-past a zero c h t = omega arith
+none-past a (suc n) c h (t, ne) = omega (arith, none-past a n c h t)
+
+pub none-left : (n c : ℕ) → c ≤ n → NoneOf 1 n c → c ≡ 0
+none-left n zero h t = refl
+none-left n (suc c) h t = absurd (omega (arith, none-past 1 n (suc c) (omega arith) t))
 
 pub letter-at : (c k : ℕ) → c ≤ 15 → k ≤ 11 → 64 + packed (word-of c) / 2 ^ (5 * k) % 32 ≡ getD (word-of c) k 64
 unfolding packed

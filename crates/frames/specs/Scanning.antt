@@ -278,3 +278,10 @@ pub record Ahead (xs : List ℕ) (i : ℕ) (st : Scan) (k : ℕ) : Type 0 where
   pub within : i + k ≤ length xs
   pub kept : Valid (skip k st)
   pub same-end : scan st (drop i xs) ≡ scan (skip k st) (drop (i + k) xs)
+
+-- st′ is the state some octets of xs from i on, as many as its place went on
+pub record Passed (xs : List ℕ) (i : ℕ) (st st′ : Scan) : Type 0 where
+  pub onward : st .at ≤ st′ .at
+  pub within : i + (st′ .at - st .at) ≤ length xs
+  pub kept : Valid st′
+  pub same-end : scan st (drop i xs) ≡ scan st′ (drop (i + (st′ .at - st .at)) xs)

@@ -1,4 +1,4 @@
-// Plain stretches at a go: how many octets a state can pass at once.
+// Plain stretches: how many octets header text or a body takes as they stand.
 ghost use mathlib.Core.Path.{_≡_};
 ghost use Prim.Native.Nat.{_+_, _≤_, _<_};
 ghost use lib.ListN.{length, drop};
@@ -55,26 +55,36 @@ fn plain_blocks(s: &[u8], escapes: bool) -> usize
     i
 }
 
-// How many octets at the front of s header text takes as they stand.
-fn plain_span(s: &[u8], escapes: bool) -> usize
+// The place of the first octet of a block that header text does not take as it stands, or 32: every octet is looked at here too.
+fn first_stop(s: &[u8], escapes: bool) -> u8
+    requires { ⌜ length (now s) ≡ 32 ⌝ }
     ensures { λ r. ⌜ r ≡ span (plain-in escapes) (now (s .entry)) ⌝ }
 {
-    let mut i = plain_blocks(s, escapes);
+    let mut k = 32u8;
+    let mut i = 0usize;
     while i < s.len() {
-        if is_plain_alone(escapes, s[i]) {
-            i += 1;
-        } else {
-            return i;
-        }
+        let c = if is_plain(escapes, s[i]) { 32 } else { i as u8 };
+        k = if c < k { c } else { k };
+        i += 1;
     }
-    i
+    k
 }
 
-// The same, one by one: for stretches that are short, as names are.
-fn few_plain(s: &[u8], escapes: bool) -> usize
+// How many octets at the front of s header text takes as they stand. The first block gives the place at once, as most stretches are
+// short; long ones go on by whole blocks; what is left is less than a block.
+pub(crate) fn plain_span(s: &[u8], escapes: bool) -> usize
     ensures { λ r. ⌜ r ≡ span (plain-in escapes) (now (s .entry)) ⌝ }
 {
     let mut i = 0usize;
+    while 32 <= s.len() - i {
+        let e = i + 32;
+        let k = first_stop(&s[i..e], escapes) as usize;
+        i += k;
+        if k < 32 {
+            return i;
+        }
+        i += plain_blocks(&s[i..], escapes);
+    }
     while i < s.len() {
         if is_plain_alone(escapes, s[i]) {
             i += 1;
@@ -116,7 +126,7 @@ fn clear_blocks(s: &[u8], from: usize, size: usize) -> usize
 }
 
 // How many octets at the front of s are not 0: by large blocks, then by small ones, then one by one.
-fn body_span(s: &[u8]) -> usize
+pub(crate) fn body_span(s: &[u8]) -> usize
     ensures { λ r. ⌜ r ≡ span not-zero (now (s .entry)) ⌝ }
 {
     let far = clear_blocks(s, 0, 128);
@@ -131,7 +141,7 @@ fn body_span(s: &[u8]) -> usize
 }
 
 // The end of the octets from i on that fit the room.
-fn upto(i: usize, room: usize, n: usize) -> usize
+pub(crate) fn upto(i: usize, room: usize, n: usize) -> usize
     requires { ⌜ i ≤ n ⌝ }
     ensures { λ r. ⌜ (i ≤ r) × (r ≤ n) × (r ≤ i + room) ⌝ }
 {
@@ -139,7 +149,7 @@ fn upto(i: usize, room: usize, n: usize) -> usize
 }
 
 // How many octets of s from i on a value takes, whole escapes among them.
-fn value_span(s: &[u8], i: usize, st: Scan) -> usize
+pub(crate) fn value_span(s: &[u8], i: usize, st: Scan) -> usize
     requires { ⌜ (i ≤ length (now s)) × Valid st × (st .phase ≡ 7) ⌝ }
     ensures { λ r. ⌜ Ahead (now (s .entry)) i st r ⌝ }
 {
@@ -154,37 +164,9 @@ fn value_span(s: &[u8], i: usize, st: Scan) -> usize
             return j - i;
         }
         let f = j + 2;
-        j = f + few_plain(&s[f..e], style.escapes);
+        j = f + plain_span(&s[f..e], style.escapes);
     }
     j - i
-}
-
-// How many octets of s from i on the state passes at a go.
-pub(crate) fn ahead(s: &[u8], i: usize, st: Scan) -> usize
-    requires { ⌜ (i ≤ length (now s)) × Valid st ⌝ }
-    ensures { λ r. ⌜ Ahead (now (s .entry)) i st r ⌝ }
-{
-    let phase = st.phase;
-    let len = st.len;
-    if phase == 7 {
-        return value_span(s, i, st);
-    }
-    if phase == 5 {
-        if st.matched == 15 {
-            let e = upto(i, 511 - len, s.len());
-            return few_plain(&s[i..e], crate::scan::style_of(st.command).escapes);
-        }
-        return 0;
-    }
-    if phase == 13 {
-        let e = upto(i, st.size - len, s.len());
-        return e - i;
-    }
-    if phase == 12 {
-        let e = upto(i, crate::scan::most_of(st.command) - len, s.len());
-        return body_span(&s[i..e]);
-    }
-    0
 }
 
 // The state k octets on.

@@ -2,7 +2,8 @@
 mod word; // the words of commands
 mod scan; // what of an item has been read, in numbers
 mod valid; // whether a state is one that a run can leave
-mod ahead; // plain stretches at a go
+mod ahead; // plain stretches
+mod pass; // octets passed at a go
 mod run; // a row of octets
 pub mod parse; // the reply
 mod exports; // calls for C

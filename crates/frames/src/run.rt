@@ -16,13 +16,12 @@ pub(crate) fn run(s: &[u8], from: usize, begin: Scan) -> Scan
         if 13 < st.phase {
             return st;
         }
-        let k = crate::ahead::ahead(s, i, st);
-        st = crate::ahead::skip(st, k);
-        i += k;
+        let next = crate::pass::pass(s, i, st);
+        i += next.at - st.at;
         if s.len() <= i {
-            return st;
+            return next;
         }
-        st = crate::scan::step(st, s[i]);
+        st = crate::scan::step(next, s[i]);
         i += 1;
     }
     st

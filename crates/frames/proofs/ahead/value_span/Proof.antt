@@ -1,12 +1,11 @@
 -- `ahead::value_span` meets its contract: a plain stretch, then escapes with a plain stretch after each.
-use Rattle.frames.specs.Scanning.{plain-in}
-use Rattle.frames.proofs.Gliding.{value-short, Takes, takes-first, takes-more, span-part}
+use Rattle.frames.proofs.Gliding.{line-short, Takes, takes-first, takes-more, span-part}
 use borrow.Author.Needs.{needs}
 use borrow.Author.Tests.{not-false}
 use Prim.Native.Nat.{_≤_, _-_, _+_}
 use native.Mathlib.Omega.{arith}
 use lib.ListN.{length}
-use mathlib.Core.Path.{_≡_, sym, _∙_}
+use mathlib.Core.Path.{sym, _∙_}
 use Rattle.frames.proofs.ahead.value_span.Statement.{statement}
 use Rattle.frames.proofs.ahead.value_span.Tie as tie
 
@@ -20,7 +19,7 @@ style-of-requires : tie.Need-style-of-requires Inv-loop μ-loop
 style-of-requires c κs = search needs
 
 sub-upto : tie.Need-sub-upto Inv-loop μ-loop
-sub-upto c = omega (arith, value-short (c .before .before .before .pre .1) (c .before .before .before .pre .2))
+sub-upto c = omega (arith, line-short (c .before .before .before .pre .1) (c .before .before .before .pre .2))
 
 upto-requires : tie.Need-upto-requires Inv-loop μ-loop
 upto-requires c κs = search needs
@@ -42,8 +41,8 @@ first-part : (c : tie.After-plain-span Inv-loop μ-loop) → c .before .before .
 first-part c = span-part _ _ _ _ _ (omega arith) (omega arith) (c .plain-span .ensures)
 
 -- and so does the one after an escape
-next-part : (c : tie.After-few-plain Inv-loop μ-loop) → c .before .before .before .before .before .before .before .before .before .loop .j + 2 + c .few-plain .result ≤ c .before .before .before .before .before .before .before .before .before .before .before .before .upto .result
-next-part c = span-part _ _ _ _ _ (omega arith) (omega arith) (c .few-plain .ensures)
+next-part : (c : tie.After-plain-span2 Inv-loop μ-loop) → c .before .before .before .before .before .before .before .before .before .loop .j + 2 + c .plain-span2 .result ≤ c .before .before .before .before .before .before .before .before .before .before .before .before .upto .result
+next-part c = span-part _ _ _ _ _ (omega arith) (omega arith) (c .plain-span2 .ensures)
 
 add-j : tie.Need-add-j Inv-loop μ-loop
 add-j c = omega (arith, first-part c)
@@ -67,7 +66,7 @@ returns : tie.Need-returns Inv-loop μ-loop
 returns c =
     let q = c .before .before .before .before .before in
     let a = q .before .before .before .before .before .before in
-    let h = value-short (a .pre .1) (a .pre .2) in
+    let h = line-short (a .pre .1) (a .pre .2) in
     c .before .before .before .before .loop .inv .3 (a .args .st) (a .pre .1) (q .before .before .before .before .style-of .ensures) (a .pre .2) (omega arith)
 
 add-is-letter : tie.Need-add-is-letter Inv-loop μ-loop
@@ -86,23 +85,23 @@ returns-2 : tie.Need-returns-2 Inv-loop μ-loop
 returns-2 c =
     let q = c .before .before .before .before .before .before .before .before in
     let a = q .before .before .before .before .before .before in
-    let h = value-short (a .pre .1) (a .pre .2) in
+    let h = line-short (a .pre .1) (a .pre .2) in
     c .before .before .before .before .before .before .before .loop .inv .3 (a .args .st) (a .pre .1) (q .before .before .before .before .style-of .ensures) (a .pre .2) (omega arith)
 
 add-f : tie.Need-add-f Inv-loop μ-loop
 add-f c = search needs
 
-sub-few-plain : tie.Need-sub-few-plain Inv-loop μ-loop
-sub-few-plain c = search needs
+sub-plain-span-2 : tie.Need-sub-plain-span-2 Inv-loop μ-loop
+sub-plain-span-2 c = search needs
 
-part-few-plain-start : tie.Need-part-few-plain-start Inv-loop μ-loop
-part-few-plain-start c = search needs
+part-plain-span-start-2 : tie.Need-part-plain-span-start-2 Inv-loop μ-loop
+part-plain-span-start-2 c = search needs
 
-part-few-plain-end : tie.Need-part-few-plain-end Inv-loop μ-loop
-part-few-plain-end c = search needs
+part-plain-span-end-2 : tie.Need-part-plain-span-end-2 Inv-loop μ-loop
+part-plain-span-end-2 c = search needs
 
-few-plain-requires : tie.Need-few-plain-requires Inv-loop μ-loop
-few-plain-requires c κs = search needs
+plain-span-requires-2 : tie.Need-plain-span-requires-2 Inv-loop μ-loop
+plain-span-requires-2 c κs = search needs
 
 add-j-2 : tie.Need-add-j-2 Inv-loop μ-loop
 add-j-2 c = omega (arith, next-part c)
@@ -115,7 +114,7 @@ loop-again c =
     let l = c .before .before .before .before .before .before .before .before .before .loop in
     let o = sym (c .before .before .before .before .before .before .is-open .ensures) ∙ not-false _ (c .before .before .before .before .before .if1 .left) in
     let t = sym (c .before .before .before .is-letter .ensures) ∙ not-false _ (c .before .before .if2 .left) in
-    (omega arith, next-part c, l .inv .2, takes-more _ _ _ _ (l .inv .2) (l .j) _ (l .inv .0) (omega arith) o t (c .few-plain .ensures) (l .inv .3))
+    (omega arith, next-part c, l .inv .2, takes-more _ _ _ _ (l .inv .2) (l .j) _ (l .inv .0) (omega arith) o t (c .plain-span2 .ensures) (l .inv .3))
 
 sub-result-3 : tie.Need-sub-result-3 Inv-loop μ-loop
 sub-result-3 c = search needs
@@ -124,7 +123,7 @@ returns-3 : tie.Need-returns-3 Inv-loop μ-loop
 returns-3 c =
     let q = c .before .before in
     let a = q .before .before .before .before .before .before in
-    let h = value-short (a .pre .1) (a .pre .2) in
+    let h = line-short (a .pre .1) (a .pre .2) in
     c .before .loop .inv .3 (a .args .st) (a .pre .1) (q .before .before .before .before .style-of .ensures) (a .pre .2) (omega arith)
 
 pub value-span-spec : {M : Type 1} → statement M
@@ -153,10 +152,10 @@ value-span-spec =
     sub-result-2
     returns-2
     add-f
-    sub-few-plain
-    part-few-plain-start
-    part-few-plain-end
-    few-plain-requires
+    sub-plain-span-2
+    part-plain-span-start-2
+    part-plain-span-end-2
+    plain-span-requires-2
     add-j-2
     loop-less
     loop-again

@@ -1,0 +1,87 @@
+-- Octets passed at a go: the state that some octets lead to, and what an octet of a word or a length does. Assumes nothing.
+use mathlib.Core.Path.{_≡_, refl, sym, _∙_, ap, subst}
+use mathlib.Core.Bool.{Bool, true, false}
+use mathlib.Core.List.{List}
+use Prim.Native.Nat.{ℕ, _+_, _-_, _*_, _≤_, _<_}
+use native.Mathlib.Omega.{arith}
+use lib.ListN.{length, drop, getD}
+use borrow.Author.Tests.{eq-eqb, ne-eqb, le-leb, lt-ltb}
+use Rattle.headers.specs.Lines.{content-length}
+use Rattle.headers.specs.declared.text.Field.the-variants.{Name as in-name, Value as in-value}
+use Rattle.headers.proofs.Rows.{and-no}
+use Rattle.frames.specs.declared.scan.Scan.{Scan}
+use Rattle.frames.specs.Scanning.{style-of, most-of, next-command, to-phase, in-line, on-word, on-name, on-length, scan-step, scan, Valid, plain-in, skip, Ahead, Passed}
+use Rattle.frames.proofs.Upto.{upto-at}
+use Rattle.frames.proofs.Steps.{short-name, short-value}
+use Rattle.frames.proofs.Validity.{valid-step}
+use Rattle.frames.proofs.Gliding.{reads-plain}
+use Rattle.frames.proofs.Running.{scan-next}
+
+-- ---- The state that some octets lead to
+
+-- st′ is passed to, and the next octet stands at j
+abbrev pub Gone : List ℕ → ℕ → Scan → Scan → ℕ → Type 0
+Gone s i st st′ j = Passed s i st st′ × (j ≡ i + (st′ .at - st .at))
+
+module _ {s : List ℕ} {i : ℕ} {st : Scan} where
+  pub passed-none : i ≤ length s → Valid st → Gone s i st st i
+  passed-none h v =
+      let here : i ≡ i + (st .at - st .at) = omega arith in
+      (record { onward = omega arith; within = omega arith; kept = v; same-end = ap (λ n. scan st (drop n s)) here }, here)
+
+  -- a stretch
+  pub passed-ahead : {k : ℕ} {st′ : Scan} → Ahead s i st k → st′ ≡ skip k st → Passed s i st st′
+  passed-ahead {k} a e =
+      let here : i + k ≡ i + (st .at + k - st .at) = omega arith in
+      subst (Passed s i st) (sym e)
+      (record { onward = omega arith; within = omega (arith, a .within); kept = a .kept; same-end = a .same-end ∙ ap (λ n. scan (skip k st) (drop n s)) here })
+
+  -- one octet more
+  pub passed-step : {j : ℕ} {st′ st″ : Scan} → Gone s i st st′ j → j < length s → st″ ≡ scan-step st′ (getD s j 0) → st″ .at ≡ st′ .at + 1 → Gone s i st st″ (j + 1)
+  passed-step {j} {st′} {st″} (p, here) h e a =
+      let on = p .onward in
+      let next : j + 1 ≡ i + (st″ .at - st .at) = omega arith in (
+        record {
+          onward = omega arith;
+          within = omega arith;
+          kept = subst Valid (sym e) (valid-step st′ (p .kept) (getD s j 0));
+          same-end =
+              p .same-end
+              ∙ ap (λ n. scan st′ (drop n s)) (sym here)
+              ∙ scan-next s j st′ h
+              ∙ ap (λ z. scan z (drop (j + 1) s)) (sym e)
+              ∙ ap (λ n. scan st″ (drop n s)) next;
+        },
+        next,
+      )
+
+-- ---- What an octet of a word or a length does
+
+-- the letters of content-length, and digits, stand for themselves
+letter-plain : (b : Bool) (m : ℕ) → m < 14 → plain-in b (getD content-length m 0) ≡ true
+letter-plain true m h = upto-at (λ n. plain-in true (getD content-length n 0)) 14 m refl h
+letter-plain false m h = upto-at (λ n. plain-in false (getD content-length n 0)) 14 m refl h
+
+digit-plain : (b : Bool) (x : ℕ) → 48 ≤ x → x ≤ 57 → plain-in b x ≡ true
+digit-plain b x h l = simp (ne-eqb x 10 (λ e. omega arith), ne-eqb x 13 (λ e. omega arith), ne-eqb x 58 (λ e. omega arith), ne-eqb x 92 (λ e. omega arith), and-no)
+
+module _ (st : Scan) (x : ℕ) where
+  -- a letter of a command
+  pub word-on : {c : ℕ} → st .phase ≡ 2 → c ≡ next-command (st .command) (st .at) x → (c ≡ 0 → ⊥) → scan-step st x ≡ to-phase st 2 c
+  unfolding scan-step on-word
+  word-on {c} e same n = simp (e, ← same, ne-eqb c 0 n)
+
+  -- a letter of content-length
+  pub name-on : st .phase ≡ 5 → st .matched < 14 → st .len < 511 → x ≡ getD content-length (st .matched) 0 → scan-step st x ≡ in-line st 5 (st .matched + 1) (st .size) (st .len + 1)
+  unfolding scan-step on-name
+  name-on e m h same =
+      let y = style-of (st .command) in
+      let t : plain-in (y .escapes) x ≡ true = rw same (letter-plain (y .escapes) (st .matched) m) in
+      simp (e, reads-plain y in-name x t, short-name 0 h refl, lt-ltb (st .matched) 14 m, eq-eqb x _ same)
+
+  -- a digit of its value
+  pub digit-on : st .phase ≡ 9 → st .len < 512 → 48 ≤ x → x ≤ 57 → st .size * 10 + (x - 48) ≤ most-of (st .command) → scan-step st x ≡ in-line st 9 0 (st .size * 10 + (x - 48)) (st .len + 1)
+  unfolding scan-step on-length
+  digit-on e h l u m =
+      let y = style-of (st .command) in
+      simp (e, reads-plain y in-value x (digit-plain (y .escapes) x l u), short-value 0 h refl, le-leb 48 x l, le-leb x 57 u, le-leb (st .size * 10 + (x - 48)) (most-of (st .command)) m)

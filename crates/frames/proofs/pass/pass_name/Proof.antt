@@ -1,0 +1,57 @@
+-- `pass::pass_name` meets its contract: the name glides over plain octets as far as its line has room.
+use native.Mathlib.Omega.{arith}
+use Rattle.frames.specs.Scanning.{Ahead}
+use Rattle.frames.proofs.Gliding.{line-short, ahead-by, glides-name}
+use Rattle.frames.proofs.Passing.{passed-ahead}
+use borrow.Author.Needs.{needs}
+use Rattle.frames.proofs.pass.pass_name.Statement.{statement}
+use Rattle.frames.proofs.pass.pass_name.Tie as tie
+
+-- the octets of the name
+named : (c : tie.After-plain-span) → let a = c .before .before .before .before .before .before .args in Ahead (a .s .now) (a .i) (a .st) (c .plain-span .result)
+named c =
+    let a = c .before .before .before .before .before .before in
+    let v = a .pre .1 in
+    let h = line-short v (a .pre .2) in
+    ahead-by _ 511 (a .args .st) (glides-name (a .args .st) v (c .before .style-of .ensures) (a .pre .2) (a .pre .3)) _ _ (c .before .before .before .upto .result) _ (omega arith) (omega arith) (omega arith) (c .plain-span .ensures)
+
+sub-upto : tie.Need-sub-upto
+sub-upto c = line-short (c .before .before .pre .1) (c .before .before .pre .2)
+
+upto-requires : tie.Need-upto-requires
+upto-requires c κs = search needs
+
+sub-plain-span : tie.Need-sub-plain-span
+sub-plain-span c = search needs
+
+part-plain-span-start : tie.Need-part-plain-span-start
+part-plain-span-start c = search needs
+
+part-plain-span-end : tie.Need-part-plain-span-end
+part-plain-span-end c = search needs
+
+style-of-requires : tie.Need-style-of-requires
+style-of-requires c κs = search needs
+
+plain-span-requires : tie.Need-plain-span-requires
+plain-span-requires c κs = search needs
+
+skip-requires : tie.Need-skip-requires
+skip-requires c κs = named c .kept
+
+returns : tie.Need-returns
+returns c = passed-ahead (named (c .before)) (c .skip .ensures)
+
+pub pass-name-spec : {M : Type 1} → statement M
+pass-name-spec =
+    tie.close
+    (tie.spec
+    sub-upto
+    upto-requires
+    sub-plain-span
+    part-plain-span-start
+    part-plain-span-end
+    style-of-requires
+    plain-span-requires
+    skip-requires
+    returns)
