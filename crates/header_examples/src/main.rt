@@ -220,12 +220,35 @@ fn compare(block: &[u8], value: &[u8]) {
 }
 
 fn main() {
-    // P6 and P7, and what stands in their blocks.
+    document_blocks();
+    document_lines();
+    one_pass();
+    every_octet();
+    not_raw();
+    rooms();
+    long_lines();
+    line_rooms();
+    empty_names();
+    cut_blocks();
+    entries();
+    valid_blocks();
+    read_decimals();
+    read_decimals_edges();
+    write_decimals();
+    write_largest();
+}
+
+// P6, and what stands in its block.
+fn document_blocks() {
     record(b"P6: ", b"destination", b"/p", true, 600);
     let p6 = b"HD\x00\x0b\x00\x02destination/p";
     find(b"P6 destination: ", p6, b"destination");
     find(b"P6 run: ", p6, b"run");
     line(b"P6 added line: ", b"content-length", b"2", true, 600);
+}
+
+// P7 and P13, and what stands in their blocks.
+fn document_lines() {
     record(b"P7: ", b"id", b"a\\cb", true, 600);
     find(b"P7 id: ", b"HD\x00\x02\x00\x03ida:b", b"id");
     line(b"P7 again: ", b"id", b"a:b", true, 600);
@@ -234,25 +257,43 @@ fn main() {
         b"HD\x00\x03\x00\x01runbHD\x00\x03\x00\x01runa",
         b"run",
     );
-    // One pass: an escaped backslash, then a c.
+}
+
+// One pass: an escaped backslash, then a c.
+fn one_pass() {
     record(b"\\\\c: ", b"x", b"\\\\c", true, 600);
     record(b"\\\\c, no escapes: ", b"x", b"\\\\c", false, 600);
-    every_octet();
-    // Text that is not raw text, too little room, and that order.
+}
+
+// Text that is not raw text, and that this is told before too little room.
+fn not_raw() {
     record(b"\\t: ", b"id", b"a\\t", true, 0);
     record(b"cut escape: ", b"id", b"a\\", true, 600);
     record(b"cut escape, no escapes: ", b"id", b"a\\", false, 600);
     record(b"colon in a name: ", b"a:b", b"", false, 600);
+}
+
+// Room for all of a record, and for all but one octet.
+fn rooms() {
     record(b"room 10 of 11: ", b"id", b"a\\cb", true, 10);
     record(b"room 11 of 11: ", b"id", b"a\\cb", true, 11);
-    long_lines();
+}
+
+// A line that cannot be written, and room for all of one, and for all but one octet.
+fn line_rooms() {
     line(b"colon, no escapes: ", b"id", b"a:b", false, 600);
     line(b"room 7 of 8: ", b"id", b"a:b", true, 7);
     line(b"room 8 of 8: ", b"id", b"a:b", true, 8);
-    // Empty names, blocks of none, and blocks that are cut.
+}
+
+fn empty_names() {
     line(b"empty name: ", b"", b"v", true, 0);
     record(b"empty name, record: ", b"", b"v", true, 600);
     find(b"empty name, found: ", b"HD\x00\x00\x00\x01v", b"");
+}
+
+// Blocks of no records, and blocks that are cut.
+fn cut_blocks() {
     find(b"no records: ", b"", b"x");
     find(b"cut record: ", b"HD\x00\x02\x00\x03ida:", b"id");
     find(
@@ -261,15 +302,28 @@ fn main() {
         b"a",
     );
     find(b"zeros behind: ", b"HD\x00\x01\x00\x01ab\x00", b"a");
-    entry(b"at 0: ", b"HD\x00\x01\x00\x01abHD\x00\x00\x00\x00", 0);
-    entry(b"at 8: ", b"HD\x00\x01\x00\x01abHD\x00\x00\x00\x00", 8);
-    entry(b"at 14: ", b"HD\x00\x01\x00\x01abHD\x00\x00\x00\x00", 14);
-    entry(b"at 1: ", b"HD\x00\x01\x00\x01abHD\x00\x00\x00\x00", 1);
-    say(b"valid: ");
-    yes_or_no(headers::is_valid(b"HD\x00\x01\x00\x01abHD\x00\x00\x00\x00"));
-    say(b"valid, one octet cut: ");
-    yes_or_no(headers::is_valid(b"HD\x00\x01\x00\x01abHD\x00\x00\x00"));
-    decimals();
+}
+
+fn entries() {
+    let block = b"HD\x00\x01\x00\x01abHD\x00\x00\x00\x00";
+    entry(b"at 0: ", block, 0);
+    entry(b"at 8: ", block, 8);
+    entry(b"at 14: ", block, 14);
+    entry(b"at 1: ", block, 1);
+}
+
+fn valid_blocks() {
+    valid(b"valid: ", b"HD\x00\x01\x00\x01abHD\x00\x00\x00\x00");
+    valid(
+        b"valid, one octet cut: ",
+        b"HD\x00\x01\x00\x01abHD\x00\x00\x00",
+    );
+}
+
+// Whether a block is valid.
+fn valid(label: &[u8], block: &[u8]) {
+    say(label);
+    yes_or_no(headers::is_valid(block));
 }
 
 // Lines of 512 octets and of 513: raw, and decoded.
@@ -298,7 +352,7 @@ fn length(value: &[u8]) {
     }
 }
 
-fn decimals() {
+fn read_decimals() {
     decimal(b"32768: ", b"32768", 32768);
     decimal(
         b"0000000000000000000000032768: ",
@@ -312,14 +366,23 @@ fn decimals() {
         4294967295,
     );
     decimal(b"4294967295: ", b"4294967295", 4294967295);
+}
+
+fn read_decimals_edges() {
     decimal(b"nothing: ", b"", 32768);
     decimal(b"blank and 5: ", b" 5", 32768);
     decimal(b"1:1 : ", b"1:1", 32768);
     decimal(b"0, at most 0: ", b"0", 0);
+}
+
+fn write_decimals() {
     shortest(b"0: ", 0, 24);
     shortest(b"9: ", 9, 24);
     shortest(b"10: ", 10, 24);
     shortest(b"32768: ", 32768, 24);
+}
+
+fn write_largest() {
     shortest(b"18446744073709551615: ", 18446744073709551615, 20);
     shortest(b"18446744073709551615, no room: ", 18446744073709551615, 19);
 }
