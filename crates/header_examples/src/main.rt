@@ -17,6 +17,19 @@ fn number(n: u64) {
     io::print_decimal(1, n);
 }
 
+// A number, and a line end.
+fn number_line(n: u64) {
+    number(n);
+    say(b"\n");
+}
+
+// Two numbers, and a blank between them.
+fn pair(a: u64, b: u64) {
+    number(a);
+    say(b" ");
+    number(b);
+}
+
 fn wide(x: u8) -> u64 {
     x as u64
 }
@@ -105,47 +118,48 @@ fn find(label: &[u8], block: &[u8], name: &[u8]) {
         Found::Value(p) => {
             let start = p.start;
             let len = p.len;
-            number(start as u64);
-            say(b" ");
-            number(len as u64);
+            pair(start as u64, len as u64);
             if start <= block.len() {
                 front(&block[start..], len);
             }
         }
         Found::Absent => say(b"none\n"),
-        Found::Malformed => say(b"22\n"),
+        Found::Malformed => number_line(22),
     }
 }
 
 // Shows the record at a place of a block.
-fn entry(label: &[u8], block: &[u8], at: usize) {
-    say(label);
+fn entry(block: &[u8], at: usize) {
+    say(b"at ");
+    number(at as u64);
+    say(b": ");
     match headers::entry_at(block, at) {
         EntryAt::Entry(l) => {
-            number(l.name as u64);
-            say(b" ");
-            number(l.value as u64);
+            pair(l.name as u64, l.value as u64);
             say(b"\n");
         }
         EntryAt::End => say(b"end\n"),
-        EntryAt::Malformed => say(b"22\n"),
+        EntryAt::Malformed => number_line(22),
     }
 }
 
 fn decimal(label: &[u8], s: &[u8], limit: u32) {
     say(label);
     match headers::read_decimal(s, limit) {
-        DecimalRead::Number(n) => {
-            number(n as u64);
-            say(b"\n");
-        }
+        DecimalRead::Number(n) => number_line(n as u64),
         DecimalRead::Invalid => say(b"invalid\n"),
     }
 }
 
-fn shortest(label: &[u8], n: u64, room: usize) {
-    say(label);
-    number(headers::decimal_length(n) as u64);
+// Writes a number into room octets of sevens, and shows its length and the same.
+fn shortest(n: u64, room: usize) {
+    number(n);
+    let len = headers::decimal_length(n);
+    if room < len {
+        say(b", no room");
+    }
+    say(b": ");
+    number(len as u64);
     say(b" ");
     let mut d = [7u8; 24];
     if room <= 24 {
@@ -160,49 +174,65 @@ fn shortest_in(d: &mut [u8], n: u64) {
     }
 }
 
-// The octets 0 to 255 as a value: encoded, decoded again, and compared.
-fn every_octet() {
+// The octets 0 to 255.
+fn all_octets() -> [u8; 256] {
     let mut all = [0u8; 256];
     let mut i: usize = 0;
     while i < 256 {
         all[i] = i as u8;
         i += 1;
     }
-    let style = Style { escapes: true };
-    say(b"every octet: ");
-    number(headers::encoded_length(&all, style) as u64);
-    say(b" ");
-    number(headers::decoded_length(&all, style) as u64);
+    all
+}
+
+// The octets 0 to 255 as a value: encoded, decoded again, and compared.
+fn every_octet() {
+    let all = all_octets();
+    let value: &[u8] = &all;
+    lengths(b"every octet: ", value);
+    again(value);
+    length(b"every octet, no escapes: ", value, false);
+}
+
+// The length of a value encoded, and that of it decoded.
+fn lengths(label: &[u8], value: &[u8]) {
+    say(label);
+    let encoded = headers::encoded_length(value, Style { escapes: true });
+    let decoded = headers::decoded_length(value, Style { escapes: true });
+    pair(encoded as u64, decoded as u64);
     say(b"\n");
-    again(&all, style);
-    say(b"every octet, no escapes: ");
-    match headers::line_length(b"x", &all, Style { escapes: false }) {
-        LineLength::Length(n) => {
-            number(n as u64);
-            say(b"\n");
-        }
-        LineLength::Unwritable => say(b"53\n"),
-    }
 }
 
 // A value written as a line, its raw value made a record, and the record's value compared with it.
-fn again(value: &[u8], style: Style) {
+fn again(value: &[u8]) {
     let mut raw = [0u8; 600];
-    let mut block = [0u8; 600];
-    if let LineWritten::Length(n) = headers::write_line(&mut raw, b"x", value, style) {
-        if 3 <= n {
-            if n <= 600 {
-                let last = n - 1;
-                let text = &raw[2..last];
-                say(b"its raw value: ");
-                number(text.len() as u64);
-                say(b" ");
-                yes_or_no(headers::is_raw(text, style, Field::Value));
-                headers::write_record(&mut block, b"x", text, style);
-                compare(&block, value);
-            }
+    let n = line_of(&mut raw, value);
+    if 3 <= n {
+        if n <= 600 {
+            let last = n - 1;
+            raw_again(&raw[2..last], value);
         }
     }
+}
+
+// Writes the line of a value, whose name has one octet: its length, or 0.
+fn line_of(d: &mut [u8], value: &[u8]) -> usize {
+    match headers::write_line(d, b"x", value, Style { escapes: true }) {
+        LineWritten::Length(n) => n,
+        LineWritten::Unwritable => 0,
+        LineWritten::TooShort => 0,
+    }
+}
+
+// A raw value made a record, and the record's value compared with another.
+fn raw_again(text: &[u8], value: &[u8]) {
+    say(b"its raw value: ");
+    number(text.len() as u64);
+    say(b" ");
+    yes_or_no(headers::is_raw(text, Style { escapes: true }, Field::Value));
+    let mut block = [0u8; 600];
+    headers::write_record(&mut block, b"x", text, Style { escapes: true });
+    compare(&block, value);
 }
 
 // Whether the value of the first record of a buffer, whose name has one octet, is this one.
@@ -231,17 +261,15 @@ fn main() {
     empty_names();
     cut_blocks();
     entries();
-    valid_blocks();
     read_decimals();
-    read_decimals_edges();
+    read_edges();
     write_decimals();
-    write_largest();
 }
 
 // P6, and what stands in its block.
 fn document_blocks() {
     record(b"P6: ", b"destination", b"/p", true, 600);
-    let p6 = b"HD\x00\x0b\x00\x02destination/p";
+    let p6: &[u8] = b"HD\x00\x0b\x00\x02destination/p";
     find(b"P6 destination: ", p6, b"destination");
     find(b"P6 run: ", p6, b"run");
     line(b"P6 added line: ", b"content-length", b"2", true, 600);
@@ -249,9 +277,10 @@ fn document_blocks() {
 
 // P7 and P13, and what stands in their blocks.
 fn document_lines() {
-    record(b"P7: ", b"id", b"a\\cb", true, 600);
-    find(b"P7 id: ", b"HD\x00\x02\x00\x03ida:b", b"id");
-    line(b"P7 again: ", b"id", b"a:b", true, 600);
+    let id: &[u8] = b"id";
+    record(b"P7: ", id, b"a\\cb", true, 600);
+    find(b"P7 id: ", b"HD\x00\x02\x00\x03ida:b", id);
+    line(b"P7 again: ", id, b"a:b", true, 600);
     find(
         b"P13 run: ",
         b"HD\x00\x03\x00\x01runbHD\x00\x03\x00\x01runa",
@@ -261,29 +290,37 @@ fn document_lines() {
 
 // One pass: an escaped backslash, then a c.
 fn one_pass() {
-    record(b"\\\\c: ", b"x", b"\\\\c", true, 600);
-    record(b"\\\\c, no escapes: ", b"x", b"\\\\c", false, 600);
+    let x: &[u8] = b"x";
+    let value: &[u8] = b"\\\\c";
+    record(b"\\\\c: ", x, value, true, 600);
+    record(b"\\\\c, no escapes: ", x, value, false, 600);
 }
 
 // Text that is not raw text, and that this is told before too little room.
 fn not_raw() {
-    record(b"\\t: ", b"id", b"a\\t", true, 0);
-    record(b"cut escape: ", b"id", b"a\\", true, 600);
-    record(b"cut escape, no escapes: ", b"id", b"a\\", false, 600);
+    let id: &[u8] = b"id";
+    let cut: &[u8] = b"a\\";
+    record(b"\\t: ", id, b"a\\t", true, 0);
+    record(b"cut escape: ", id, cut, true, 600);
+    record(b"cut escape, no escapes: ", id, cut, false, 600);
     record(b"colon in a name: ", b"a:b", b"", false, 600);
 }
 
 // Room for all of a record, and for all but one octet.
 fn rooms() {
-    record(b"room 10 of 11: ", b"id", b"a\\cb", true, 10);
-    record(b"room 11 of 11: ", b"id", b"a\\cb", true, 11);
+    let id: &[u8] = b"id";
+    let value: &[u8] = b"a\\cb";
+    record(b"room 10 of 11: ", id, value, true, 10);
+    record(b"room 11 of 11: ", id, value, true, 11);
 }
 
 // A line that cannot be written, and room for all of one, and for all but one octet.
 fn line_rooms() {
-    line(b"colon, no escapes: ", b"id", b"a:b", false, 600);
-    line(b"room 7 of 8: ", b"id", b"a:b", true, 7);
-    line(b"room 8 of 8: ", b"id", b"a:b", true, 8);
+    let id: &[u8] = b"id";
+    let value: &[u8] = b"a:b";
+    line(b"colon, no escapes: ", id, value, false, 600);
+    line(b"room 7 of 8: ", id, value, true, 7);
+    line(b"room 8 of 8: ", id, value, true, 8);
 }
 
 fn empty_names() {
@@ -304,20 +341,15 @@ fn cut_blocks() {
     find(b"zeros behind: ", b"HD\x00\x01\x00\x01ab\x00", b"a");
 }
 
+// Two records, and the same with its last octet cut.
 fn entries() {
-    let block = b"HD\x00\x01\x00\x01abHD\x00\x00\x00\x00";
-    entry(b"at 0: ", block, 0);
-    entry(b"at 8: ", block, 8);
-    entry(b"at 14: ", block, 14);
-    entry(b"at 1: ", block, 1);
-}
-
-fn valid_blocks() {
-    valid(b"valid: ", b"HD\x00\x01\x00\x01abHD\x00\x00\x00\x00");
-    valid(
-        b"valid, one octet cut: ",
-        b"HD\x00\x01\x00\x01abHD\x00\x00\x00",
-    );
+    let block: &[u8] = b"HD\x00\x01\x00\x01abHD\x00\x00\x00\x00";
+    entry(block, 0);
+    entry(block, 8);
+    entry(block, 14);
+    entry(block, 1);
+    valid(b"valid: ", block);
+    valid(b"valid, one octet cut: ", &block[0..13]);
 }
 
 // Whether a block is valid.
@@ -328,47 +360,40 @@ fn valid(label: &[u8], block: &[u8]) {
 
 // Lines of 512 octets and of 513: raw, and decoded.
 fn long_lines() {
-    let v = [97u8; 512];
-    record(b"line of 512: ", b"x", &v[0..510], true, 600);
-    record(b"line of 513: ", b"x", &v[0..511], true, 600);
-    say(b"written, 512: ");
-    length(&v[0..510]);
-    say(b"written, 513: ");
-    length(&v[0..511]);
-    let c = [58u8; 256];
-    say(b"colons, 512: ");
-    length(&c[0..255]);
-    say(b"colons, 514: ");
-    length(&c);
+    let fits: &[u8] = &[97u8; 510];
+    let over: &[u8] = &[97u8; 511];
+    record(b"line of 512: ", b"x", fits, true, 600);
+    record(b"line of 513: ", b"x", over, true, 600);
+    length(b"written, 512: ", fits, true);
+    length(b"written, 513: ", over, true);
+    length(b"colons, 512: ", &[58u8; 255], true);
+    length(b"colons, 514: ", &[58u8; 256], true);
 }
 
-fn length(value: &[u8]) {
-    match headers::line_length(b"x", value, Style { escapes: true }) {
-        LineLength::Length(n) => {
-            number(n as u64);
-            say(b"\n");
-        }
-        LineLength::Unwritable => say(b"53\n"),
+// The length of the line of a value.
+fn length(label: &[u8], value: &[u8], escapes: bool) {
+    say(label);
+    match headers::line_length(b"x", value, Style { escapes }) {
+        LineLength::Length(n) => number_line(n as u64),
+        LineLength::Unwritable => number_line(53),
     }
 }
 
 fn read_decimals() {
-    decimal(b"32768: ", b"32768", 32768);
-    decimal(
-        b"0000000000000000000000032768: ",
-        b"0000000000000000000000032768",
-        32768,
-    );
-    decimal(b"32769: ", b"32769", 32768);
-    decimal(
-        b"99999999999999999999999999: ",
-        b"99999999999999999999999999",
-        4294967295,
-    );
-    decimal(b"4294967295: ", b"4294967295", 4294967295);
+    decimal_itself(b"32768", 32768);
+    decimal_itself(b"0000000000000000000000032768", 32768);
+    decimal_itself(b"32769", 32768);
+    decimal_itself(b"99999999999999999999999999", 4294967295);
+    decimal_itself(b"4294967295", 4294967295);
 }
 
-fn read_decimals_edges() {
+// Text that is its own label.
+fn decimal_itself(s: &[u8], limit: u32) {
+    say(s);
+    decimal(b": ", s, limit);
+}
+
+fn read_edges() {
     decimal(b"nothing: ", b"", 32768);
     decimal(b"blank and 5: ", b" 5", 32768);
     decimal(b"1:1 : ", b"1:1", 32768);
@@ -376,13 +401,10 @@ fn read_decimals_edges() {
 }
 
 fn write_decimals() {
-    shortest(b"0: ", 0, 24);
-    shortest(b"9: ", 9, 24);
-    shortest(b"10: ", 10, 24);
-    shortest(b"32768: ", 32768, 24);
-}
-
-fn write_largest() {
-    shortest(b"18446744073709551615: ", 18446744073709551615, 20);
-    shortest(b"18446744073709551615, no room: ", 18446744073709551615, 19);
+    shortest(0, 24);
+    shortest(9, 24);
+    shortest(10, 24);
+    shortest(32768, 24);
+    shortest(18446744073709551615, 20);
+    shortest(18446744073709551615, 19);
 }
