@@ -69,6 +69,11 @@ put-grow d l P R ys a n e lp lr fits is =
     ∙ ap (λ z. P ++ (R ++ z)) (sym (drop-drop n a l) ∙ ap (drop n) back ∙ drop-drop n a d)
     ∙ sym (append-assoc P R (drop (a + n) d))
 
+-- a list that begins with F and R and goes on as d, after a callee has written H over F
+pub put-front : (d l F R H after : List ℕ) (a k : ℕ) → l ≡ (F ++ R) ++ drop k d → length F ≡ a → after ≡ H ++ drop a l → after ≡ (H ++ R) ++ drop k d
+put-front d l F R H after a k e lf is =
+    is ∙ ap (λ z. H ++ drop a z) (e ∙ append-assoc F R (drop k d)) ∙ ap (H ++_) (drop-at F (R ++ drop k d) a lf) ∙ sym (append-assoc H R (drop k d))
+
 -- a turn of a loop that stores v at a and has rest to write
 module _ (a v : ℕ) (xs : List ℕ) (fits : a < length xs) where
   pub store-more : (rest : List ℕ) {whole : List ℕ} → take a xs ++ (v ∷ rest) ≡ whole → take (a + 1) (set xs a v) ++ rest ≡ whole

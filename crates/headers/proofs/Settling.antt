@@ -14,7 +14,7 @@ use Rattle.headers.specs.Text.{is-text}
 use Rattle.headers.specs.Escapes.{decode, encode, writable}
 use Rattle.headers.specs.Block.{Entry}
 use Rattle.headers.specs.Lines.{decoded-entry, line-length, are-text, raw-line, written-line, can-write}
-use Rattle.headers.specs.Answers.{Answer, accepted, refused, left-in, written-record, record-answer, length-answer, line-answer}
+use Rattle.headers.specs.Answers.{Answer, accepted, refused, left-in, written-record, decoded-answer, record-answer, length-answer, line-answer}
 use Rattle.headers.specs.declared.text.Style.{Style}
 use Rattle.headers.specs.declared.text.Field.the-variants.{Name, Value}
 use Rattle.headers.proofs.Rows.{and-no}
@@ -96,6 +96,9 @@ module _ (s : Style) (e : Entry) where
 -- ---- one record from raw text
 
 module _ (s : Style) (name value : List ℕ) where
+  pub record-long : length (written-record s name value) ≡ 6 + length (decode s name) + length (decode s value)
+  record-long = length-record (decoded-entry s name value)
+
   pub no-text-name : is-text s Name name ≡ false → are-text s name value ≡ false
   no-text-name h = rw h
 
@@ -106,27 +109,28 @@ module _ (s : Style) (name value : List ℕ) where
   both-text h k = rw (h, k)
 
 module _ (s : Style) (room : ℕ) (name value : List ℕ) where
-  pub record-long : length (written-record s name value) ≡ 6 + length (decode s name) + length (decode s value)
-  record-long = length-record (decoded-entry s name value)
-
   pub record-no : are-text s name value ≡ false → record-answer s room name value ≡ refused 20
   unfolding record-answer
   record-no h = rw h
 
-  module _ (text : are-text s name value ≡ true) where
-    pub record-short : room < 6 + length (decode s name) + length (decode s value) → record-answer s room name value ≡ refused 21
-    unfolding record-answer
-    record-short h = rw (text, lt-ltb room (length (written-record s name value)) (omega (arith, record-long)))
+  -- raw text is refused only as any octets are
+  pub record-as : are-text s name value ≡ true → record-answer s room name value ≡ decoded-answer s room name value
+  unfolding record-answer decoded-answer
+  record-as h = rw h
 
-    module _ (fits : 6 + length (decode s name) + length (decode s value) ≤ room) where
-      enough : ltb room (length (written-record s name value)) ≡ false
-      enough = le-ltb room (length (written-record s name value)) (omega (arith, record-long))
+  pub decoded-short : room < 6 + length (decode s name) + length (decode s value) → decoded-answer s room name value ≡ refused 21
+  unfolding decoded-answer
+  decoded-short h = rw (lt-ltb room (length (written-record s name value)) (omega (arith, record-long s name value)))
 
-      pub record-over : 511 < length (decode s name) + length (decode s value) → record-answer s room name value ≡ refused 23
-      unfolding record-answer
-      record-over h = rw (text, enough, lt-ltb 512 (line-length (decoded-entry s name value)) (omega arith))
+  module _ (fits : 6 + length (decode s name) + length (decode s value) ≤ room) where
+    enough : ltb room (length (written-record s name value)) ≡ false
+    enough = le-ltb room (length (written-record s name value)) (omega (arith, record-long s name value))
 
-      pub record-yes : length (decode s name) + length (decode s value) ≤ 511
-          → record-answer s room name value ≡ accepted ((6 + length (decode s name) + length (decode s value)) ∷ [])
-      unfolding record-answer
-      record-yes h = rw (text, enough, le-ltb 512 (line-length (decoded-entry s name value)) (omega arith), record-long)
+    pub decoded-over : 511 < length (decode s name) + length (decode s value) → decoded-answer s room name value ≡ refused 23
+    unfolding decoded-answer
+    decoded-over h = rw (enough, lt-ltb 512 (line-length (decoded-entry s name value)) (omega arith))
+
+    pub decoded-yes : length (decode s name) + length (decode s value) ≤ 511
+        → decoded-answer s room name value ≡ accepted (length (written-record s name value) ∷ [])
+    unfolding decoded-answer
+    decoded-yes h = rw (enough, le-ltb 512 (line-length (decoded-entry s name value)) (omega arith))

@@ -73,18 +73,24 @@ entry-says (EntryAt.Entry l) = accepted (l .name ∷ l .value ∷ [])
 entry-says EntryAt.End = accepted []
 entry-says EntryAt.Malformed = refused 22
 
--- One record from raw text, into room octets. The refusals in order: 20 it is no raw text; 21 there is less room than needed; 23 the decoded line would be longer than 512.
+-- One record of any octets, decoded, into room octets (document 01, "The header sheet"). The refusals in order: 21 there is less
+-- room than needed; 23 the decoded line would be longer than 512.
 abbrev pub written-record : Style → List ℕ → List ℕ → List ℕ
 written-record s name value = entry-record (decoded-entry s name value)
 
-unfoldable pub record-answer : Style → ℕ → List ℕ → List ℕ → Answer
-record-answer s room name value =
-    settle
-    (record { fails = not (are-text s name value); number = 20 } ∷
+abbrev pub record-checks : Style → ℕ → List ℕ → List ℕ → List Check
+record-checks s room name value =
     record { fails = ltb room (length (written-record s name value)); number = 21 } ∷
     record { fails = ltb line-max (line-length (decoded-entry s name value)); number = 23 } ∷
-    [])
-    (length (written-record s name value) ∷ [])
+    []
+
+unfoldable pub decoded-answer : Style → ℕ → List ℕ → List ℕ → Answer
+decoded-answer s room name value = settle (record-checks s room name value) (length (written-record s name value) ∷ [])
+
+-- The same from raw text: before these, 20 it is no raw text.
+unfoldable pub record-answer : Style → ℕ → List ℕ → List ℕ → Answer
+record-answer s room name value =
+    settle (record { fails = not (are-text s name value); number = 20 } ∷ record-checks s room name value) (length (written-record s name value) ∷ [])
 
 abbrev pub record-says : RecordWritten → Answer
 record-says (RecordWritten.Length n) = accepted (n ∷ [])

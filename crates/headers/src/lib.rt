@@ -24,6 +24,7 @@ pub use line::line_length;
 pub use line::write_line;
 pub use octets::equal;
 pub use record::RecordWritten;
+pub use record::write_decoded;
 pub use record::write_record;
 pub use text::Field;
 pub use text::Style;

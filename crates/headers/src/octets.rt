@@ -1,5 +1,7 @@
 // Rows of octets.
 ghost use mathlib.Core.Path.{_≡_};
+ghost use Prim.Native.Nat.{_+_};
+ghost use lib.Dec.{leb};
 ghost use Rattle.headers.specs.Rows.{same};
 
 // Whether two rows are the same.
@@ -15,6 +17,19 @@ pub fn equal(a: &[u8], b: &[u8]) -> bool
             return false;
         }
         i += 1;
+    }
+    true
+}
+
+// Whether n octets and m more fit into room.
+pub(crate) fn both_fit(n: usize, m: usize, room: usize) -> bool
+    ensures { λ r. ⌜ r ≡ leb (n + m) room ⌝ }
+{
+    if room < n {
+        return false;
+    }
+    if room - n < m {
+        return false;
     }
     true
 }

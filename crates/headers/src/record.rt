@@ -3,11 +3,16 @@ ghost use mathlib.Core.Path.{_≡_};
 ghost use mathlib.Core.List.{_++_};
 ghost use Prim.Native.Nat.{_+_, _≤_, _<_};
 ghost use lib.ListN.{length, drop};
+ghost use lib.Dec.{leb};
 ghost use Rattle.headers.specs.Escapes.{decode};
 ghost use Rattle.headers.specs.Block.{record-head};
-ghost use Rattle.headers.specs.Answers.{left-in, written-record, record-answer, record-says};
+ghost use Rattle.headers.specs.Answers.{left-in, written-record, decoded-answer, record-answer, record-says};
+use crate::octets::both_fit;
 use crate::text::Field;
 use crate::text::Style;
+use crate::text::decoded_length;
+use crate::text::is_raw;
+use crate::text::put_decoded;
 
 // What writing a record gives: its length; or that name or value is not raw text (20), that it has no room (21), or that its
 // decoded line is over 512 (23).
@@ -31,48 +36,67 @@ fn put_head(d: &mut [u8], name: usize, value: usize)
     d[5] = (value % 256) as u8;
 }
 
-// The record of a header line at the front of d, from the line's raw name and value, whose decoded lengths are n and v.
-fn put_record(d: &mut [u8], name: &[u8], value: &[u8], n: usize, v: usize, style: Style)
-    requires { ⌜ (n ≡ length (decode style (now name))) × (v ≡ length (decode style (now value))) × (6 + n + v ≤ length (now d)) ⌝ }
-    ensures { λ _. ⌜ now (d .exit) ≡ written-record style (now (name .entry)) (now (value .entry)) ++ drop (6 + n + v) (now (d .entry)) ⌝ }
+// The record of a header line at the front of d, from the line's raw name and value; its length.
+fn put_record(d: &mut [u8], name: &[u8], value: &[u8], style: Style) -> usize
+    requires { ⌜ 6 + length (decode style (now name)) + length (decode style (now value)) ≤ length (now d) ⌝ }
+    ensures { λ r. ⌜
+        (r ≡ length (written-record style (now (name .entry)) (now (value .entry))))
+        × (now (d .exit) ≡ written-record style (now (name .entry)) (now (value .entry)) ++ drop (length (written-record style (now (name .entry)) (now (value .entry)))) (now (d .entry)))
+        ⌝ }
 {
-    put_head(d, n, v);
-    crate::text::put_decoded(&mut d[6..], name, style);
+    let n = put_decoded(&mut d[6..], name, style);
     let e = 6 + n;
-    crate::text::put_decoded(&mut d[e..], value, style);
+    let v = put_decoded(&mut d[e..], value, style);
+    put_head(d, n, v);
+    e + v
 }
 
-// The same, or the first of its refusals.
+// Whether name and value have at most that many octets decoded. Decoded text is never longer than raw, so it is measured only
+// where the raw text is too long.
+fn decoded_fit(name: &[u8], value: &[u8], style: Style, most: usize) -> bool
+    ensures { λ r. ⌜ r ≡ leb (length (decode style (now (name .entry))) + length (decode style (now (value .entry)))) most ⌝ }
+{
+    if both_fit(name.len(), value.len(), most) {
+        return true;
+    }
+    both_fit(
+        decoded_length(name, style),
+        decoded_length(value, style),
+        most,
+    )
+}
+
+// The record of any octets, decoded, at the front of d; or that it has no room (21) or its decoded line is over 512 (23).
+pub fn write_decoded(d: &mut [u8], name: &[u8], value: &[u8], style: Style) -> RecordWritten
+    ensures { λ r. ⌜
+        (record-says r ≡ decoded-answer style (length (now (d .entry))) (now (name .entry)) (now (value .entry)))
+        × (now (d .exit) ≡ left-in (decoded-answer style (length (now (d .entry))) (now (name .entry)) (now (value .entry))) (written-record style (now (name .entry)) (now (value .entry))) (now (d .entry)))
+        ⌝ }
+{
+    if d.len() < 6 {
+        return RecordWritten::TooShort;
+    }
+    if !decoded_fit(name, value, style, d.len() - 6) {
+        return RecordWritten::TooShort;
+    }
+    if !decoded_fit(name, value, style, 511) {
+        return RecordWritten::TooLong;
+    }
+    RecordWritten::Length(put_record(d, name, value, style))
+}
+
+// The same of raw text, or the first of its refusals.
 pub fn write_record(d: &mut [u8], name: &[u8], value: &[u8], style: Style) -> RecordWritten
     ensures { λ r. ⌜
         (record-says r ≡ record-answer style (length (now (d .entry))) (now (name .entry)) (now (value .entry)))
         × (now (d .exit) ≡ left-in (record-answer style (length (now (d .entry))) (now (name .entry)) (now (value .entry))) (written-record style (now (name .entry)) (now (value .entry))) (now (d .entry)))
         ⌝ }
 {
-    if !crate::text::is_raw(name, style, Field::Name) {
+    if !is_raw(name, style, Field::Name) {
         return RecordWritten::NotText;
     }
-    if !crate::text::is_raw(value, style, Field::Value) {
+    if !is_raw(value, style, Field::Value) {
         return RecordWritten::NotText;
     }
-    let n = crate::text::decoded_length(name, style);
-    let v = crate::text::decoded_length(value, style);
-    if d.len() < 6 {
-        return RecordWritten::TooShort;
-    }
-    let room = d.len() - 6;
-    if room < n {
-        return RecordWritten::TooShort;
-    }
-    if room - n < v {
-        return RecordWritten::TooShort;
-    }
-    if 511 < n {
-        return RecordWritten::TooLong;
-    }
-    if 511 - n < v {
-        return RecordWritten::TooLong;
-    }
-    put_record(d, name, value, n, v, style);
-    RecordWritten::Length(6 + n + v)
+    write_decoded(d, name, value, style)
 }

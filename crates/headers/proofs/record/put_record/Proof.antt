@@ -1,19 +1,17 @@
--- `record::put_record` meets its contract: the head, the name and the value, each behind what is written.
+-- `record::put_record` meets its contract: the name and the value, each behind what is written, and the head before them.
 use borrow.Author.Needs.{needs}
-use mathlib.Core.Path.{refl, sym, ap, ap₂, _∙_}
+use mathlib.Core.Path.{_≡_, refl, sym, ap, ap₂, _∙_}
 use mathlib.Core.List.{_++_, append-assoc}
 use Prim.Native.Nat.{_+_}
 use native.Mathlib.Omega.{arith}
-use lib.ListN.{length, drop, length-append}
+use lib.ListN.{length, take, drop, length-append, take-append-drop}
+use lib.Seq.{length-take-le}
 use Rattle.headers.specs.Escapes.{decode}
 use Rattle.headers.specs.Block.{record-head}
-use Rattle.headers.proofs.Blocks.{head-long}
-use Rattle.headers.proofs.Put.{put-grow}
+use Rattle.headers.proofs.Put.{put-grow, put-front}
+use Rattle.headers.proofs.Settling.{record-long}
 use Rattle.headers.proofs.record.put_record.Statement.{statement}
 use Rattle.headers.proofs.record.put_record.Tie as tie
-
-put-head-requires : tie.Need-put-head-requires
-put-head-requires c κs = search needs
 
 sub-put-decoded : tie.Need-sub-put-decoded
 sub-put-decoded c = search needs
@@ -42,31 +40,42 @@ part-put-decoded-end-2 c = search needs
 put-decoded-requires-2 : tie.Need-put-decoded-requires-2
 put-decoded-requires-2 c κs = search needs
 
+put-head-requires : tie.Need-put-head-requires
+put-head-requires c κs = search needs
+
+add-result : tie.Need-add-result
+add-result c = search needs
+
 same-length : tie.Need-same-length
 same-length c = search needs
 
 returns : tie.Need-returns
 returns c = let a = c .before .before .before .before .before .before .before .before .before .before .before .before .before .before .before .args in
-    let (en, ev, fits) = c .before .before .before .before .before .before .before .before .before .before .before .before .before .before .before .pre in
     let d = a .d .now in
     let N = decode (a .style) (a .name .now) in
     let W = decode (a .style) (a .value .now) in
-    let H = record-head (a .n) (a .v) in
-    let p = c .before .before .before .before .before .before .put-decoded .ensures .1 in
-    let q = c .before .before .put-decoded2 .ensures .1 in
-    let g₁ = put-grow d _ H N _ 6 (length N) (c .before .before .before .before .before .before .before .before .before .before .put-head .ensures) (head-long (a .n) (a .v)) refl (omega arith) p in
+    let p = c .before .before .before .before .before .before .before .before .before .before .put-decoded in
+    let q = c .before .before .before .before .before .before .put-decoded2 in
+    let F = take 6 d in
+    let front : length F ≡ 6 = length-take-le 6 d (omega (arith, c .before .before .before .before .before .before .before .before .before .before .before .before .before .before .before .pre)) in
+    let long = record-long (a .style) (a .name .now) (a .value .now) in
+    let g₁ = put-grow d d F N _ 6 (length N) (sym (take-append-drop 6 d)) front refl (omega arith) (p .ensures .1) in
     let g₂ =
-    put-grow d _ (H ++ N) W _ (6 + a .n) (length W) (g₁ ∙ ap (λ z. (H ++ N) ++ drop (6 + z) d) (sym en))
-    (length-append H N ∙ omega (arith, head-long (a .n) (a .v))) refl (omega arith) q in
-    g₂ ∙ ap (λ z. z ++ drop (6 + a .n + length W) d) (append-assoc H N W)
-    ∙ ap (λ z. (H ++ (N ++ W)) ++ drop (6 + a .n + z) d) (sym ev)
-    ∙ ap₂ (λ z w. (record-head z w ++ (N ++ W)) ++ drop (6 + a .n + a .v) d) en ev
+    put-grow d _ (F ++ N) W _ (6 + p .result) (length W) (g₁ ∙ ap (λ z. (F ++ N) ++ drop (6 + z) d) (sym (p .ensures .0)))
+    (simp length-append (omega (arith, p .ensures .0))) refl (omega arith) (q .ensures .1) in
+    let placed =
+    put-front d _ F (N ++ W) (record-head (p .result) (q .result)) _ 6 (6 + p .result + length W)
+    (g₂ ∙ ap (_++ drop (6 + p .result + length W) d) (append-assoc F N W)) front (c .before .before .put-head .ensures) in (
+      omega (arith, long, p .ensures .0, q .ensures .0),
+      placed
+          ∙ ap₂ (λ x y. (record-head x y ++ (N ++ W)) ++ drop (6 + x + length W) d) (p .ensures .0) (q .ensures .0)
+          ∙ ap (λ z. (record-head (length N) (length W) ++ (N ++ W)) ++ drop z d) (sym long),
+    )
 
 pub put-record-spec : {M : Type 1} → statement M
 put-record-spec =
     tie.close
     (tie.spec
-    put-head-requires
     sub-put-decoded
     part-put-decoded-start
     part-put-decoded-end
@@ -76,5 +85,7 @@ put-record-spec =
     part-put-decoded-start-2
     part-put-decoded-end-2
     put-decoded-requires-2
+    put-head-requires
+    add-result
     same-length
     returns)
