@@ -2,16 +2,16 @@
 --     decode-escape, decode-plain    one step of decoding
 --     decode-means                   of raw text, decoding gives what its characters stand for
 --     decode-encode, encode-decode   each undoes the other
---     decode-short                   decoded text is never longer than raw
+--     decode-short, encode-twice     decoded text is never longer than raw, and encoded text at most twice as long
 --     encode-text                    what can be written is raw text when encoded
 --     decode-name                    a raw name without escapes, as content-length, is its decoded one, and only it is
 use mathlib.Core.Path.{_≡_, refl, sym, _∙_, ap, ap₂}
 use mathlib.Core.Bool.{Bool, true, false, cond, _&&_, not}
 use mathlib.Core.List.{List, [], _∷_, _++_}
-use Prim.Native.Nat.{ℕ, suc, _+_, _≤_, _<_}
+use Prim.Native.Nat.{ℕ, suc, _+_, _*_, _≤_, _<_}
 use native.Mathlib.Omega.{arith}
 use native.Mathlib.Numerals.{add-one}
-use lib.ListN.{length, drop, getD, length-drop, drop-of-length-le}
+use lib.ListN.{length, drop, getD, length-append, length-drop, drop-of-length-le}
 use lib.Seq.{drop-cons, drop-drop}
 use lib.Dec.{eqb}
 use borrow.Author.Tests.{eqb-true, not-true}
@@ -184,6 +184,11 @@ decode-end s xs i h = rw (drop-of-length-le xs h)
 pub encoded-some : (s : Style) (x : ℕ) → (1 ≤ length (encode-octet s x)) × (length (encode-octet s x) ≤ 2)
 encoded-some s x =
     cond-case (λ u. (1 ≤ length u) × (length u ≤ 2)) (escaped s x) {a = 92 ∷ letter-of s x ∷ []} {b = x ∷ []} (λ h. omega arith) (λ h. omega arith)
+
+pub encode-twice : (s : Style) (xs : List ℕ) → length (encode s xs) ≤ 2 * length xs
+unfolding encode
+encode-twice s [] = omega arith
+encode-twice s (x ∷ xs) = simp length-append (omega (arith, encoded-some s x, encode-twice s xs))
 
 -- octets that no escape concerns
 abbrev pub bare : Style → ℕ → Bool

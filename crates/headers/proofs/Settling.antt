@@ -14,7 +14,7 @@ use Rattle.headers.specs.Text.{is-text}
 use Rattle.headers.specs.Escapes.{decode, encode, writable}
 use Rattle.headers.specs.Block.{Entry}
 use Rattle.headers.specs.Lines.{decoded-entry, line-length, are-text, raw-line, written-line, can-write}
-use Rattle.headers.specs.Answers.{Answer, accepted, refused, left-in, written-record, decoded-answer, record-answer, length-answer, line-answer}
+use Rattle.headers.specs.Answers.{Answer, accepted, refused, left-in, written-record, decoded-answer, record-answer, length-answer, encoded-answer, line-answer}
 use Rattle.headers.specs.declared.text.Style.{Style}
 use Rattle.headers.specs.declared.text.Field.the-variants.{Name, Value}
 use Rattle.headers.proofs.Rows.{and-no}
@@ -85,13 +85,18 @@ module _ (s : Style) (e : Entry) where
   unfolding line-answer
   line-no room h = rw h
 
-  pub line-short : (room : ℕ) → can-write s e ≡ true → room ≤ length (raw-line s e) → line-answer s room e ≡ refused 56
-  unfolding line-answer
-  line-short room h l = rw (h, lt-ltb room (length (written-line s e)) (omega (arith, written-long)))
+  -- an entry that can be written is refused only as any entry is
+  pub line-as : (room : ℕ) → can-write s e ≡ true → line-answer s room e ≡ encoded-answer s room e
+  unfolding line-answer encoded-answer
+  line-as room h = rw h
 
-  pub line-yes : (room : ℕ) → can-write s e ≡ true → length (raw-line s e) < room → line-answer s room e ≡ accepted ((length (raw-line s e) + 1) ∷ [])
-  unfolding line-answer
-  line-yes room h l = rw (h, le-ltb room (length (written-line s e)) (omega (arith, written-long)), written-long)
+  pub encoded-short : (room : ℕ) → room < length (written-line s e) → encoded-answer s room e ≡ refused 56
+  unfolding encoded-answer
+  encoded-short room l = rw (lt-ltb room (length (written-line s e)) l)
+
+  pub encoded-yes : (room : ℕ) → length (written-line s e) ≤ room → encoded-answer s room e ≡ accepted (length (written-line s e) ∷ [])
+  unfolding encoded-answer
+  encoded-yes room l = rw (le-ltb room (length (written-line s e)) l)
 
 -- ---- one record from raw text
 

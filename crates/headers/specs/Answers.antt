@@ -106,14 +106,17 @@ abbrev pub length-says : LineLength → Answer
 length-says (LineLength.Length n) = accepted (n ∷ [])
 length-says LineLength.Unwritable = refused 53
 
--- The same written with its line end, into room octets: 53, then "56 the target is shorter than the image".
+-- The raw line of any entry written with its line end, into room octets (document 01, "Writing"): "56 the target is shorter than
+-- the image".
+abbrev pub line-checks : Style → ℕ → Entry → List Check
+line-checks s room e = record { fails = ltb room (length (written-line s e)); number = 56 } ∷ []
+
+unfoldable pub encoded-answer : Style → ℕ → Entry → Answer
+encoded-answer s room e = settle (line-checks s room e) (length (written-line s e) ∷ [])
+
+-- The same of an entry that can be written: before this, 53.
 unfoldable pub line-answer : Style → ℕ → Entry → Answer
-line-answer s room e =
-    settle
-    (record { fails = not (can-write s e); number = 53 } ∷
-    record { fails = ltb room (length (written-line s e)); number = 56 } ∷
-    [])
-    (length (written-line s e) ∷ [])
+line-answer s room e = settle (record { fails = not (can-write s e); number = 53 } ∷ line-checks s room e) (length (written-line s e) ∷ [])
 
 abbrev pub line-says : LineWritten → Answer
 line-says (LineWritten.Length n) = accepted (n ∷ [])

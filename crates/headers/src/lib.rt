@@ -21,6 +21,7 @@ pub use decimal::write_decimal;
 pub use line::LineLength;
 pub use line::LineWritten;
 pub use line::line_length;
+pub use line::write_encoded;
 pub use line::write_line;
 pub use octets::equal;
 pub use record::RecordWritten;

@@ -1,12 +1,18 @@
 // One raw header line, written from an entry's name and value.
 ghost use mathlib.Core.Path.{_≡_};
 ghost use mathlib.Core.List.{_++_};
-ghost use Prim.Native.Nat.{_≤_};
+ghost use Prim.Native.Nat.{_+_, _≤_};
 ghost use lib.ListN.{length, drop};
+ghost use lib.Dec.{leb};
+ghost use Rattle.headers.specs.Escapes.{encode};
 ghost use Rattle.headers.specs.Lines.{entry-of, written-line};
-ghost use Rattle.headers.specs.Answers.{left-in, length-answer, length-says, line-answer, line-says};
+ghost use Rattle.headers.specs.Answers.{left-in, length-answer, length-says, encoded-answer, line-answer, line-says};
+use crate::octets::both_fit;
 use crate::text::Field;
 use crate::text::Style;
+use crate::text::encoded_length;
+use crate::text::is_writable;
+use crate::text::put_encoded;
 
 // The length of an entry's raw line, its line end not counted; or that it cannot be written (53).
 pub enum LineLength {
@@ -28,37 +34,74 @@ pub fn line_length(name: &[u8], value: &[u8], style: Style) -> LineLength
     if name.len() == 0 {
         return LineLength::Unwritable;
     }
-    if !crate::text::is_writable(name, style, Field::Name) {
+    if !is_writable(name, style, Field::Name) {
         return LineLength::Unwritable;
     }
-    if !crate::text::is_writable(value, style, Field::Value) {
+    if !is_writable(value, style, Field::Value) {
         return LineLength::Unwritable;
     }
-    let n = crate::text::encoded_length(name, style);
+    let n = encoded_length(name, style);
     if 511 < n {
         return LineLength::Unwritable;
     }
-    let v = crate::text::encoded_length(value, style);
+    let v = encoded_length(value, style);
     if 511 - n < v {
         return LineLength::Unwritable;
     }
     LineLength::Length(n + 1 + v)
 }
 
-// The raw line of an entry, with octet 10 behind it, at the front of d.
-fn put_line(d: &mut [u8], name: &[u8], value: &[u8], style: Style)
+// The raw line of an entry, with octet 10 behind it, at the front of d; its length.
+fn put_line(d: &mut [u8], name: &[u8], value: &[u8], style: Style) -> usize
     requires { ⌜ length (written-line style (entry-of (now name) (now value))) ≤ length (now d) ⌝ }
-    ensures { λ _. ⌜ now (d .exit) ≡ written-line style (entry-of (now (name .entry)) (now (value .entry)))
-        ++ drop (length (written-line style (entry-of (now (name .entry)) (now (value .entry))))) (now (d .entry)) ⌝ }
+    ensures { λ r. ⌜
+        (r ≡ length (written-line style (entry-of (now (name .entry)) (now (value .entry)))))
+        × (now (d .exit) ≡ written-line style (entry-of (now (name .entry)) (now (value .entry)))
+        ++ drop (length (written-line style (entry-of (now (name .entry)) (now (value .entry))))) (now (d .entry)))
+        ⌝ }
 {
-    let n = crate::text::put_encoded(d, name, style);
+    let n = put_encoded(d, name, style);
     d[n] = 58;
     let from = n + 1;
-    let v = crate::text::put_encoded(&mut d[from..], value, style);
-    d[from + v] = 10;
+    let v = put_encoded(&mut d[from..], value, style);
+    let end = from + v;
+    d[end] = 10;
+    end + 1
 }
 
-// The same, or that it cannot be written, or has no room.
+// Whether name and value have at most that many octets encoded. Encoded text is at most twice as long, so it is measured only
+// where twice the text is too long.
+fn encoded_fit(name: &[u8], value: &[u8], style: Style, most: usize) -> bool
+    ensures { λ r. ⌜ r ≡ leb (length (encode style (now (name .entry))) + length (encode style (now (value .entry)))) most ⌝ }
+{
+    if both_fit(name.len(), value.len(), most / 2) {
+        return true;
+    }
+    both_fit(
+        encoded_length(name, style),
+        encoded_length(value, style),
+        most,
+    )
+}
+
+// The same of any entry, or that it has no room (56).
+pub fn write_encoded(d: &mut [u8], name: &[u8], value: &[u8], style: Style) -> LineWritten
+    ensures { λ r. ⌜
+        (line-says r ≡ encoded-answer style (length (now (d .entry))) (entry-of (now (name .entry)) (now (value .entry))))
+        × (now (d .exit) ≡ left-in (encoded-answer style (length (now (d .entry))) (entry-of (now (name .entry)) (now (value .entry))))
+        (written-line style (entry-of (now (name .entry)) (now (value .entry)))) (now (d .entry)))
+        ⌝ }
+{
+    if d.len() < 2 {
+        return LineWritten::TooShort;
+    }
+    if !encoded_fit(name, value, style, d.len() - 2) {
+        return LineWritten::TooShort;
+    }
+    LineWritten::Length(put_line(d, name, value, style))
+}
+
+// The same of an entry that can be written, or that it cannot be (53), or has no room (56).
 pub fn write_line(d: &mut [u8], name: &[u8], value: &[u8], style: Style) -> LineWritten
     ensures { λ r. ⌜
         (line-says r ≡ line-answer style (length (now (d .entry))) (entry-of (now (name .entry)) (now (value .entry))))
@@ -66,12 +109,8 @@ pub fn write_line(d: &mut [u8], name: &[u8], value: &[u8], style: Style) -> Line
         (written-line style (entry-of (now (name .entry)) (now (value .entry)))) (now (d .entry)))
         ⌝ }
 {
-    let LineLength::Length(total) = line_length(name, value, style) else {
+    let LineLength::Length(_) = line_length(name, value, style) else {
         return LineWritten::Unwritable;
     };
-    if d.len() <= total {
-        return LineWritten::TooShort;
-    }
-    put_line(d, name, value, style);
-    LineWritten::Length(total + 1)
+    write_encoded(d, name, value, style)
 }

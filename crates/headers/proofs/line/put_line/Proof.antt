@@ -50,8 +50,8 @@ part-put-encoded-end c = search needs
 put-encoded-requires-2 : tie.Need-put-encoded-requires-2
 put-encoded-requires-2 c κs = simp (length-take, length-drop, length-set) (omega (arith, room (c .before .before .before)))
 
-add-d : tie.Need-add-d
-add-d c = omega (arith, room (c .before .before .before .before .before .before), c .before .before .put-encoded2 .ensures .0)
+add-end : tie.Need-add-end
+add-end c = omega (arith, room (c .before .before .before .before .before .before), c .before .before .put-encoded2 .ensures .0)
 
 abbrev Placed : tie.After-slice-known3 → Type 0
 Placed c =
@@ -81,11 +81,15 @@ placed c =
 slice-write-d-2 : tie.Need-slice-write-d-2
 slice-write-d-2 c = omega (arith, placed c .0, placed c .1 .0)
 
+add-result : tie.Need-add-result
+add-result c = omega (arith, placed c .0)
+
 same-length : tie.Need-same-length
 same-length c = placed c .1 .1
 
 returns : tie.Need-returns
-returns c = placed c .1 .2
+returns c = let a = c .before .before .before .before .before .before .before .before .before .before .before .args in
+    (omega (arith, line-long (a .style) (entry-of (a .name .now) (a .value .now)), c .before .before .before .before .before .before .put-encoded .ensures .0, c .before .before .put-encoded2 .ensures .0), placed c .1 .2)
 
 pub put-line-spec : {M : Type 1} → statement M
 put-line-spec =
@@ -98,7 +102,8 @@ put-line-spec =
     part-put-encoded-start
     part-put-encoded-end
     put-encoded-requires-2
-    add-d
+    add-end
     slice-write-d-2
+    add-result
     same-length
     returns)
