@@ -8,13 +8,13 @@
 use mathlib.Core.Path.{_≡_, refl, sym, _∙_, ap, ap₂}
 use mathlib.Core.Bool.{Bool, true, false, cond, _&&_, not}
 use mathlib.Core.List.{List, [], _∷_, _++_}
-use Prim.Native.Nat.{ℕ, suc, _+_, _*_, _≤_, _<_}
+use Prim.Native.Nat.{ℕ, suc, _+_, _*_, _/_, _≤_, _<_}
 use native.Mathlib.Omega.{arith}
 use native.Mathlib.Numerals.{add-one}
 use lib.ListN.{length, drop, getD, length-append, length-drop, drop-of-length-le}
 use lib.Seq.{drop-cons, drop-drop}
-use lib.Dec.{eqb}
-use borrow.Author.Tests.{eqb-true, not-true}
+use lib.Dec.{eqb, leb}
+use borrow.Author.Tests.{eqb-true, not-true, leb-true, le-leb}
 use Rattle.headers.specs.Rows.{every}
 use Rattle.headers.specs.Text.{stops, escape-table, is-letter, opens, plain, Character, itself, escape, Text, none, more}
 use Rattle.headers.specs.Escapes.{meaning, letter-of, means, at-escape, width, octet-at, decode, escaped, encode-octet, encode, writable}
@@ -189,6 +189,29 @@ pub encode-twice : (s : Style) (xs : List ℕ) → length (encode s xs) ≤ 2 * 
 unfolding encode
 encode-twice s [] = omega arith
 encode-twice s (x ∷ xs) = simp length-append (omega (arith, encoded-some s x, encode-twice s xs))
+
+-- two texts that fit raw fit decoded, and that fit a half fit encoded
+module _ (s : Style) (xs ys : List ℕ) (most : ℕ) where
+  pub decode-fits : leb (length xs + length ys) most ≡ true → leb (length (decode s xs) + length (decode s ys)) most ≡ true
+  decode-fits h = le-leb (length (decode s xs) + length (decode s ys)) most (omega (arith, leb-true, decode-short s xs, decode-short s ys))
+
+  pub encode-fits : leb (length xs + length ys) (most / 2) ≡ true → leb (length (encode s xs) + length (encode s ys)) most ≡ true
+  encode-fits h = le-leb (length (encode s xs) + length (encode s ys)) most (omega (arith, leb-true, encode-twice s xs, encode-twice s ys))
+
+-- the first i octets have n encoded: with those that are left, all that the whole has
+abbrev pub Counted : Style → List ℕ → ℕ → ℕ → Type 0
+Counted s xs i n = (n ≤ 2 * i) × (n + length (encode s (drop i xs)) ≡ length (encode s xs))
+
+module _ (s : Style) (xs : List ℕ) where
+  pub count-none : Counted s xs 0 0
+  count-none = (omega arith, omega arith)
+
+  pub count-more : (i n w : ℕ) → i < length xs → w ≡ length (encode-octet s (getD xs i 0)) → Counted s xs i n → Counted s xs (i + 1) (n + w)
+  count-more i n w h e (few, whole) =
+      (omega (arith, encoded-some s (getD xs i 0)), omega (arith, simp length-append at (ap length (encode-step s xs i h))))
+
+  pub count-all : (i n : ℕ) → length xs ≤ i → Counted s xs i n → n ≡ length (encode s xs)
+  count-all i n h (few, whole) = omega (arith, ap length (encode-end s xs i h))
 
 -- octets that no escape concerns
 abbrev pub bare : Style → ℕ → Bool

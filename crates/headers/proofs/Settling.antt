@@ -1,8 +1,8 @@
 -- Answers settled by checks in order: laws. Assumes nothing.
 --     refusal, acceptance     what a buffer call owes at its end, from the answer alone
---     record-.., line-..      which answer the checks of a call settle on
+--     decoded-.., record-.., length-.., encoded-.., line-..   which answer the checks of a call settle on
 use mathlib.Core.Path.{_≡_, refl, ap, _∙_}
-use mathlib.Core.Bool.{Bool, true, false, cond, not}
+use mathlib.Core.Bool.{Bool, true, false}
 use mathlib.Core.List.{List, [], _∷_, _++_}
 use Prim.Native.Nat.{ℕ, _+_, _≤_, _<_}
 use native.Mathlib.Omega.{arith}
@@ -14,7 +14,7 @@ use Rattle.headers.specs.Text.{is-text}
 use Rattle.headers.specs.Escapes.{decode, encode, writable}
 use Rattle.headers.specs.Block.{Entry}
 use Rattle.headers.specs.Lines.{decoded-entry, line-length, are-text, raw-line, written-line, can-write}
-use Rattle.headers.specs.Answers.{Answer, accepted, refused, left-in, written-record, decoded-answer, record-answer, length-answer, encoded-answer, line-answer}
+use Rattle.headers.specs.Answers.{Answer, accepted, refused, left-in, written-record, decoded-answer, record-answer, writable-answer, length-answer, encoded-answer, line-answer}
 use Rattle.headers.specs.declared.text.Style.{Style}
 use Rattle.headers.specs.declared.text.Field.the-variants.{Name, Value}
 use Rattle.headers.proofs.Rows.{and-no}
@@ -27,6 +27,15 @@ refusal A k R d e = rw e (refl, refl)
 -- accepted: the buffer holds what is written, and the rest as before
 pub acceptance : (A : Answer) (values R d after : List ℕ) → A ≡ accepted values → after ≡ R ++ drop (length R) d → (accepted values ≡ A) × (after ≡ left-in A R d)
 acceptance A values R d after e w = rw e (refl, w)
+
+-- what an answer that is a length or 53 says
+pub told-refused : (can : Bool) (n k : ℕ) → refused k ≡ writable-answer can n → can ≡ false
+told-refused true n k h = absurd (let z : _≡_ {A = ℕ} 0 1 = cc in omega arith)
+told-refused false n k h = refl
+
+pub told-accepted : (can : Bool) (n m : ℕ) → accepted (m ∷ []) ≡ writable-answer can n → (can ≡ true) × (m ≡ n)
+told-accepted true n m h = (refl, cc)
+told-accepted false n m h = absurd (let z : _≡_ {A = ℕ} 0 1 = cc in omega arith)
 
 -- ---- one raw line of an entry
 
@@ -66,20 +75,11 @@ module _ (s : Style) (e : Entry) where
   -- what the length's answer says of the entry
   pub length-refused : (k : ℕ) → refused k ≡ length-answer s e → can-write s e ≡ false
   unfolding length-answer
-  length-refused k h = by (can-write s e) refl h
-    where
-      by : (t : Bool) → can-write s e ≡ t → refused k ≡ cond (not t) (refused 53) (accepted (length (raw-line s e) ∷ [])) → can-write s e ≡ false
-      by true q h = absurd (let z : _≡_ {A = ℕ} 0 1 = cc in omega arith)
-      by false q h = q
+  length-refused k h = told-refused (can-write s e) (length (raw-line s e)) k h
 
   pub length-accepted : (n : ℕ) → accepted (n ∷ []) ≡ length-answer s e → (can-write s e ≡ true) × (n ≡ length (raw-line s e))
   unfolding length-answer
-  length-accepted n h = by (can-write s e) refl h
-    where
-      by : (t : Bool) → can-write s e ≡ t → accepted (n ∷ []) ≡ cond (not t) (refused 53) (accepted (length (raw-line s e) ∷ []))
-          → (can-write s e ≡ true) × (n ≡ length (raw-line s e))
-      by true q h = (q, cc)
-      by false q h = absurd (let z : _≡_ {A = ℕ} 0 1 = cc in omega arith)
+  length-accepted n h = told-accepted (can-write s e) (length (raw-line s e)) n h
 
   pub line-no : (room : ℕ) → can-write s e ≡ false → line-answer s room e ≡ refused 53
   unfolding line-answer
@@ -98,7 +98,7 @@ module _ (s : Style) (e : Entry) where
   unfolding encoded-answer
   encoded-yes room l = rw (le-ltb room (length (written-line s e)) l)
 
--- ---- one record from raw text
+-- ---- one record
 
 module _ (s : Style) (name value : List ℕ) where
   pub record-long : length (written-record s name value) ≡ 6 + length (decode s name) + length (decode s value)

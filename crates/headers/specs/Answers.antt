@@ -98,9 +98,13 @@ record-says RecordWritten.NotText = refused 20
 record-says RecordWritten.TooShort = refused 21
 record-says RecordWritten.TooLong = refused 23
 
+-- A length, or 53 where what has it cannot be written (document 01, "Writing").
+abbrev pub writable-answer : Bool → ℕ → Answer
+writable-answer can n = settle (record { fails = not can; number = 53 } ∷ []) (n ∷ [])
+
 -- The raw line of an entry: its length, or 53.
 unfoldable pub length-answer : Style → Entry → Answer
-length-answer s e = settle (record { fails = not (can-write s e); number = 53 } ∷ []) (length (raw-line s e) ∷ [])
+length-answer s e = writable-answer (can-write s e) (length (raw-line s e))
 
 abbrev pub length-says : LineLength → Answer
 length-says (LineLength.Length n) = accepted (n ∷ [])

@@ -4,14 +4,16 @@ ghost use mathlib.Core.List.{_++_};
 ghost use Prim.Native.Nat.{_+_, _≤_};
 ghost use lib.ListN.{length, drop};
 ghost use lib.Dec.{leb};
-ghost use Rattle.headers.specs.Escapes.{encode};
+ghost use Rattle.headers.specs.Rows.{every};
+ghost use Rattle.headers.specs.Escapes.{writable, encode};
 ghost use Rattle.headers.specs.Lines.{entry-of, written-line};
-ghost use Rattle.headers.specs.Answers.{left-in, length-answer, length-says, encoded-answer, line-answer, line-says};
+ghost use Rattle.headers.specs.Answers.{left-in, writable-answer, length-answer, length-says, encoded-answer, line-answer, line-says};
 use crate::octets::both_fit;
 use crate::text::Field;
 use crate::text::Style;
+use crate::text::can_write;
 use crate::text::encoded_length;
-use crate::text::is_writable;
+use crate::text::encoded_width;
 use crate::text::put_encoded;
 
 // The length of an entry's raw line, its line end not counted; or that it cannot be written (53).
@@ -27,6 +29,23 @@ pub enum LineWritten {
     TooShort,
 }
 
+// How long the name or the value of an entry is encoded; or that an octet of it cannot be written (53).
+fn text_length(text: &[u8], style: Style, field: Field) -> LineLength
+    ensures { λ r. ⌜ length-says r ≡ writable-answer (every (writable style field) (now (text .entry))) (length (encode style (now (text .entry)))) ⌝ }
+{
+    let mut n = 0usize;
+    let mut i = 0usize;
+    while i < text.len() {
+        let x = text[i];
+        if !can_write(style, field, x) {
+            return LineLength::Unwritable;
+        }
+        n += encoded_width(style, x);
+        i += 1;
+    }
+    LineLength::Length(n)
+}
+
 // How long the raw line of an entry is, its line end not counted.
 pub fn line_length(name: &[u8], value: &[u8], style: Style) -> LineLength
     ensures { λ r. ⌜ length-says r ≡ length-answer style (entry-of (now (name .entry)) (now (value .entry))) ⌝ }
@@ -34,18 +53,13 @@ pub fn line_length(name: &[u8], value: &[u8], style: Style) -> LineLength
     if name.len() == 0 {
         return LineLength::Unwritable;
     }
-    if !is_writable(name, style, Field::Name) {
+    let LineLength::Length(n) = text_length(name, style, Field::Name) else {
         return LineLength::Unwritable;
-    }
-    if !is_writable(value, style, Field::Value) {
+    };
+    let LineLength::Length(v) = text_length(value, style, Field::Value) else {
         return LineLength::Unwritable;
-    }
-    let n = encoded_length(name, style);
-    if 511 < n {
-        return LineLength::Unwritable;
-    }
-    let v = encoded_length(value, style);
-    if 511 - n < v {
+    };
+    if !both_fit(n, v, 511) {
         return LineLength::Unwritable;
     }
     LineLength::Length(n + 1 + v)
@@ -84,7 +98,7 @@ fn encoded_fit(name: &[u8], value: &[u8], style: Style, most: usize) -> bool
     )
 }
 
-// The same of any entry, or that it has no room (56).
+// The raw line of any entry, with octet 10 behind it, at the front of d; or that it has no room (56).
 pub fn write_encoded(d: &mut [u8], name: &[u8], value: &[u8], style: Style) -> LineWritten
     ensures { λ r. ⌜
         (line-says r ≡ encoded-answer style (length (now (d .entry))) (entry-of (now (name .entry)) (now (value .entry))))

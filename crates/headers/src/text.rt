@@ -173,7 +173,7 @@ pub(crate) fn put_decoded(d: &mut [u8], raw: &[u8], style: Style) -> usize
 }
 
 // How many octets an octet has encoded.
-fn encoded_width(style: Style, x: u8) -> usize
+pub(crate) fn encoded_width(style: Style, x: u8) -> usize
     ensures { λ r. ⌜ r ≡ length (encode-octet style x) ⌝ }
 {
     if is_escaped(style, x) { 2 } else { 1 }
@@ -227,7 +227,7 @@ pub(crate) fn put_encoded(d: &mut [u8], text: &[u8], style: Style) -> usize
 }
 
 // Whether the octet can be written in this field.
-fn can_write(style: Style, field: Field, x: u8) -> bool
+pub(crate) fn can_write(style: Style, field: Field, x: u8) -> bool
     ensures { λ r. ⌜ r ≡ writable style field x ⌝ }
 {
     is_escaped(style, x) | !is_stop(style, field, x)

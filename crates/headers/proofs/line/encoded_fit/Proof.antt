@@ -1,12 +1,7 @@
 -- `line::encoded_fit` meets its contract: where twice the text fits, so does the encoded.
 use borrow.Author.Needs.{needs}
 use mathlib.Core.Path.{sym, _∙_}
-use Prim.Native.Nat.{_+_}
-use native.Mathlib.Omega.{arith}
-use lib.ListN.{length}
-use borrow.Author.Tests.{leb-true, le-leb}
-use Rattle.headers.specs.Escapes.{encode}
-use Rattle.headers.proofs.Coding.{encode-twice}
+use Rattle.headers.proofs.Coding.{encode-fits}
 use Rattle.headers.proofs.line.encoded_fit.Statement.{statement}
 use Rattle.headers.proofs.line.encoded_fit.Tie as tie
 
@@ -15,9 +10,7 @@ both-fit-requires c κs = search needs
 
 returns : tie.Need-returns
 returns c = let a = c .before .before .before .before .args in
-    sym
-    (le-leb (length (encode (a .style) (a .name .now)) + length (encode (a .style) (a .value .now))) (a .most)
-    (omega (arith, encode-twice (a .style) (a .name .now), encode-twice (a .style) (a .value .now), leb-true, sym (c .before .both-fit .ensures) ∙ c .if1 .taken)))
+    sym (encode-fits (a .style) (a .name .now) (a .value .now) (a .most) (sym (c .before .both-fit .ensures) ∙ c .if1 .taken))
 
 encoded-length-requires : tie.Need-encoded-length-requires
 encoded-length-requires c κs = search needs

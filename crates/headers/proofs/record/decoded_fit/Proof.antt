@@ -1,12 +1,7 @@
 -- `record::decoded_fit` meets its contract: where the raw text fits, so does the decoded.
 use borrow.Author.Needs.{needs}
 use mathlib.Core.Path.{sym, _∙_}
-use Prim.Native.Nat.{_+_}
-use native.Mathlib.Omega.{arith}
-use lib.ListN.{length}
-use borrow.Author.Tests.{leb-true, le-leb}
-use Rattle.headers.specs.Escapes.{decode}
-use Rattle.headers.proofs.Coding.{decode-short}
+use Rattle.headers.proofs.Coding.{decode-fits}
 use Rattle.headers.proofs.record.decoded_fit.Statement.{statement}
 use Rattle.headers.proofs.record.decoded_fit.Tie as tie
 
@@ -15,9 +10,7 @@ both-fit-requires c κs = search needs
 
 returns : tie.Need-returns
 returns c = let a = c .before .before .before .before .args in
-    sym
-    (le-leb (length (decode (a .style) (a .name .now)) + length (decode (a .style) (a .value .now))) (a .most)
-    (omega (arith, decode-short (a .style) (a .name .now), decode-short (a .style) (a .value .now), leb-true, sym (c .before .both-fit .ensures) ∙ c .if1 .taken)))
+    sym (decode-fits (a .style) (a .name .now) (a .value .now) (a .most) (sym (c .before .both-fit .ensures) ∙ c .if1 .taken))
 
 decoded-length-requires : tie.Need-decoded-length-requires
 decoded-length-requires c κs = search needs
