@@ -9,4 +9,7 @@ pub mod Examples
 pub mod Scanning
 pub mod Words
 pub mod Validity
+pub mod Layout
+pub mod Decoding
+pub mod Encoding
 pub mod Answers

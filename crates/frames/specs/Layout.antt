@@ -1,0 +1,48 @@
+-- Where the parts of a frame's head stand, read off its octets: what decoding goes by. That these are the parts of the parse tree is
+-- proofs/Layout.antt. Assumes nothing.
+use mathlib.Core.Bool.{Bool, false, cond}
+use mathlib.Core.List.{List, [], _∷_}
+use Prim.Native.Nat.{ℕ, zero, suc, _+_}
+use lib.ListN.{take, drop, getD}
+use lib.Dec.{eqb}
+use Rattle.frames.specs.Grammar.{Line}
+use Rattle.frames.specs.Scanning.{span, plain-in}
+
+-- how many octets stand before the first 10, 13 or colon
+abbrev pub stop-span : List ℕ → ℕ
+stop-span xs = span (plain-in false) xs
+
+-- what follows a line end at the front
+abbrev pub end-width : List ℕ → ℕ
+end-width xs = cond (eqb (getD xs 0 0) 13) 2 1
+
+abbrev pub behind-end : List ℕ → List ℕ
+behind-end xs = drop (end-width xs) xs
+
+-- the name of the line at the front, what follows its colon, its value, and what follows its line end
+abbrev pub front-name : List ℕ → List ℕ
+front-name xs = take (stop-span xs) xs
+
+abbrev pub behind-colon : List ℕ → List ℕ
+behind-colon xs = drop (stop-span xs + 1) xs
+
+abbrev pub front-value : List ℕ → List ℕ
+front-value xs = front-name (behind-colon xs)
+
+abbrev pub at-end : List ℕ → List ℕ
+at-end xs = drop (stop-span xs) xs
+
+abbrev pub behind-line : List ℕ → List ℕ
+behind-line xs = behind-end (at-end (behind-colon xs))
+
+abbrev pub front-line : List ℕ → Line
+front-line xs = record { name = front-name xs; value = front-value xs; cr = eqb (getD (at-end (behind-colon xs)) 0 0) 13 }
+
+-- the first n lines
+unfoldable pub front-lines : ℕ → List ℕ → List Line
+front-lines zero xs = []
+front-lines (suc n) xs = front-line xs ∷ front-lines n (behind-line xs)
+
+-- what follows the line of the command
+abbrev pub behind-word : List ℕ → List ℕ
+behind-word xs = behind-end (at-end xs)
