@@ -24,3 +24,4 @@ pub mod Packing
 pub mod Running
 pub mod Passing
 pub mod Named
+pub mod Heads

@@ -1,0 +1,159 @@
+-- The parts of a head, read off its octets, are those of the parse tree. Assumes nothing.
+--     front-lines-of, behind-word-of, frame-lines    the lines that are read off a frame
+--     head-short, block-long, none-too-long          its entries, decoded, have records, and how long these are
+--     decoded-finds                                  looking a name up among the records
+use mathlib.Core.Path.{_≡_, refl, _∙_, ap, ap₂}
+use mathlib.Core.Bool.{Bool, true, false, not}
+use mathlib.Core.List.{List, [], _∷_, _++_, append-assoc}
+use Prim.Native.Nat.{ℕ, _*_, _≤_}
+use native.Mathlib.Omega.{arith}
+use lib.ListN.{length, getD, length-map}
+use lib.Seq.{take-append-seam, drop-append-seam, drop-append-add}
+use lib.Dec.{eqb}
+use borrow.Author.Tests.{le-ltb}
+use Rattle.headers.specs.Rows.{every, any, All}
+use Rattle.headers.specs.Text.{stops, opens, escape-table, Character, itself, escape, Text, none, more}
+use Rattle.headers.specs.Block.{Entry, image, Short}
+use Rattle.headers.specs.Lines.{line-max, line-length}
+use Rattle.headers.specs.Answers.{find-answer}
+use Rattle.headers.specs.declared.text.Style.{Style}
+use Rattle.headers.specs.declared.text.Field.{Field}
+use Rattle.headers.proofs.Rows.{and-left, and-right, every-append, any-key}
+use Rattle.headers.proofs.Coding.{decode-short}
+use Rattle.headers.proofs.Blocks.{length-image, Finds, find-finds}
+use Rattle.frames.specs.Grammar.{Version, Command, word, style, end, Line, line, lines, LineOk, Head, HeadOk, frame, octets, Valid}
+use Rattle.frames.specs.Scanning.{span, plain-in}
+use Rattle.frames.specs.Layout.{stop-span, behind-end, front-name, behind-colon, front-value, at-end, behind-line, front-line, front-lines, behind-word}
+use Rattle.frames.specs.Decoding.{line-entry, line-entries, too-long, head-entries}
+use Rattle.frames.proofs.Commands.{each-test}
+
+-- ---- How far a test holds from the front
+
+span-to : (p : ℕ → Bool) (xs : List ℕ) (y : ℕ) (ys : List ℕ) → every p xs ≡ true → p y ≡ false → span p (xs ++ (y ∷ ys)) ≡ length xs
+unfolding span
+span-to p [] y ys h k = rw k
+span-to p (x ∷ xs) y ys h k = rw (and-left (p x) (every p xs) h) (omega (arith, span-to p xs y ys (and-right (p x) (every p xs) h) k))
+
+-- raw text has no raw 10, 13 or colon, and no escape has one
+character-runs : {s : Style} {f : Field} {u : List ℕ} → Character s f u → every (plain-in false) u ≡ true
+character-runs {s} {f} (itself {x = x} h) = rw (and-left (not (stops s f x)) (not (opens s x)) h)
+character-runs {s} (escape {x = x} e h) = rw (any-key (λ e. e .letter) (λ y. plain-in false y ≡ true) x (escape-table s) (refl, (refl, (refl, (refl, tt)))) h)
+
+text-runs : {s : Style} {f : Field} {xs : List ℕ} → Text s f xs → every (plain-in false) xs ≡ true
+text-runs none = refl
+text-runs (more {u = u} {xs = xs} h t) = every-append (plain-in false) u xs (character-runs h) (text-runs t)
+
+-- ---- The parts at the front
+
+-- octets up to the first 10, 13 or colon
+module _ (xs : List ℕ) (y : ℕ) (ys : List ℕ) (runs : every (plain-in false) xs ≡ true) (stop : plain-in false y ≡ false) where
+  stops-at : stop-span (xs ++ (y ∷ ys)) ≡ length xs
+  stops-at = span-to (plain-in false) xs y ys runs stop
+
+  name-at : front-name (xs ++ (y ∷ ys)) ≡ xs
+  name-at = rw stops-at (take-append-seam xs (y ∷ ys))
+
+  end-at : at-end (xs ++ (y ∷ ys)) ≡ y ∷ ys
+  end-at = rw stops-at (drop-append-seam xs (y ∷ ys))
+
+  colon-at : behind-colon (xs ++ (y ∷ ys)) ≡ ys
+  colon-at = rw stops-at (drop-append-add xs (y ∷ ys) 1)
+
+-- the same up to a line end
+module _ (xs : List ℕ) (runs : every (plain-in false) xs ≡ true) (rest : List ℕ) where
+  name-ended : (e : Bool) → front-name (xs ++ (end e ++ rest)) ≡ xs
+  name-ended true = name-at xs 13 (10 ∷ rest) runs refl
+  name-ended false = name-at xs 10 rest runs refl
+
+  end-ended : (e : Bool) → at-end (xs ++ (end e ++ rest)) ≡ end e ++ rest
+  end-ended true = end-at xs 13 (10 ∷ rest) runs refl
+  end-ended false = end-at xs 10 rest runs refl
+
+end-read : (e : Bool) (rest : List ℕ) → eqb (getD (end e ++ rest) 0 0) 13 ≡ e
+end-read true rest = refl
+end-read false rest = refl
+
+end-behind : (e : Bool) (rest : List ℕ) → behind-end (end e ++ rest) ≡ rest
+end-behind true rest = refl
+end-behind false rest = refl
+
+-- ---- Lines
+
+module _ (s : Style) where
+  front-line-of : (l : Line) (rest : List ℕ) → LineOk s l → (front-line (line l ++ rest) ≡ l) × (behind-line (line l ++ rest) ≡ rest)
+  front-line-of l rest ok =
+      let xs = line l ++ rest in
+      let n = text-runs (ok .name-text) in
+      let v = text-runs (ok .value-text) in
+      let tail = l .value ++ (end (l .cr) ++ rest) in
+      let apart : xs ≡ l .name ++ (58 ∷ tail) = simp append-assoc in
+      let name : front-name xs ≡ l .name = ap front-name apart ∙ name-at (l .name) 58 tail n refl in
+      let colon : behind-colon xs ≡ tail = ap behind-colon apart ∙ colon-at (l .name) 58 tail n refl in
+      let value : front-value xs ≡ l .value = ap front-name colon ∙ name-ended (l .value) v rest (l .cr) in
+      let at : at-end (behind-colon xs) ≡ end (l .cr) ++ rest = ap at-end colon ∙ end-ended (l .value) v rest (l .cr) in
+      let cr : front-line xs .cr ≡ l .cr = ap (λ z. eqb (getD z 0 0) 13) at ∙ end-read (l .cr) rest in
+      (λ i. record { name = name i; value = value i; cr = cr i }, ap behind-end at ∙ end-behind (l .cr) rest)
+
+  pub front-lines-of : (ls : List Line) (rest : List ℕ) → All (LineOk s) ls → front-lines (length ls) (lines ls ++ rest) ≡ ls
+  unfolding front-lines
+  front-lines-of [] rest h = refl
+  front-lines-of (l ∷ ls) rest (ok, oks) =
+      let (here, on) = front-line-of l (lines ls ++ rest) ok in
+      rw (append-assoc (line l) (lines ls) rest) (ap₂ (_∷_) here (ap (front-lines (length ls)) on ∙ front-lines-of ls rest oks))
+
+-- a command's word has none of them either
+word-runs : (c : Command) → every (plain-in false) (word c) ≡ true
+word-runs = each-test (λ c. every (plain-in false) (word c)) refl
+
+module _ (h : Head) (e : Bool) (b : List ℕ) where
+  pub behind-word-of : behind-word (octets (frame h e b)) ≡ lines (h .entries) ++ (end e ++ (b ++ (0 ∷ [])))
+  behind-word-of =
+      let rest = lines (h .entries) ++ (end e ++ (b ++ (0 ∷ []))) in
+      let apart : octets (frame h e b) ≡ word (h .command) ++ (end (h .cr) ++ rest) = simp append-assoc in
+      ap behind-word apart ∙ ap behind-end (end-ended (word (h .command)) (word-runs (h .command)) rest (h .cr)) ∙ end-behind (h .cr) rest
+
+  pub frame-lines : (ver : Version) → Valid ver (frame h e b) → front-lines (length (h .entries)) (behind-word (octets (frame h e b))) ≡ h .entries
+  frame-lines ver v = ap (front-lines (length (h .entries))) behind-word-of ∙ front-lines-of _ (h .entries) _ (v .0 .0 .each)
+
+-- ---- The entries
+
+-- the line of an entry, not raw, is no longer than a line may be
+abbrev Fits : Entry → Type 0
+Fits e = line-length e ≤ line-max
+
+-- a decoded line is no longer than its raw one
+lines-fit : (s : Style) (ls : List Line) → All (LineOk s) ls → All Fits (line-entries s ls)
+lines-fit s [] h = tt
+lines-fit s (l ∷ ls) (ok, oks) = (omega (arith, decode-short s (l .name), decode-short s (l .value), ok .fits), lines-fit s ls oks)
+
+fit-short : (es : List Entry) → All Fits es → All Short es
+fit-short [] h = tt
+fit-short (e ∷ es) (fit, fits) = (record { name-fits = omega arith; value-fits = omega arith }, fit-short es fits)
+
+-- a record has 6 octets and those of name and value
+fit-image : (es : List Entry) → All Fits es → length (image es) ≤ 517 * length es
+fit-image [] h = omega arith
+fit-image (e ∷ es) (fit, fits) = omega (arith, length-image e es, fit-image es fits)
+
+fit-none : (es : List Entry) → All Fits es → any too-long es ≡ false
+fit-none [] h = refl
+fit-none (e ∷ es) (fit, fits) = rw (le-ltb line-max (line-length e) fit) (fit-none es fits)
+
+module _ (ver : Version) (h : Head) (ok : HeadOk ver h) where
+  head-fits : All Fits (head-entries ver h)
+  head-fits = lines-fit _ (h .entries) (ok .each)
+
+  pub head-short : All Short (head-entries ver h)
+  head-short = fit-short (head-entries ver h) head-fits
+
+  -- "The longest sheet is 16,544 octets"
+  pub block-long : length (image (head-entries ver h)) ≤ 16544
+  block-long = omega (arith, fit-image (head-entries ver h) head-fits, length-map (h .entries) (line-entry (style ver (h .command))), ok .few)
+
+  -- so no frame gets 23
+  pub none-too-long : any too-long (head-entries ver h) ≡ false
+  none-too-long = fit-none (head-entries ver h) head-fits
+
+  -- looking a name up gives the first entry of that name of the tree, decoded, or says none
+  pub decoded-finds : (name : List ℕ) → Finds (image (head-entries ver h)) name (head-entries ver h) (find-answer (image (head-entries ver h)) name)
+  decoded-finds name = find-finds (image (head-entries ver h)) name (head-entries ver h) (record { laid-out = refl; short = head-short })
