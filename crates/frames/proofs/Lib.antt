@@ -25,3 +25,4 @@ pub mod Running
 pub mod Passing
 pub mod Named
 pub mod Heads
+pub mod Readings
