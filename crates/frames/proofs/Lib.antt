@@ -26,3 +26,4 @@ pub mod Passing
 pub mod Named
 pub mod Heads
 pub mod Readings
+pub mod Images
