@@ -27,3 +27,4 @@ pub mod Named
 pub mod Heads
 pub mod Readings
 pub mod Images
+pub mod Rewriting
