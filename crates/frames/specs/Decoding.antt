@@ -51,7 +51,7 @@ module _ (ver : Version) where
   tree-entries (some (heart-beat e)) = none
   tree-entries (some (frame h e b)) = some (head-entries h)
 
-  -- the parse tree of xs, or that xs is no item; there is no other (proofs/Layout.antt)
+  -- the parse tree of xs, or that xs is no item; there is no other (proofs/Readings.antt)
   abbrev pub Reading : List ℕ → Option Tree → Type 0
   Reading xs none = ¬ (Item ver xs)
   Reading xs (some t) = Valid ver t × (octets t ≡ xs)
