@@ -28,3 +28,4 @@ pub mod Heads
 pub mod Readings
 pub mod Images
 pub mod Rewriting
+pub mod RoundTrips
