@@ -21,6 +21,7 @@ pub mod Checks
 pub mod Gliding
 pub mod Sizes
 pub mod Packing
+pub mod Packed
 pub mod Running
 pub mod Passing
 pub mod Named

@@ -1,7 +1,12 @@
 -- What the code's answers say: document 01's replies, and the packed numbers that C gets. Assumes nothing.
 use mathlib.Core.Bool.{cond}
-use Prim.Native.Nat.{ℕ, _+_, _*_, _/_, _%_, _<_}
-use lib.Dec.{eqb}
+use mathlib.Core.List.{List, [], _∷_}
+use Prim.Native.Nat.{ℕ, _+_, _-_, _*_, _/_, _%_, _<_}
+use lib.Dec.{eqb, ltb}
+use lib.ListN.{length, getD}
+use Rattle.headers.specs.Block.{two-at}
+use Rattle.headers.specs.Answers.{Answer, accepted, refused}
+use Rattle.frames.specs.Encoding.{Encoding, image-length, refusal}
 use Rattle.frames.specs.Replies.{Reply, Complete, Incomplete, Invalid}
 use Rattle.frames.specs.declared.parse.Parsed.{Parsed}
 
@@ -44,3 +49,31 @@ pub data Small : Reply → Type 0 where
   small-frame : {used command headers start len : ℕ} → SmallFrame used command headers start len → Small (Complete 2 used command headers start len)
   small-incomplete : Small Incomplete
   small-invalid : {k n : ℕ} → k < 256 → n < 65536 → Small (Invalid k n)
+
+-- The answers of stomp_decode and stomp_encode in one number: a length, or 65,536 times the number of a refusal and the index of an
+-- entry; and read back.
+abbrev pub packed-decode : Answer → ℕ
+packed-decode (accepted values) = getD values 0 0
+packed-decode (refused k) = 65536 * k
+
+abbrev pub unpacked-decode : ℕ → Answer
+unpacked-decode p = cond (ltb p 65536) (accepted (p ∷ [])) (refused (p / 65536))
+
+abbrev pub packed-encode : Encoding → ℕ
+packed-encode (image-length n) = n
+packed-encode (refusal k i) = 65536 * k + i
+
+abbrev pub unpacked-encode : ℕ → Encoding
+unpacked-encode p = cond (ltb p 65536) (image-length p) (refusal (p / 65536) (p % 65536))
+
+-- The answer of stomp_find: 0 none, 1 malformed, else where the first value starts; its length stands in the block, in the two octets
+-- before the name.
+abbrev pub packed-find : Answer → ℕ
+packed-find (accepted []) = 0
+packed-find (accepted (start ∷ values)) = start
+packed-find (refused k) = 1
+
+abbrev pub unpacked-find : List ℕ → List ℕ → ℕ → Answer
+unpacked-find block name p =
+    cond (eqb p 0) (accepted [])
+    (cond (eqb p 1) (refused 22) (accepted (p ∷ two-at block (p - length name - 2) ∷ [])))

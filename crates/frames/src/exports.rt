@@ -3,10 +3,12 @@ ghost use mathlib.Core.Path.{_≡_};
 ghost use Prim.Native.Nat.{_<_};
 ghost use Rattle.frames.specs.Grammar.{v1-2};
 ghost use Rattle.frames.specs.Parsing.{parsed};
-ghost use Rattle.frames.specs.Answers.{parsed-says, packed, unpacked, SmallFrame};
+ghost use Rattle.headers.specs.Answers.{find-answer};
+ghost use Rattle.frames.specs.Answers.{parsed-says, packed, unpacked, SmallFrame, packed-find, unpacked-find};
 use crate::parse::Item;
 use crate::parse::Parsed;
 use crate::parse::Refusal;
+use headers::Found;
 
 // An item in one number.
 fn pack_item(i: Item) -> u64
@@ -41,5 +43,20 @@ pub extern "C" fn stomp_parse(octets: &[u8]) -> u64
         Parsed::Complete(i) => pack_item(i),
         Parsed::Incomplete => 0,
         Parsed::Invalid(r) => pack_refusal(r),
+    }
+}
+
+// What find answers, in one number; it reads back with the block and the name.
+#[no_mangle]
+pub extern "C" fn stomp_find(block: &[u8], name: &[u8]) -> u64
+    ensures { λ r. ⌜
+        (r ≡ packed-find (find-answer (now (block .entry)) (now (name .entry))))
+        × (unpacked-find (now (block .entry)) (now (name .entry)) r ≡ find-answer (now (block .entry)) (now (name .entry)))
+        ⌝ }
+{
+    match headers::find(block, name) {
+        Found::Value(p) => p.start as u64,
+        Found::Absent => 0,
+        Found::Malformed => 1,
     }
 }
