@@ -54,7 +54,7 @@ module _ (p : ℕ → Bool) where
       by true e r = rw e (r (omega (arith, rw e at h)))
       by false e r = absurd (omega (arith, rw e at h))
 
-  span-le : (xs : List ℕ) → span p xs ≤ length xs
+  pub span-le : (xs : List ℕ) → span p xs ≤ length xs
   unfolding span
   span-le [] = omega arith
   span-le (x ∷ xs) = cond-case (λ n. n ≤ length (x ∷ xs)) (p x) (λ h. omega (arith, span-le xs)) (λ h. omega arith)

@@ -27,6 +27,7 @@ pub mod Passing
 pub mod Named
 pub mod Heads
 pub mod Readings
+pub mod Decoding
 pub mod Images
 pub mod Rewriting
 pub mod RoundTrips

@@ -9,12 +9,20 @@ use Rattle.headers.specs.Answers.{Answer, accepted, refused}
 use Rattle.frames.specs.Encoding.{Encoding, image-length, refusal}
 use Rattle.frames.specs.Replies.{Reply, Complete, Incomplete, Invalid}
 use Rattle.frames.specs.declared.parse.Parsed.{Parsed}
+use Rattle.frames.specs.declared.decode.Decoded.{Decoded}
 
 -- the reply that an answer of parse is
 abbrev pub parsed-says : Parsed → Reply
 parsed-says (Parsed.Complete i) = Complete (i .kind) (i .len) (i .command) (i .headers) (i .body) (i .«body_len»)
 parsed-says Parsed.Incomplete = Incomplete
 parsed-says (Parsed.Invalid r) = Invalid (r .code) (r .offset)
+
+-- what an answer of decode says: the length used, or document 01's number
+abbrev pub decoded-says : Decoded → Answer
+decoded-says (Decoded.Length n) = accepted (n ∷ [])
+decoded-says Decoded.NotFrame = refused 20
+decoded-says Decoded.TooShort = refused 21
+decoded-says Decoded.TooLong = refused 23
 
 -- The answer of stomp_parse: a reply in one number.
 abbrev pub packed-frame : (used command headers start len : ℕ) → ℕ

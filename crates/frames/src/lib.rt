@@ -1,4 +1,4 @@
-// Frames: the grammar of items, and parsing.
+// Frames: the grammar of items, parsing and decoding.
 mod word; // the words of commands
 mod scan; // what of an item has been read, in numbers
 mod valid; // whether a state is one that a run can leave
@@ -6,4 +6,6 @@ mod ahead; // plain stretches
 mod pass; // octets passed at a go
 mod run; // a row of octets
 pub mod parse; // the reply
+mod layout; // where the parts of a head stand
+pub mod decode; // a frame's entries as a header block
 mod exports; // calls for C

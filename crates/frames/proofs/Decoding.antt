@@ -1,0 +1,289 @@
+-- Decoding, line by line: the places of a line's parts, what is left to decode behind it, and what decode replies. Assumes nothing.
+--     on-drop, stop-place, on-behind, line-cut     the places that the code computes
+--     Parted, entries-left, left-all, left-none    the entries of the lines that are left to decode
+--     Adds, adds                                   what the next line adds to the measure
+--     Written, Asked, asked                        its record, written into the part of the block that is left
+--     not-complete, few-lines                      what decode learns from parse
+--     decodes-none, Settled, settled               what decode replies, and what it leaves in the block
+use mathlib.Core.Path.{_≡_, refl, sym, _∙_, ap, ap₂}
+use mathlib.Core.Bool.{Bool, true, false, _||_}
+use mathlib.Core.Option.{Option, none, some}
+use mathlib.Core.List.{List, [], _∷_, _++_}
+use Prim.Native.Nat.{ℕ, suc, _+_, _-_, _≤_, _<_}
+use native.Mathlib.Omega.{arith}
+use native.Mathlib.Nat.{add-zero}
+use lib.ListN.{length, take, drop, getD, length-append, length-take, length-drop, drop-of-length-le, List·getD-eq-default}
+use lib.Seq.{take-all, drop-drop, getD-drop}
+use lib.Dec.{leb, ltb}
+use borrow.Author.Tests.{leb-true, leb-false, ltb-false, lt-ltb, le-ltb, eq-eqb, ne-eqb}
+use borrow.Rule.Slice.PartMut.{midOf, putMid}
+use Rattle.headers.specs.Rows.{any}
+use Rattle.headers.specs.Escapes.{decode}
+use Rattle.headers.specs.Block.{Entry, image}
+use Rattle.headers.specs.Lines.{decoded-entry}
+use Rattle.headers.specs.Answers.{Answer, accepted, refused, left-in, written-record, decoded-answer, record-says}
+use Rattle.headers.specs.declared.record.RecordWritten.{RecordWritten}
+use Rattle.headers.specs.declared.text.Style.{Style}
+use Rattle.headers.proofs.Rows.{or-false-left, or-false-right}
+use Rattle.headers.proofs.Put.{put-length, put-more, put-kept}
+use Rattle.headers.proofs.Settling.{refusal, acceptance, decoded-yes}
+use Rattle.headers.proofs.Answers.{record-once}
+use Rattle.headers.proofs.Coding.{decode-short}
+use Rattle.headers.proofs.Blocks.{length-image}
+use Rattle.frames.specs.declared.layout.LineAt.{LineAt}
+use Rattle.frames.specs.declared.parse.Item.{Item}
+use Rattle.frames.specs.declared.parse.Parsed.{Parsed}
+use Rattle.frames.specs.Grammar.{Version, v1-2, frame}
+use Rattle.frames.specs.Layout.{stop-span, end-width, behind-end, front-name, behind-colon, front-value, at-end, behind-line, front-lines, behind-word}
+use Rattle.frames.specs.Decoding.{line-entries, too-long, decode-answer, head-entries, Decodes}
+use Rattle.frames.specs.Answers.{parsed-says}
+use Rattle.frames.specs.Scanning.{plain-in, style-of}
+use Rattle.frames.proofs.Gliding.{span-le}
+use Rattle.frames.proofs.Heads.{frame-lines}
+use Rattle.frames.proofs.Readings.{Other, OneFrame, NoFrame}
+
+-- ---- Places
+
+-- k places on, or at the end
+pub on-drop : (xs : List ℕ) (i k r : ℕ) → (i + k ≤ length xs → r ≡ i + k) → (length xs < i + k → r ≡ length xs) → drop r xs ≡ drop k (drop i xs)
+on-drop xs i k r f g = by (leb (i + k) (length xs)) refl ∙ sym (drop-drop k i xs)
+  where
+    by : (t : Bool) → leb (i + k) (length xs) ≡ t → drop r xs ≡ drop (i + k) xs
+    by true t = ap (λ n. drop n xs) (f (leb-true (i + k) (length xs) t))
+    by false t =
+        let past = leb-false (i + k) (length xs) t in
+        drop-of-length-le xs {i = r} (omega (arith, g past)) ∙ sym (drop-of-length-le xs {i = i + k} (omega arith))
+
+-- the first 10, 13 or colon of what stands from i on
+pub stop-place : (xs : List ℕ) (i k : ℕ) → i ≤ length xs → k ≡ stop-span (take (length xs - i) (drop i xs))
+    → (i + k ≡ i + stop-span (drop i xs)) × (i + k ≤ length xs)
+stop-place xs i k h e =
+    let long = length-drop i xs in
+    let is : k ≡ stop-span (drop i xs) = e ∙ ap stop-span (take-all (length xs - i) (drop i xs) (omega arith)) in
+    (ap (i +_) is, omega (arith, span-le (plain-in false) (drop i xs)))
+
+-- behind the line end at i, which has two octets where it begins with 13
+module _ (xs : List ℕ) (i : ℕ) where
+  at-front : getD (drop i xs) 0 0 ≡ getD xs i 0
+  at-front = getD-drop i xs 0 0 ∙ ap (λ n. getD xs n 0) (add-zero i)
+
+  pub end-two : getD xs i 0 ≡ 13 → end-width (drop i xs) ≡ 2
+  end-two h = rw (eq-eqb (getD (drop i xs) 0 0) 13 (at-front ∙ h))
+
+  pub end-one : (getD xs i 0 ≡ 13 → ⊥) → end-width (drop i xs) ≡ 1
+  end-one h = rw (ne-eqb (getD (drop i xs) 0 0) 13 (λ e. h (sym at-front ∙ e)))
+
+  pub end-none : length xs ≤ i → getD xs i 0 ≡ 13 → ⊥
+  end-none h e = omega (arith, List·getD-eq-default xs 0 h)
+
+  pub on-behind : (k r : ℕ) → end-width (drop i xs) ≡ k → (i + k ≤ length xs → r ≡ i + k) → (length xs < i + k → r ≡ length xs) → drop r xs ≡ behind-end (drop i xs)
+  on-behind k r wide f g = on-drop xs i k r f g ∙ ap (λ n. drop n (drop i xs)) (sym wide)
+
+-- up to the first 10, 13 or colon, and from it on
+module _ (xs : List ℕ) (i r : ℕ) (is : r ≡ i + stop-span (drop i xs)) where
+  cut-name : take (r - i) (drop i xs) ≡ front-name (drop i xs)
+  cut-name = let wide : r - i ≡ stop-span (drop i xs) = omega arith in ap (λ n. take n (drop i xs)) wide
+
+  pub cut-end : drop r xs ≡ at-end (drop i xs)
+  cut-end = ap (λ n. drop n xs) is ∙ sym (drop-drop (stop-span (drop i xs)) i xs)
+
+-- the parts of the line at i
+pub line-cut : (xs : List ℕ) (i colon value end next : ℕ) → colon ≡ i + stop-span (drop i xs) → drop value xs ≡ drop 1 (drop colon xs)
+    → end ≡ value + stop-span (drop value xs) → drop next xs ≡ behind-end (drop end xs)
+    → (take (colon - i) (drop i xs) ≡ front-name (drop i xs))
+    × (take (end - value) (drop value xs) ≡ front-value (drop i xs))
+    × (drop next xs ≡ behind-line (drop i xs))
+line-cut xs i colon value end next first on second behind =
+    let past : drop value xs ≡ behind-colon (drop i xs) = on ∙ ap (drop 1) (cut-end xs i colon first) ∙ drop-drop 1 (stop-span (drop i xs)) (drop i xs) in
+    (cut-name xs i colon first, cut-name xs value end second ∙ ap front-name past, behind ∙ ap behind-end (cut-end xs value end second ∙ ap at-end past))
+
+-- ---- The lines that are left
+
+-- l has the parts of the line at i
+abbrev pub Parted : List ℕ → ℕ → LineAt → Type 0
+Parted xs i l =
+    ((i ≤ l .colon) × (l .colon ≤ l .value) × (l .value ≤ l .end) × (l .end ≤ l .next) × (l .next ≤ length xs))
+    × (take (l .colon - i) (drop i xs) ≡ front-name (drop i xs))
+    × (take (l .end - l .value) (drop (l .value) xs) ≡ front-value (drop i xs))
+    × (drop (l .next) xs ≡ behind-line (drop i xs))
+
+module _ (style : Style) (xs : List ℕ) (n : ℕ) where
+  -- their entries, where i of n lines are passed and the next is at a place
+  abbrev pub entries-left : ℕ → ℕ → List Entry
+  entries-left i at = line-entries style (front-lines (n - i) (drop at xs))
+
+  pub left-all : (at : ℕ) → entries-left 0 at ≡ line-entries style (front-lines n (drop at xs))
+  left-all at = let all : n - 0 ≡ n = omega arith in ap (λ m. line-entries style (front-lines m (drop at xs))) all
+
+  pub left-none : (i at : ℕ) → n ≤ i → entries-left i at ≡ []
+  unfolding front-lines
+  left-none i at h = let none : n - i ≡ 0 = omega arith in ap (λ m. line-entries style (front-lines m (drop at xs))) none
+
+  -- the line at a place, of which name and value have a and b octets decoded, and the lines behind it
+  pub record Adds (i at next a b : ℕ) : Type 0 where
+    pub octets : length (image (entries-left i at)) ≡ 6 + a + b + length (image (entries-left (i + 1) next))
+    pub over : any too-long (entries-left i at) ≡ ltb 512 (a + 1 + b) || any too-long (entries-left (i + 1) next)
+    pub few : at + a + b ≤ next
+
+  -- its record, of k octets, is written behind the first used of d, which makes e of it
+  pub record Written (i at next : ℕ) (d e : List ℕ) (used k : ℕ) : Type 0 where
+    pub fewer : k + length (image (entries-left (i + 1) next)) ≡ length (image (entries-left i at))
+    pub same-long : length e ≡ length d
+    pub further : (whole : List ℕ) → take used d ++ image (entries-left i at) ≡ whole → take (used + k) e ++ image (entries-left (i + 1) next) ≡ whole
+    pub kept : (d₀ : List ℕ) → drop used d ≡ drop used d₀ → drop (used + k) e ≡ drop (used + k) d₀
+
+  -- a callee that is given that part of d answers r and leaves after in it
+  pub record Asked (i at next : ℕ) (d after : List ℕ) (used : ℕ) (r : RecordWritten) : Type 0 where
+    pub accepts : (k : ℕ) × (r ≡ RecordWritten.Length k)
+    pub writes : (k : ℕ) → r ≡ RecordWritten.Length k → Written i at next d (putMid used (length d - used) d after) used k
+    pub rest-ok : any too-long (entries-left (i + 1) next) ≡ false
+
+  module _ (i at : ℕ) (l : LineAt) (more : i < n) (p : Parted xs at l) where
+    -- name and value of the next line, raw, and its record
+    abbrev raw-name : List ℕ
+    raw-name = take (l .colon - at) (drop at xs)
+
+    abbrev raw-value : List ℕ
+    raw-value = take (l .end - l .value) (drop (l .value) xs)
+
+    abbrev next-record : List ℕ
+    next-record = written-record style raw-name raw-value
+
+    left-next : entries-left i at ≡ decoded-entry style raw-name raw-value ∷ entries-left (i + 1) (l .next)
+    unfolding front-lines
+    left-next =
+        let fewer : n - i ≡ suc (n - (i + 1)) = omega arith in
+        ap (λ m. line-entries style (front-lines m (drop at xs))) fewer
+        ∙ ap₂ (_∷_) (ap₂ (decoded-entry style) (sym (p .1)) (sym (p .2))) (ap (λ ys. line-entries style (front-lines (n - (i + 1)) ys)) (sym (p .3)))
+
+    pub adds : (a b : ℕ) → a ≡ length (decode style raw-name) → b ≡ length (decode style raw-value) → Adds i at (l .next) a b
+    adds a b name-long value-long =
+        record {
+          octets = omega (arith, ap (λ es. length (image es)) left-next, length-image (decoded-entry style raw-name raw-value) (entries-left (i + 1) (l .next)));
+          over =
+              ap (any too-long) left-next
+              ∙ ap₂ (λ x y. ltb 512 (x + 1 + y) || any too-long (entries-left (i + 1) (l .next))) (sym name-long) (sym value-long);
+          few =
+              omega (arith, decode-short style raw-name, decode-short style raw-value, length-take (l .colon - at) (drop at xs), length-take (l .end - l .value) (drop (l .value) xs), p .0);
+        }
+
+    -- where no line that is left is too long, and the part of d that is left has room for all their records
+    module _ (d after : List ℕ) (used : ℕ) (r : RecordWritten) (ok : any too-long (entries-left i at) ≡ false) (fits : used + length (image (entries-left i at)) ≤ length d)
+        (says : record-says r ≡ decoded-answer style (length (midOf used (length d - used) d)) raw-name raw-value)
+        (leaves : after ≡ left-in (decoded-answer style (length (midOf used (length d - used) d)) raw-name raw-value) next-record (midOf used (length d - used) d)) where
+      sum : Adds i at (l .next) (length (decode style raw-name)) (length (decode style raw-value))
+      sum = adds _ _ refl refl
+
+      apart : ltb 512 (length (decode style raw-name) + 1 + length (decode style raw-value)) || any too-long (entries-left (i + 1) (l .next)) ≡ false
+      apart = sym (sum .over) ∙ ok
+
+      accepted-so : decoded-answer style (length (midOf used (length d - used) d)) raw-name raw-value ≡ accepted (length next-record ∷ [])
+      accepted-so =
+          decoded-yes style (length (midOf used (length d - used) d)) raw-name raw-value
+          (omega (arith, sum .octets, length-take (length d - used) (drop used d), length-drop used d))
+          (omega (arith, ltb-false 512 (length (decode style raw-name) + 1 + length (decode style raw-value)) (or-false-left _ _ apart)))
+
+      its-length : r ≡ RecordWritten.Length (length next-record)
+      its-length = record-once r (RecordWritten.Length (length next-record)) (says ∙ accepted-so)
+
+      module _ (k : ℕ) (e : r ≡ RecordWritten.Length k) where
+        took : length next-record ≡ k
+        took = cc its-length
+
+        wrote : after ≡ next-record ++ drop k (midOf used (length d - used) d)
+        wrote =
+            leaves
+            ∙ ap (λ A. left-in A next-record (midOf used (length d - used) d)) accepted-so
+            ∙ ap (λ m. next-record ++ drop m (midOf used (length d - used) d)) took
+
+        less : k + length (image (entries-left (i + 1) (l .next))) ≡ length (image (entries-left i at))
+        less =
+            let rest : List ℕ = image (entries-left (i + 1) (l .next)) in
+            sym (ap (λ es. length (image es)) left-next ∙ length-append next-record rest ∙ ap (_+ length rest) took)
+
+        room : used + k ≤ length d
+        room = omega (arith, less)
+
+        written : Written i at (l .next) d (putMid used (length d - used) d after) used k
+        written =
+            record {
+              fewer = less;
+              same-long = put-length used k d after next-record took room wrote;
+              further = λ whole w. put-more used k d after next-record took room wrote _ _ w (ap image left-next);
+              kept = λ d₀ h. put-kept used k d after next-record took room wrote d₀ h;
+            }
+
+      pub asked : Asked i at (l .next) d after used r
+      asked = record { accepts = (length next-record, its-length); writes = written; rest-ok = or-false-right (ltb 512 (length (decode style raw-name) + 1 + length (decode style raw-value))) _ apart }
+
+-- ---- What decode replies
+
+-- an answer of parse that tells of no item
+pub not-complete : (m : ℕ) (p : Parsed) → ((i : Item) → p ≡ Parsed.Complete i → ⊥) → Other m (parsed-says p)
+not-complete m (Parsed.Complete i) h = absurd (h i refl)
+not-complete m Parsed.Incomplete h = tt
+not-complete m (Parsed.Invalid r) h = tt
+
+module _ (room : ℕ) where
+  answer-none : (o : Option (List Entry)) → o ≡ none → decode-answer room o ≡ refused 20
+  unfolding decode-answer
+  answer-none o e = rw e
+
+  module _ (es : List Entry) where
+    answer-short : room < length (image es) → decode-answer room (some es) ≡ refused 21
+    unfolding decode-answer
+    answer-short h = rw (lt-ltb room (length (image es)) h)
+
+    answer-over : length (image es) ≤ room → any too-long es ≡ true → decode-answer room (some es) ≡ refused 23
+    unfolding decode-answer
+    answer-over h t = rw (le-ltb room (length (image es)) h, t)
+
+    answer-yes : length (image es) ≤ room → any too-long es ≡ false → decode-answer room (some es) ≡ accepted (length (image es) ∷ [])
+    unfolding decode-answer
+    answer-yes h t = rw (le-ltb room (length (image es)) h, t)
+
+pub decodes-none : (ver : Version) {xs : List ℕ} (before : List ℕ) → NoFrame ver xs → Decodes ver xs before (refused 20) before
+decodes-none ver before f =
+    let (answered, written) = refusal _ 20 _ before (answer-none (length before) _ (f .no-entries)) in
+    record { tree = f .tree; reading = f .reading; answered = answered; written = written }
+
+-- the replies to a frame whose entries are es, which were measured
+pub record Settled (xs before : List ℕ) (es : List Entry) (total : ℕ) (long : Bool) : Type 0 where
+  pub room : total ≤ length before → length (image es) ≤ length before
+  pub ok : long ≡ false → any too-long es ≡ false
+  pub short : length before < total → Decodes v1-2 xs before (refused 21) before
+  pub over : total ≤ length before → long ≡ true → Decodes v1-2 xs before (refused 23) before
+  pub whole : total ≤ length before → long ≡ false → (after : List ℕ) → after ≡ image es ++ drop (length (image es)) before → Decodes v1-2 xs before (accepted (total ∷ [])) after
+
+module _ {xs : List ℕ} {c n s l : ℕ} (f : OneFrame v1-2 xs c n s l) where
+  pub few-lines : n ≤ 32
+  few-lines = omega (arith, f .headers-are, f .valid .0 .0 .few)
+
+  -- the code has the style of the frame's command, and where its lines begin
+  module _ (style : Style) (from : ℕ) (style-is : style ≡ style-of c) (from-is : drop from xs ≡ behind-word xs) where
+    abbrev es : List Entry
+    es = line-entries style (front-lines n (drop from xs))
+
+    entries-are : es ≡ head-entries v1-2 (f .h)
+    entries-are =
+        ap₂ (λ k ys. line-entries style (front-lines k ys)) (f .headers-are) (from-is ∙ ap behind-word (sym (f .whole)))
+        ∙ ap (line-entries style) (frame-lines (f .h) (f .e) (f .b) v1-2 (f .valid))
+        ∙ ap (λ z. line-entries z (f .h .entries)) (style-is ∙ ap style-of (f .command-is))
+
+    module _ (before : List ℕ) where
+      decodes : (A : Answer) (after : List ℕ) → (A ≡ decode-answer (length before) (some es)) × (after ≡ left-in (decode-answer (length before) (some es)) (image es) before)
+          → Decodes v1-2 xs before A after
+      decodes A after h =
+          let (answered, written) = rw entries-are at h in
+          record { tree = some (frame (f .h) (f .e) (f .b)); reading = (f .valid, f .whole); answered = answered; written = written }
+
+      pub settled : (total : ℕ) (long : Bool) → total ≡ length (image es) → long ≡ any too-long es → Settled xs before es total long
+      settled total long total-is long-is =
+          record {
+            room = λ h. omega arith;
+            ok = λ t. sym long-is ∙ t;
+            short = λ h. decodes _ before (refusal _ 21 _ before (answer-short (length before) es (omega arith)));
+            over = λ h t. decodes _ before (refusal _ 23 _ before (answer-over (length before) es (omega arith) (sym long-is ∙ t)));
+            whole = λ h t after w.
+                rw total-is (decodes _ after (acceptance _ _ _ before after (answer-yes (length before) es (omega arith) (sym long-is ∙ t)) w));
+          }

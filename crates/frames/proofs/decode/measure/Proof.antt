@@ -1,0 +1,141 @@
+-- `decode::measure` meets its contract: what is counted and what is left to decode make the whole. Each line adds no more than its
+-- octets and 6, so the sum does not overflow.
+use borrow.Author.Needs.{needs}
+use Prim.Native.Nat.{_≤_, _-_, _+_, _*_}
+use native.Mathlib.Omega.{arith}
+use lib.ListN.{length, drop}
+use mathlib.Core.Path.{_≡_, sym, _∙_, ap}
+use mathlib.Core.Bool.{_||_, or-assoc}
+use Rattle.headers.specs.Rows.{any}
+use Rattle.headers.specs.Block.{image}
+use Rattle.headers.proofs.Rows.{or-no}
+use Rattle.frames.specs.Layout.{front-lines}
+use Rattle.frames.specs.Decoding.{line-entries, too-long}
+use Rattle.frames.proofs.Decoding.{entries-left, left-all, left-none, Adds, adds}
+use Rattle.frames.proofs.decode.measure.Statement.{statement}
+use Rattle.frames.proofs.decode.measure.Tie as tie
+
+abbrev Inv-loop : tie.InvT-loop
+Inv-loop s from n style total₀ long₀ at₀ i₀ total long at i =
+    (at ≤ length s)
+    × (total ≤ 6 * i + at)
+    × (total + length (image (entries-left style s n i at)) ≡ length (image (line-entries style (front-lines n (drop from s)))))
+    × (long || any too-long (entries-left style s n i at) ≡ any too-long (line-entries style (front-lines n (drop from s))))
+
+abbrev μ-loop : tie.MeasureT-loop
+μ-loop s from n style total₀ long₀ at₀ i₀ total long at i = n - i
+
+-- what the next line adds
+added : (c : tie.After-decoded-length2 Inv-loop μ-loop) →
+    let l = c .before .before .before .before in
+    let h = l .before .before .loop in
+    let a = l .before .before .before .before .args in
+    Adds (a .style) (a .s .now) (a .n) (h .i) (h .at) (l .line-at .result .next) (c .before .before .decoded-length .result) (c .decoded-length2 .result)
+added c =
+    let l = c .before .before .before .before in
+    let h = l .before .before .loop in
+    let a = l .before .before .before .before .args in
+    adds (a .style) (a .s .now) (a .n) (h .i) (h .at) (l .line-at .result) (l .before .loop-test .taken) (l .line-at .ensures) _ _ (c .before .before .decoded-length .ensures) (c .decoded-length2 .ensures)
+
+small : (c : tie.After-decoded-length2 Inv-loop μ-loop) →
+    let h = c .before .before .before .before .before .before in
+    h .loop .total + 6 + c .before .before .decoded-length .result + c .decoded-length2 .result ≤ 192 + length (h .before .before .args .s .now)
+small c = let l = c .before .before .before .before in omega (arith, added c .few, l .line-at .ensures .0, l .before .before .loop .inv, l .before .before .before .before .pre)
+
+loop-holds : tie.Need-loop-holds Inv-loop μ-loop
+loop-holds c =
+    let a = c .before .args in
+    let all = left-all (a .style) (a .s .now) (a .n) (a .from) in
+    (c .before .pre .0, omega arith, omega (arith, ap (λ es. length (image es)) all), ap (any too-long) all)
+
+line-at-requires : tie.Need-line-at-requires Inv-loop μ-loop
+line-at-requires c κs = search needs
+
+sub-decoded-length : tie.Need-sub-decoded-length Inv-loop μ-loop
+sub-decoded-length c = search needs
+
+part-decoded-length-start : tie.Need-part-decoded-length-start Inv-loop μ-loop
+part-decoded-length-start c = search needs
+
+part-decoded-length-end : tie.Need-part-decoded-length-end Inv-loop μ-loop
+part-decoded-length-end c = search needs
+
+decoded-length-requires : tie.Need-decoded-length-requires Inv-loop μ-loop
+decoded-length-requires c κs = search needs
+
+sub-decoded-length-2 : tie.Need-sub-decoded-length-2 Inv-loop μ-loop
+sub-decoded-length-2 c = search needs
+
+part-decoded-length-start-2 : tie.Need-part-decoded-length-start-2 Inv-loop μ-loop
+part-decoded-length-start-2 c = search needs
+
+part-decoded-length-end-2 : tie.Need-part-decoded-length-end-2 Inv-loop μ-loop
+part-decoded-length-end-2 c = search needs
+
+decoded-length-requires-2 : tie.Need-decoded-length-requires-2 Inv-loop μ-loop
+decoded-length-requires-2 c κs = search needs
+
+add-total : tie.Need-add-total Inv-loop μ-loop
+add-total c = omega (arith, small c)
+
+add-total-2 : tie.Need-add-total-2 Inv-loop μ-loop
+add-total-2 c = omega (arith, small c)
+
+add-total-3 : tie.Need-add-total-3 Inv-loop μ-loop
+add-total-3 c = omega (arith, small c)
+
+is-long-requires : tie.Need-is-long-requires Inv-loop μ-loop
+is-long-requires c κs = search needs
+
+add-i : tie.Need-add-i Inv-loop μ-loop
+add-i c = search needs
+
+loop-less : tie.Need-loop-less Inv-loop μ-loop
+loop-less c = search needs
+
+loop-again : tie.Need-loop-again Inv-loop μ-loop
+loop-again c =
+    let l = c .before .before .before .before .before in
+    let h = l .before .before .loop in
+    let a = l .before .before .before .before .args in
+    let sum = added (c .before) in (
+      l .line-at .ensures .0 .4,
+      omega (arith, sum .few, h .inv .1),
+      omega (arith, sum .octets, h .inv .2),
+      ap (λ t. (h .long || t) || any too-long (entries-left (a .style) (a .s .now) (a .n) (h .i + 1) (l .line-at .result .next))) (c .is-long .ensures)
+          ∙ or-assoc (h .long) _ _
+          ∙ ap (h .long ||_) (sym (sum .over))
+          ∙ h .inv .3,
+    )
+
+returns : tie.Need-returns Inv-loop μ-loop
+returns c =
+    let h = c .before .loop in
+    let a = c .before .before .before .args in
+    let none = left-none (a .style) (a .s .now) (a .n) (h .i) (h .at) (c .loop-test .left) in
+    (omega (arith, ap (λ es. length (image es)) none, h .inv .2), sym (or-no (h .long)) ∙ ap (λ es. h .long || any too-long es) (sym none) ∙ h .inv .3)
+
+pub measure-spec : {M : Type 1} → statement M
+measure-spec =
+    tie.close
+    (tie.spec
+    Inv-loop
+    μ-loop
+    loop-holds
+    line-at-requires
+    sub-decoded-length
+    part-decoded-length-start
+    part-decoded-length-end
+    decoded-length-requires
+    sub-decoded-length-2
+    part-decoded-length-start-2
+    part-decoded-length-end-2
+    decoded-length-requires-2
+    add-total
+    add-total-2
+    add-total-3
+    is-long-requires
+    add-i
+    loop-less
+    loop-again
+    returns)

@@ -1,0 +1,157 @@
+-- `decode::put_records` meets its contract: what is written and what is left to decode make the whole, and there is room for it.
+use borrow.Author.Needs.{needs}
+use Prim.Native.Nat.{ℕ, _≤_, _-_, _+_}
+use native.Mathlib.Omega.{arith}
+use lib.ListN.{length, take, drop}
+use mathlib.Core.Path.{_≡_, refl, _∙_, ap}
+use mathlib.Core.Bool.{false}
+use mathlib.Core.List.{_++_}
+use mathlib.Core.Logic.{_⊎_, ⊎-elim}
+use Rattle.headers.specs.Rows.{any}
+use Rattle.headers.specs.Block.{image}
+use Rattle.headers.proofs.Put.{put-whole-done}
+use Rattle.frames.specs.Layout.{front-lines}
+use Rattle.frames.specs.Decoding.{line-entries, too-long}
+use Rattle.frames.proofs.Decoding.{entries-left, left-all, left-none, Asked, asked}
+use Rattle.frames.proofs.decode.put_records.Statement.{statement}
+use Rattle.frames.proofs.decode.put_records.Tie as tie
+
+abbrev Inv-loop : tie.InvT-loop
+Inv-loop s from n style block₀ used₀ at₀ i₀ block used at i =
+    (length block ≡ length block₀)
+    × (at ≤ length s)
+    × (used + length (image (entries-left style s n i at)) ≡ length (image (line-entries style (front-lines n (drop from s)))))
+    × (any too-long (entries-left style s n i at) ≡ false)
+    × (take used block ++ image (entries-left style s n i at) ≡ image (line-entries style (front-lines n (drop from s))))
+    × (drop used block ≡ drop used block₀)
+
+abbrev μ-loop : tie.MeasureT-loop
+μ-loop s from n style block₀ used₀ at₀ i₀ block used at i = n - i
+
+loop-holds : tie.Need-loop-holds Inv-loop μ-loop
+loop-holds c =
+    let s = c .before .before in
+    let a = s .args in
+    let all = left-all (a .style) (a .s .now) (a .n) (a .from) in
+    (refl, s .pre .0, omega (arith, ap (λ es. length (image es)) all), ap (any too-long) all ∙ s .pre .2, ap image all, refl)
+
+line-at-requires : tie.Need-line-at-requires Inv-loop μ-loop
+line-at-requires c κs = search needs
+
+sub-write-decoded : tie.Need-sub-write-decoded Inv-loop μ-loop
+sub-write-decoded c = search needs
+
+part-write-decoded-start : tie.Need-part-write-decoded-start Inv-loop μ-loop
+part-write-decoded-start c = search needs
+
+part-write-decoded-end : tie.Need-part-write-decoded-end Inv-loop μ-loop
+part-write-decoded-end c = search needs
+
+sub-write-decoded-2 : tie.Need-sub-write-decoded-2 Inv-loop μ-loop
+sub-write-decoded-2 c = search needs
+
+part-write-decoded-start-2 : tie.Need-part-write-decoded-start-2 Inv-loop μ-loop
+part-write-decoded-start-2 c = search needs
+
+part-write-decoded-end-2 : tie.Need-part-write-decoded-end-2 Inv-loop μ-loop
+part-write-decoded-end-2 c = search needs
+
+sub-write-decoded-3 : tie.Need-sub-write-decoded-3 Inv-loop μ-loop
+sub-write-decoded-3 c = search needs
+
+part-write-decoded-start-3 : tie.Need-part-write-decoded-start-3 Inv-loop μ-loop
+part-write-decoded-start-3 c = search needs
+
+part-write-decoded-end-3 : tie.Need-part-write-decoded-end-3 Inv-loop μ-loop
+part-write-decoded-end-3 c = search needs
+
+write-decoded-requires : tie.Need-write-decoded-requires Inv-loop μ-loop
+write-decoded-requires c κs = search needs
+
+enum-known-k : tie.Need-enum-known-k Inv-loop μ-loop
+enum-known-k c = search needs
+
+-- there is room for what is left, so its next record is accepted
+turn : (c : tie.After-write-decoded Inv-loop μ-loop) →
+    let l = c .before .before .before .before in
+    let h = l .before .before .loop in
+    let a = l .before .before .before .before .before .args in
+    Asked (a .style) (a .s .now) (a .n) (h .i) (h .at) (l .line-at .result .next) (h .block) (c .write-decoded .last .0) (h .used) (c .write-decoded .result)
+turn c =
+    let l = c .before .before .before .before in
+    let h = l .before .before .loop in
+    let s = l .before .before .before .before .before in
+    let a = s .args in
+    asked (a .style) (a .s .now) (a .n) (h .i) (h .at) (l .line-at .result) (l .before .loop-test .taken) (l .line-at .ensures) (h .block) (c .write-decoded .last .0) (h .used) (c .write-decoded .result)
+    (h .inv .3) (omega (arith, h .inv, s .pre .1)) (c .write-decoded .ensures .0) (c .write-decoded .ensures .1)
+
+refuted : (c : tie.At-match-keys2 Inv-loop μ-loop) → ⊥
+refuted c =
+    let is = turn (c .before .before .before) .accepts .1 in
+    let other : (_≡_ {A = ℕ} 0 1) ⊎ ((_≡_ {A = ℕ} 0 2) ⊎ (_≡_ {A = ℕ} 0 3)) = rw is at (c .match .keys2) in
+    ⊎-elim (λ e. omega (arith, e)) (⊎-elim (λ e. omega (arith, e)) (λ e. omega (arith, e))) other
+
+same-length : tie.Need-same-length Inv-loop μ-loop
+same-length c = absurd (refuted c)
+
+returns : tie.Need-returns Inv-loop μ-loop
+returns c = absurd (refuted c)
+
+add-used : tie.Need-add-used Inv-loop μ-loop
+add-used c =
+    let w = c .before .before .before .before .before in
+    let h = w .before .before .before .before .before .before .loop in
+    let s = w .before .before .before .before .before .before .before .before .before in
+    omega (arith, turn w .writes _ (c .before .k .given .1) .fewer, h .inv, s .pre .1, s .good)
+
+add-i : tie.Need-add-i Inv-loop μ-loop
+add-i c = search needs
+
+loop-less : tie.Need-loop-less Inv-loop μ-loop
+loop-less c = search needs
+
+loop-again : tie.Need-loop-again Inv-loop μ-loop
+loop-again c =
+    let w = c .before .before .before .before .before in
+    let l = w .before .before .before .before in
+    let h = l .before .before .loop in
+    let t = turn w .writes _ (c .before .k .given .1) in
+    (t .same-long ∙ h .inv .0, l .line-at .ensures .0 .4, omega (arith, t .fewer, h .inv .2), turn w .rest-ok, t .further _ (h .inv .4), t .kept _ (h .inv .5))
+
+same-length-2 : tie.Need-same-length-2 Inv-loop μ-loop
+same-length-2 c = search needs
+
+returns-2 : tie.Need-returns-2 Inv-loop μ-loop
+returns-2 c =
+    let h = c .before .loop in
+    let a = c .before .before .before .before .args in
+    let none = left-none (a .style) (a .s .now) (a .n) (h .i) (h .at) (c .loop-test .left) in
+    put-whole-done (h .used) (h .block) (a .block .now) _ _ (h .inv .4) (h .inv .2) (ap image none) (h .inv .5) .1
+
+pub put-records-spec : {M : Type 1} → statement M
+put-records-spec =
+    tie.close
+    (tie.spec
+    Inv-loop
+    μ-loop
+    loop-holds
+    line-at-requires
+    sub-write-decoded
+    part-write-decoded-start
+    part-write-decoded-end
+    sub-write-decoded-2
+    part-write-decoded-start-2
+    part-write-decoded-end-2
+    sub-write-decoded-3
+    part-write-decoded-start-3
+    part-write-decoded-end-3
+    write-decoded-requires
+    enum-known-k
+    same-length
+    returns
+    add-used
+    add-i
+    loop-less
+    loop-again
+    same-length-2
+    returns-2)

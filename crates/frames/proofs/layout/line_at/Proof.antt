@@ -1,0 +1,36 @@
+-- `layout::line_at` meets its contract: each part is found behind the one before it.
+use Rattle.frames.proofs.Decoding.{on-drop, line-cut}
+use native.Mathlib.Omega.{arith}
+use borrow.Author.Needs.{needs}
+use Rattle.frames.proofs.layout.line_at.Statement.{statement}
+use Rattle.frames.proofs.layout.line_at.Tie as tie
+
+stop-at-requires : tie.Need-stop-at-requires
+stop-at-requires c κs = search needs
+
+on-requires : tie.Need-on-requires
+on-requires c κs = search needs
+
+stop-at-requires-2 : tie.Need-stop-at-requires-2
+stop-at-requires-2 c κs = search needs
+
+behind-end-requires : tie.Need-behind-end-requires
+behind-end-requires c κs = search needs
+
+returns : tie.Need-returns
+returns c =
+    let a = c .before .before .before .before .before .args in
+    let s = a .s .now in
+    let colon = c .before .before .before .stop-at in
+    let value = c .before .before .on in
+    let end = c .before .stop-at2 in
+    let next = c .behind-end in
+    let cut =
+    line-cut s (a .i) (colon .result) (value .result) (end .result) (next .result) (colon .ensures .0) (on-drop s (colon .result) 1 _ (value .ensures .2) (value .ensures .3)) (end .ensures .0)
+    (next .ensures .2) in
+    ((omega arith, value .ensures .0, omega arith, next .ensures .0, next .ensures .1), cut .0, cut .1, cut .2)
+
+pub line-at-spec : {M : Type 1} → statement M
+line-at-spec =
+    tie.close
+    (tie.spec stop-at-requires on-requires stop-at-requires-2 behind-end-requires returns)
