@@ -1,0 +1,177 @@
+//! The kinds of place in an item, with each octet that matters at each of them.
+
+use super::{
+    any_command, body, items, later_lines, length_line, line_end, lines, opened, text, with_body,
+    Stream, TELLING,
+};
+use crate::item::{BACKSLASH, CR};
+use crate::random::Random;
+
+/// The kinds of place: each makes the octets of one item up to such a place.
+const PLACES: [fn(&mut Random) -> Stream; 13] = [
+    in_command,
+    after_command,
+    after_13,
+    at_line_start,
+    in_name,
+    in_value,
+    in_line,
+    in_content_length,
+    in_large_content_length,
+    in_later_content_length,
+    at_body_start,
+    in_body,
+    after_body,
+];
+
+/// Perhaps some items, then the octets before a place, then an octet that matters, then a tail.
+pub fn at_a_place(random: &mut Random) -> Stream {
+    let mut stream = if random.once_in(3) {
+        items(random)
+    } else {
+        Stream::new()
+    };
+    let up_to_place = random.pick(&PLACES);
+    stream.extend(up_to_place(random));
+    stream.push(random.pick(TELLING));
+    match random.below(4) {
+        0 => {}
+        1 => stream.extend_from_slice(b"\n\n\0"),
+        2 => stream.extend_from_slice(b"c:0\n\n\0"),
+        _ => stream.extend(items(random)),
+    }
+    stream
+}
+
+/// At an item's start, or after some of a command's letters.
+fn in_command(random: &mut Random) -> Stream {
+    let name = any_command(random).name();
+    name[..random.below(name.len())].to_vec()
+}
+
+fn after_command(random: &mut Random) -> Stream {
+    any_command(random).name().to_vec()
+}
+
+/// After a 13: alone, after a command, after a header line, in place of the empty line.
+fn after_13(random: &mut Random) -> Stream {
+    let command = any_command(random);
+    let mut stream = match random.below(4) {
+        0 => Stream::new(),
+        1 => command.name().to_vec(),
+        2 => at_line_start(random),
+        _ => in_value(random),
+    };
+    stream.push(CR);
+    stream
+}
+
+fn at_line_start(random: &mut Random) -> Stream {
+    let command = any_command(random);
+    let mut stream = opened(random, command);
+    lines(random, command, &mut stream, 2);
+    stream
+}
+
+fn in_name(random: &mut Random) -> Stream {
+    let command = any_command(random);
+    let mut stream = opened(random, command);
+    lines(random, command, &mut stream, 1);
+    let length = random.between(1, 8);
+    text(random, command, length, &mut stream);
+    backslash(random, &mut stream);
+    stream
+}
+
+fn in_value(random: &mut Random) -> Stream {
+    let command = any_command(random);
+    let mut stream = opened(random, command);
+    lines(random, command, &mut stream, 1);
+    stream.extend_from_slice(b"id:");
+    let length = random.between(0, 8);
+    text(random, command, length, &mut stream);
+    backslash(random, &mut stream);
+    stream
+}
+
+/// At times a backslash, so that what follows stands after one.
+fn backslash(random: &mut Random, stream: &mut Stream) {
+    if random.once_in(3) {
+        stream.push(BACKSLASH);
+    }
+}
+
+/// In the middle of a header line whose octets are any at all, most often spoiled.
+fn in_line(random: &mut Random) -> Stream {
+    let command = any_command(random);
+    let mut stream = opened(random, command);
+    for _ in 0..random.between(1, 6) {
+        stream.push(random.pick(b"a:\\c\\:a\r\n0"));
+    }
+    stream
+}
+
+/// In a first content-length, after some digits or none.
+fn in_content_length(random: &mut Random) -> Stream {
+    let command = any_command(random);
+    let mut stream = opened(random, command);
+    lines(random, command, &mut stream, 1);
+    stream.extend_from_slice(b"content-length:");
+    for _ in 0..random.between(0, 3) {
+        stream.push(random.pick(b"0001"));
+    }
+    stream
+}
+
+/// In a first content-length, close to its greatest value.
+fn in_large_content_length(random: &mut Random) -> Stream {
+    let numbers: [&[u8]; 8] = [
+        b"3276", b"32768", b"0003276", b"32767", b"3277", b"9999", b"10000", b"0032768",
+    ];
+    let mut stream = with_body(random).name().to_vec();
+    stream.extend_from_slice(b"\ncontent-length:");
+    stream.extend_from_slice(random.pick(&numbers));
+    stream
+}
+
+/// In a later entry of that name, which is not examined.
+fn in_later_content_length(random: &mut Random) -> Stream {
+    let command = any_command(random);
+    let mut stream = opened(random, command);
+    stream.extend_from_slice(b"content-length:0\ncontent-length:");
+    let length = random.between(0, 3);
+    text(random, command, length, &mut stream);
+    stream
+}
+
+fn at_body_start(random: &mut Random) -> Stream {
+    let mut stream = at_line_start(random);
+    line_end(random, &mut stream);
+    stream
+}
+
+/// In a body that goes on, with and without a length.
+fn in_body(random: &mut Random) -> Stream {
+    let command = with_body(random);
+    let mut stream = opened(random, command);
+    let declared = random.once_in(2);
+    if declared {
+        length_line(random, 9, &mut stream);
+    }
+    line_end(random, &mut stream);
+    let length = random.between(0, 8);
+    body(random, length, declared, &mut stream);
+    stream
+}
+
+/// Where a declared length is used up.
+fn after_body(random: &mut Random) -> Stream {
+    let command = with_body(random);
+    let mut stream = opened(random, command);
+    let length = random.between(0, 8);
+    length_line(random, length, &mut stream);
+    later_lines(random, command, &mut stream);
+    line_end(random, &mut stream);
+    body(random, length, true, &mut stream);
+    stream
+}
