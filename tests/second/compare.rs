@@ -2,11 +2,10 @@
 
 use crate::item::{Item, COMMANDS};
 use crate::listing::{self, End, Listing};
+use crate::program::{self, Ran};
 use crate::random::Random;
 use crate::streams;
-use std::io::{self, Read, Write};
-use std::process::{Child, Command, Stdio};
-use std::thread;
+use std::io::{self, Write};
 
 /// How often each outcome came up in the streams compared.
 #[derive(Default)]
@@ -55,10 +54,11 @@ pub fn compare(program: &str, count: usize, seed: u64) -> io::Result<bool> {
         let stream = streams::stream(&mut random);
         let listing = listing::read(&stream);
         let ours = listing::write(&listing);
-        let (theirs, ended) = run(program, &stream)?;
-        if theirs != ours.as_bytes() || !ended {
+        let ran = program::run(program, &stream)?;
+        io::stderr().write_all(&ran.errors)?;
+        if ran.output != ours.as_bytes() || ran.status.is_none() {
             let name = format!("second-difference-{seed}-{number}");
-            report(&name, &stream, &ours, &theirs, ended)?;
+            report(&name, &stream, &ours, &ran)?;
             return Ok(false);
         }
         tally.count(&listing);
@@ -68,47 +68,15 @@ pub fn compare(program: &str, count: usize, seed: u64) -> io::Result<bool> {
     Ok(true)
 }
 
-/// Runs the program with the stream on its standard input: what it wrote, and whether it came to an
-/// end of its own (a program killed by a signal did not).
-fn run(program: &str, stream: &[u8]) -> io::Result<(Vec<u8>, bool)> {
-    let mut child = Command::new(program)
-        .stdin(Stdio::piped())
-        .stdout(Stdio::piped())
-        .spawn()
-        .map_err(|error| io::Error::other(format!("{program}: {error}")))?;
-    let written = write_and_read(&mut child, stream)?;
-    let status = child.wait()?;
-    Ok((written, status.code().is_some()))
-}
-
-/// Writes in a thread while reading here, so that neither pipe can fill up and hold both programs. A
-/// program may stop reading before the stream's end: that breaks the pipe and is no error here.
-fn write_and_read(child: &mut Child, stream: &[u8]) -> io::Result<Vec<u8>> {
-    let mut input = child.stdin.take().expect("the program's standard input");
-    let mut output = child.stdout.take().expect("the program's standard output");
-    thread::scope(|scope| {
-        let writer = scope.spawn(move || input.write_all(stream));
-        let mut written = Vec::new();
-        output.read_to_end(&mut written)?;
-        match writer.join().expect("the writing thread") {
-            Err(error) if error.kind() != io::ErrorKind::BrokenPipe => Err(error),
-            _ => Ok(written),
-        }
-    })
-}
-
 /// Keeps the stream in a file and prints both listings.
-fn report(name: &str, stream: &[u8], ours: &str, theirs: &[u8], ended: bool) -> io::Result<()> {
-    let path = std::env::temp_dir().join(name);
-    std::fs::write(&path, stream)?;
+fn report(name: &str, stream: &[u8], ours: &str, ran: &Ran) -> io::Result<()> {
+    let path = program::keep(name, stream)?;
     println!("second: a difference, the stream is in {}", path.display());
     print!("the second program's listing:\n{ours}");
     print!(
         "the compared program's listing:\n{}",
-        String::from_utf8_lossy(theirs)
+        String::from_utf8_lossy(&ran.output)
     );
-    if !ended {
-        println!("the compared program was ended by a signal");
-    }
+    program::print_signal(ran.status);
     Ok(())
 }

@@ -19,6 +19,9 @@ pub const BACKSLASH: u8 = 92;
 /// The octets that may follow a backslash, where there are escapes.
 pub const ESCAPE_LETTERS: &[u8] = b"rnc\\";
 
+/// The octets that these escapes stand for, in the same order.
+pub const ESCAPED: [u8; 4] = [CR, LF, COLON, BACKSLASH];
+
 pub const CONTENT_LENGTH: &[u8] = b"content-length";
 
 /// The commands, in the order of their numbers; the first one is number 1.
@@ -45,6 +48,14 @@ pub const COMMANDS: [&[u8]; 15] = [
 pub struct Command(pub usize);
 
 impl Command {
+    /// The command of a number, if there is one.
+    pub fn numbered(number: u32) -> Option<Command> {
+        let numbers = 1..=COMMANDS.len() as u32;
+        numbers
+            .contains(&number)
+            .then_some(Command(number as usize))
+    }
+
     /// The command whose name the row is.
     pub fn named(row: &[u8]) -> Option<Command> {
         let index = COMMANDS.iter().position(|name| *name == row)?;
@@ -152,7 +163,7 @@ fn first_frame(row: &[u8]) -> Option<Frame> {
     Some(Frame {
         command,
         length: body_start + body_length + 1,
-        headers: block.lines,
+        headers: block.lines.len(),
         body_start,
         body_length,
     })
@@ -174,18 +185,18 @@ pub fn first_line(row: &[u8]) -> Option<(&[u8], usize)> {
     Some((line.strip_suffix(&[CR]).unwrap_or(line), end + 1))
 }
 
-/// A frame's header lines and the empty line: how many lines, what the first content-length says,
-/// and the length of it all.
-pub struct HeaderBlock {
-    pub lines: usize,
+/// A frame's header lines and the empty line: name and value of each line, both raw, what the first
+/// content-length says, and the length of it all.
+pub struct HeaderBlock<'a> {
+    pub lines: Vec<(&'a [u8], &'a [u8])>,
     pub content_length: Option<usize>,
     pub length: usize,
 }
 
 /// The header lines and the empty line that the row begins with.
-pub fn header_block(command: Command, row: &[u8]) -> Option<HeaderBlock> {
+pub fn header_block(command: Command, row: &[u8]) -> Option<HeaderBlock<'_>> {
     let mut block = HeaderBlock {
-        lines: 0,
+        lines: Vec::new(),
         content_length: None,
         length: 0,
     };
@@ -195,11 +206,11 @@ pub fn header_block(command: Command, row: &[u8]) -> Option<HeaderBlock> {
         if line.is_empty() {
             return Some(block);
         }
-        if block.lines == MAX_LINES {
+        if block.lines.len() == MAX_LINES {
             return None;
         }
-        block.lines += 1;
         let (name, value) = header_line(command, line)?;
+        block.lines.push((name, value));
         // "The first entry named content-length decides ... Later entries are not examined."
         if name == CONTENT_LENGTH && block.content_length.is_none() {
             block.content_length = Some(content_length(command, value)?);
@@ -209,7 +220,7 @@ pub fn header_block(command: Command, row: &[u8]) -> Option<HeaderBlock> {
 
 /// "A header line is a name of at least one octet, a colon, a value that may be empty." Gives name
 /// and value, both raw.
-fn header_line(command: Command, line: &[u8]) -> Option<(&[u8], &[u8])> {
+pub fn header_line(command: Command, line: &[u8]) -> Option<(&[u8], &[u8])> {
     let colon = line.iter().position(|&octet| octet == COLON)?;
     let (name, value) = (&line[..colon], &line[colon + 1..]);
     let sound = line.len() <= MAX_LINE

@@ -1,10 +1,18 @@
-//! An independent second program: it parses STOMP streams by document 01 and compares its listings
-//! with those of another program. README.md has the modes.
+//! An independent second program: it parses, decodes and encodes STOMP frames by document 01 and
+//! compares what it finds with what other programs write. README.md has the modes.
 
+mod block;
+mod calls;
 mod compare;
+mod compare_encode;
+mod compare_rewrite;
+mod decode;
+mod encode;
 mod item;
 mod listing;
+mod program;
 mod random;
+mod rewrite;
 mod specification;
 mod streams;
 mod table;
@@ -18,7 +26,10 @@ use std::path::Path;
 use std::process::ExitCode;
 
 const USAGE: &str = "second list
+second rewrite
 second compare PROGRAM COUNT SEED
+second compare-rewrite PROGRAM COUNT SEED
+second compare-encode PROGRAM COUNT SEED
 second make DIR
 second vectors DIR";
 
@@ -27,7 +38,14 @@ fn main() -> ExitCode {
     let arguments: Vec<&str> = arguments.iter().map(String::as_str).collect();
     let done = match arguments[..] {
         ["list"] => list(),
-        ["compare", program, count, seed] => compare_with(program, count, seed),
+        ["rewrite"] => rewrite(),
+        ["compare", program, count, seed] => compare_by(compare::compare, program, count, seed),
+        ["compare-rewrite", program, count, seed] => {
+            compare_by(compare_rewrite::compare, program, count, seed)
+        }
+        ["compare-encode", program, count, seed] => {
+            compare_by(compare_encode::compare, program, count, seed)
+        }
         ["make", folder] => vectors::make(Path::new(folder)).map(|()| true),
         ["vectors", folder] => vectors::write_listings(Path::new(folder)).map(|()| true),
         _ => Err(io::Error::other(USAGE)),
@@ -50,9 +68,23 @@ fn list() -> io::Result<bool> {
     Ok(true)
 }
 
+/// Reads a stream from standard input and writes it again; false where that stops before its end.
+fn rewrite() -> io::Result<bool> {
+    let mut stream = Vec::new();
+    io::stdin().read_to_end(&mut stream)?;
+    let rewritten = rewrite::rewrite(&stream);
+    let mut output = io::stdout().lock();
+    output.write_all(&rewritten.octets)?;
+    output.flush()?;
+    io::stderr().write_all(rewrite::complaint(&rewritten).as_bytes())?;
+    Ok(rewritten.stop == rewrite::Stop::End)
+}
+
+type Comparison = fn(&str, usize, u64) -> io::Result<bool>;
+
 /// Compares; a difference is an answer, not an error.
-fn compare_with(program: &str, count: &str, seed: &str) -> io::Result<bool> {
+fn compare_by(compare: Comparison, program: &str, count: &str, seed: &str) -> io::Result<bool> {
     let count = count.parse().map_err(io::Error::other)?;
     let seed = seed.parse().map_err(io::Error::other)?;
-    compare::compare(program, count, seed)
+    compare(program, count, seed)
 }

@@ -4,10 +4,12 @@
 mod limits;
 mod places;
 
-use self::limits::{around_all_lines, around_longest, around_whole_body, around_whole_line};
+use self::limits::{
+    around_added_line, around_all_lines, around_longest, around_whole_body, around_whole_line,
+};
 use self::places::at_a_place;
 use crate::item::{
-    Command, BACKSLASH, COLON, COMMANDS, CONTENT_LENGTH, CR, ESCAPE_LETTERS, LF, NUL,
+    Command, BACKSLASH, COLON, COMMANDS, CONTENT_LENGTH, CR, ESCAPE_LETTERS, LF, MAX_BODY, NUL,
 };
 use crate::random::Random;
 
@@ -31,6 +33,16 @@ pub fn stream(random: &mut Random) -> Stream {
         185..=197 => around_whole_line(random),
         198 => around_whole_body(random),
         _ => around_longest(random),
+    }
+}
+
+/// One random stream to be written again: as above, and often with as many header lines as may be,
+/// where a line to be added is one too many.
+pub fn stream_to_rewrite(random: &mut Random) -> Stream {
+    if random.once_in(5) {
+        around_added_line(random)
+    } else {
+        stream(random)
     }
 }
 
@@ -60,12 +72,12 @@ fn line_end(random: &mut Random, stream: &mut Stream) {
     stream.push(LF);
 }
 
-fn any_command(random: &mut Random) -> Command {
+pub fn any_command(random: &mut Random) -> Command {
     Command(random.between(1, COMMANDS.len()))
 }
 
 /// A command that may have a body.
-fn with_body(random: &mut Random) -> Command {
+pub fn with_body(random: &mut Random) -> Command {
     loop {
         let command = any_command(random);
         if command.has_body() {
@@ -99,8 +111,20 @@ fn frame(random: &mut Random) -> Stream {
     stream
 }
 
+/// The length of a body: its decimal has each number of digits, and at times it is about as long as
+/// may be.
+pub fn body_length(random: &mut Random) -> usize {
+    let short = [0, 1, 2, 9, 10, 11, 99, 100, 101, 999, 1_000];
+    let long = [9_999, 10_000, MAX_BODY - 1, MAX_BODY];
+    if random.once_in(20) {
+        random.pick(&long)
+    } else {
+        random.pick(&short)
+    }
+}
+
 /// A body of that many octets; octet 0 stands in it only where its length is declared.
-fn body(random: &mut Random, length: usize, declared: bool, stream: &mut Stream) {
+pub fn body(random: &mut Random, length: usize, declared: bool, stream: &mut Stream) {
     for _ in 0..length {
         let octet = random.pick(TELLING);
         stream.push(if octet == NUL && !declared {
@@ -174,15 +198,19 @@ fn length_line(random: &mut Random, length: usize, stream: &mut Stream) {
 /// examined.
 fn later_lines(random: &mut Random, command: Command, stream: &mut Stream) {
     for _ in 0..random.between(0, 2) {
-        if random.once_in(2) {
-            stream.extend_from_slice(CONTENT_LENGTH);
-            stream.push(COLON);
-            let length = random.between(0, 4);
-            text(random, command, length, stream);
-            line_end(random, stream);
-        } else {
-            line(random, command, stream);
-        }
+        later_line(random, command, stream);
+    }
+}
+
+fn later_line(random: &mut Random, command: Command, stream: &mut Stream) {
+    if random.once_in(2) {
+        stream.extend_from_slice(CONTENT_LENGTH);
+        stream.push(COLON);
+        let length = random.between(0, 4);
+        text(random, command, length, stream);
+        line_end(random, stream);
+    } else {
+        line(random, command, stream);
     }
 }
 

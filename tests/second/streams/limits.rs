@@ -1,8 +1,8 @@
 //! About as many lines, as long lines and as long bodies as may be.
 
 use super::{
-    any_command, body, damage, items, length_line, line_end, opened, text, with_body, Stream,
-    PLAIN, TELLING,
+    any_command, body, body_length, damage, items, later_line, length_line, line, line_end, opened,
+    text, with_body, Stream, PLAIN, TELLING,
 };
 use crate::item::{Command, COLON, CR, MAX_BODY, MAX_LINE, MAX_LINES, NUL};
 use crate::random::Random;
@@ -23,6 +23,57 @@ pub fn around_all_lines(random: &mut Random) -> Stream {
     }
     stream.push(NUL);
     stream
+}
+
+/// Items around a frame that has as many header lines as may be, or one less, or few, at times as long
+/// as may be, with and without a content-length among them and a body behind them: a line is added or
+/// not, and there is room for it or not.
+pub fn around_added_line(random: &mut Random) -> Stream {
+    let command = if random.once_in(5) {
+        any_command(random)
+    } else {
+        with_body(random)
+    };
+    let mut stream = items(random);
+    stream.extend(opened(random, command));
+    let kind = random.below(16);
+    let longest = kind < 2 && random.once_in(3);
+    let any = body_length(random);
+    let length = if longest { MAX_BODY } else { any }.min(command.max_body());
+    let count = random.pick(&[2, MAX_LINES - 1, MAX_LINES - 1, MAX_LINES, MAX_LINES]);
+    let any = random.below(count);
+    let place = random.pick(&[None, Some(any)]);
+    for index in 0..count {
+        match place {
+            Some(place) if index == place => length_line(random, length, &mut stream),
+            Some(place) if index > place => later_line(random, command, &mut stream),
+            _ if kind == 0 => whole_line(random, command, &mut stream),
+            _ if kind == 1 => plain_line(random, &mut stream),
+            _ => line(random, command, &mut stream),
+        }
+    }
+    line_end(random, &mut stream);
+    body(random, length, place.is_some(), &mut stream);
+    stream.push(NUL);
+    stream.extend(items(random));
+    stream
+}
+
+/// A header line as long as may be.
+fn whole_line(random: &mut Random, command: Command, stream: &mut Stream) {
+    let name = random.between(1, MAX_LINE - 1);
+    text(random, command, name, stream);
+    stream.push(COLON);
+    text(random, command, MAX_LINE - name - 1, stream);
+    line_end(random, stream);
+}
+
+/// A header line as long as may be that is as long when it is decoded.
+fn plain_line(random: &mut Random, stream: &mut Stream) {
+    let end = stream.len() + MAX_LINE;
+    stream.extend_from_slice(b"plain:");
+    stream.resize(end, b'v');
+    line_end(random, stream);
 }
 
 /// A header line about as long as may be, with or without its colon, perhaps a content-length, then
@@ -87,11 +138,7 @@ pub fn around_longest(random: &mut Random) -> Stream {
     let command = with_body(random);
     let mut stream = opened(random, command);
     for _ in 0..MAX_LINES {
-        let name = random.between(1, MAX_LINE - 1);
-        text(random, command, name, &mut stream);
-        stream.push(COLON);
-        text(random, command, MAX_LINE - name - 1, &mut stream);
-        line_end(random, &mut stream);
+        whole_line(random, command, &mut stream);
     }
     line_end(random, &mut stream);
     let length = random.pick(&[3, MAX_BODY]);

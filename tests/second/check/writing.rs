@@ -1,0 +1,267 @@
+//! Tests of decoding and encoding: what is written is read again, blocks and frames are put together
+//! instead of taken apart, and each refusal is asked for in another way.
+
+use super::{product, small_commands, tails};
+use crate::block::{self, Entry};
+use crate::calls::{self, Call, MAX_SLICE};
+use crate::decode::{decode, Content};
+use crate::encode::{adds_length, encode, image, length_entry, line, Refusal};
+use crate::item::{content_length, header_line, Command, CONTENT_LENGTH};
+use crate::random::Random;
+use crate::rewrite::{complaint, rewrite, Stop};
+use crate::streams;
+use std::collections::{BTreeSet, HashSet};
+
+const P6: &[u8] = b"SEND\ndestination:/p\n\nok\0";
+const P7: &[u8] = b"ACK\nid:a\\cb\n\n\0";
+const P13: &[u8] = b"MESSAGE\nrun:b\nrun:a\n\n\0";
+
+fn decoded(frame: &[u8]) -> Content {
+    decode(frame).expect("a frame")
+}
+
+/// What is written of a content, with as much room as it takes.
+fn encoded(content: &Content) -> Result<Vec<u8>, Refusal> {
+    let block = block::write(&content.entries);
+    encode(content.command.0 as u32, &block, &content.body, MAX_SLICE)
+}
+
+/// The content that is read where this one was written.
+fn with_length(content: &Content) -> Content {
+    let mut content = content.clone();
+    if adds_length(&content) {
+        content.entries.push(length_entry(content.body.len()));
+    }
+    content
+}
+
+#[test]
+fn examples_are_decoded_and_encoded() {
+    let block = block::write(&decoded(P6).entries);
+    assert_eq!(block, b"\x48\x44\x00\x0b\x00\x02destination/p");
+    assert_eq!(block.len(), 19);
+    let image = encode(12, &block, b"ok", 41).expect("P6 written again");
+    assert_eq!(image, b"SEND\ndestination:/p\ncontent-length:2\n\nok\0");
+    assert_eq!(image.len(), 41);
+    let short = encode(12, &block, b"ok", 40);
+    assert_eq!(short, Err(Refusal { code: 56, index: 0 }));
+
+    assert_eq!(decoded(P7).entries, [Entry::new(b"id", b"a:b")]);
+    let runs = [Entry::new(b"run", b"b"), Entry::new(b"run", b"a")];
+    assert_eq!(decoded(P13).entries, runs);
+    for frame in [P7, P13] {
+        assert_eq!(encoded(&decoded(frame)), Ok(frame.to_vec()));
+    }
+}
+
+/// "decoding `\c` by repeated replacement, so that `\\c` becomes a colon"
+#[test]
+fn escapes_are_taken_once() {
+    let raw = b"\\\\c\\c\\\\\\n\\r";
+    let text = b"\\c:\\\n\r";
+    let frame = |name: &[u8]| [name, b"\nx:", raw, b"\n\n\0"].concat();
+    assert_eq!(decoded(&frame(b"STOMP")).entries[0].value, text);
+    assert_eq!(decoded(&frame(b"CONNECT")).entries[0].value, raw);
+}
+
+#[test]
+fn only_whole_frames_are_decoded() {
+    let behind = [P6, b"\n"].concat();
+    for row in [&b""[..], b"\n", &P6[1..], &P6[..P6.len() - 1], &behind] {
+        assert_eq!(decode(row), None);
+    }
+}
+
+#[test]
+fn examples_are_rewritten() {
+    let stream = [b"\r\n", P6, b"\n", P7, b"SENT"].concat();
+    let rewritten = rewrite(&stream);
+    let p6 = b"SEND\ndestination:/p\ncontent-length:2\n\nok\0";
+    assert_eq!(rewritten.octets, [b"\n", &p6[..], b"\n", P7].concat());
+    assert_eq!(complaint(&rewritten), "rewrite: 41 refused 1 3\n");
+    let more = rewrite(b"\nACK\n");
+    assert_eq!(complaint(&more), "rewrite: 1 more\n");
+    let full = [b"\r\nSEND\n", &b"a:\n".repeat(32)[..], b"\nb\0\n"].concat();
+    let full = rewrite(&full);
+    assert_eq!(full.octets, b"\n");
+    assert_eq!(complaint(&full), "rewrite: 2 unwritten 52\n");
+    assert_eq!(complaint(&rewrite(b"")), "");
+}
+
+/// Small frames put together by the grammar: written again they are as they were, but for line ends
+/// and the added line.
+#[test]
+fn small_frames_are_written_again() {
+    for command in small_commands() {
+        let head = [command.name(), b"\n"].concat();
+        for tail in (2..=7).flat_map(|length| tails(command, length)) {
+            let frame = [&head[..], &tail].concat();
+            let content = decoded(&frame);
+            let image = encoded(&content).expect("an image");
+            assert_eq!(decoded(&image), with_length(&content));
+            if content.body.is_empty() {
+                let line_ends: Vec<u8> = frame.into_iter().filter(|&octet| octet != 13).collect();
+                assert_eq!(image, line_ends);
+            }
+        }
+    }
+}
+
+/// Of all rows of up to 8 octets, made of the tag's and of the lengths 0 and 1, the well-formed ones
+/// are those put together from records; a second record would not fit in.
+#[test]
+fn blocks_are_rows_of_records() {
+    let octets: Vec<Vec<u8>> = [0, 1, 68, 72].iter().map(|&octet| vec![octet]).collect();
+    let mut rows = vec![vec![Vec::new()]];
+    for length in 0..8 {
+        let longer = product(&rows[length], &octets);
+        rows.push(longer);
+    }
+    let mut made: HashSet<Vec<u8>> = HashSet::new();
+    made.insert(Vec::new());
+    for (name, value) in [(0, 0), (0, 1), (1, 0), (1, 1)] {
+        for text in &rows[name + value] {
+            let lengths = [72, 68, 0, name as u8, 0, value as u8];
+            made.insert([&lengths[..], text].concat());
+        }
+    }
+    for row in rows.iter().flatten() {
+        let entries = block::read(row);
+        assert_eq!(entries.is_some(), made.contains(row), "{row:?}");
+        if let Some(entries) = entries {
+            assert_eq!(&block::write(&entries), row);
+        }
+    }
+}
+
+/// A call with every reason to be refused, mended one reason after another.
+#[test]
+fn refusals_come_in_order() {
+    let wrong = Entry::new(CONTENT_LENGTH, b"2");
+    let mut entries = vec![Entry::new(b"a", b"v"); 32];
+    entries[7] = Entry::new(b"", b"v");
+    entries[8] = Entry::new(b"", b"v");
+    entries.push(wrong);
+    let trailing = |entries: &[Entry]| [&block::write(entries)[..], b"\0"].concat();
+    let answer = |command, block: &[u8], body: &[u8], room| encode(command, block, body, room);
+    let code = |code, index| Err(Refusal { code, index });
+    assert_eq!(answer(16, &trailing(&entries), b"b", 0), code(50, 0));
+    assert_eq!(answer(2, &trailing(&entries), b"b", 0), code(51, 0));
+    assert_eq!(answer(2, &block::write(&entries), b"b", 0), code(52, 0));
+    entries.remove(0);
+    assert_eq!(answer(2, &block::write(&entries), b"b", 0), code(53, 6));
+    entries[6] = Entry::new(b"a", b"v");
+    assert_eq!(answer(2, &block::write(&entries), b"b", 0), code(53, 7));
+    entries[7] = Entry::new(b"a", b"v");
+    assert_eq!(answer(2, &block::write(&entries), b"b", 0), code(54, 0));
+    assert_eq!(answer(12, &block::write(&entries), b"b", 0), code(55, 0));
+    entries[31] = Entry::new(CONTENT_LENGTH, b"001");
+    let block = block::write(&entries);
+    assert_eq!(answer(12, &block, b"b", 0), code(56, 0));
+    let image = [
+        b"SEND\n",
+        &b"a:v\n".repeat(31)[..],
+        b"content-length:001\n\nb\0",
+    ]
+    .concat();
+    assert_eq!(answer(12, &block, b"b", image.len()), Ok(image));
+}
+
+/// Whether a refusal's own reason holds, asked by way of reading; those from 52 on are asked only where
+/// there is a command and the block is well formed.
+fn holds(call: &Call, code: usize) -> bool {
+    if code < 52 {
+        return match code {
+            50 => !(1..=15).contains(&call.command),
+            _ => block::read(&call.block).is_none(),
+        };
+    }
+    let content = content(call);
+    let command = content.command;
+    let mut lengths = content.entries.iter();
+    let length = lengths.find(|entry| entry.name == CONTENT_LENGTH);
+    match code {
+        52 => with_length(&content).entries.len() > 32,
+        53 => first_unreadable(&content).is_some(),
+        54 => call.body.len() > 32_768 || (!command.has_body() && !call.body.is_empty()),
+        55 => length
+            .is_some_and(|entry| content_length(command, &entry.value) != Some(call.body.len())),
+        _ => image(&content).len() > call.room,
+    }
+}
+
+fn content(call: &Call) -> Content {
+    Content {
+        command: Command::numbered(call.command).expect("a command"),
+        entries: block::read(&call.block).expect("a well-formed block"),
+        body: call.body.clone(),
+    }
+}
+
+/// The index of the first entry whose raw line is no header line.
+fn first_unreadable(content: &Content) -> Option<usize> {
+    let command = content.command;
+    let unreadable = |entry: &Entry| header_line(command, &line(command, entry)).is_none();
+    content.entries.iter().position(unreadable)
+}
+
+/// The first reason that holds gives the answer, and all answers come up.
+#[test]
+fn calls_are_refused_for_the_first_reason() {
+    let mut random = Random::new(3);
+    let mut answers = BTreeSet::new();
+    for _ in 0..5_000 {
+        let call = calls::call(&mut random);
+        let answer = encode(call.command, &call.block, &call.body, call.room);
+        let refusal = answer.err();
+        let code = refusal.map(|refusal| refusal.code);
+        assert_eq!(code, (50..=56).find(|&code| holds(&call, code)));
+        if let Some(Refusal { code: 53, index }) = refusal {
+            assert_eq!(Some(index), first_unreadable(&content(&call)));
+        }
+        answers.insert(code);
+    }
+    let all: Vec<Option<usize>> = answers.into_iter().collect();
+    assert_eq!(all[0], None);
+    assert_eq!(all[1..], (50..=56).map(Some).collect::<Vec<_>>());
+}
+
+/// What is written is read again with nothing but the added line; what is refused with 52 to 55 is in
+/// no frame, so that its image would not be read so.
+#[test]
+fn images_are_read_again() {
+    let mut random = Random::new(4);
+    for _ in 0..5_000 {
+        let call = calls::call(&mut random);
+        let answer = encode(call.command, &call.block, &call.body, MAX_SLICE);
+        let refusal = answer.as_ref().map_or_else(|refusal| refusal.code, |_| 0);
+        if refusal == 50 || refusal == 51 {
+            continue;
+        }
+        let content = content(&call);
+        let image = image(&content);
+        let read = decode(&image) == Some(with_length(&content));
+        assert_eq!(read, refusal == 0);
+        if read {
+            assert_eq!(answer, Ok(image));
+        }
+    }
+}
+
+/// "A frame that was read and is written again is refused only with 52"; what was written is written
+/// again as it is.
+#[test]
+fn streams_are_rewritten_once() {
+    let mut random = Random::new(5);
+    for _ in 0..3_000 {
+        let stream = streams::stream_to_rewrite(&mut random);
+        let rewritten = rewrite(&stream);
+        if let Stop::Unwritten { code } = rewritten.stop {
+            assert_eq!(code, 52);
+        }
+        let again = rewrite(&rewritten.octets);
+        assert_eq!(again.stop, Stop::End);
+        assert_eq!(again.octets, rewritten.octets);
+        assert_eq!(again.items.len(), rewritten.items.len());
+    }
+}

@@ -1,0 +1,105 @@
+//! Runs another program on random streams and compares what it writes with these streams written
+//! again here.
+
+use crate::item::COMMANDS;
+use crate::program::{self, Ran};
+use crate::random::Random;
+use crate::rewrite::{self, Rewritten, Stop, Written};
+use crate::streams;
+use std::io;
+
+/// How often each outcome came up in the streams compared; of a command's frames, first those without
+/// an added line, then those with one.
+#[derive(Default)]
+struct Tally {
+    beats: usize,
+    frames: [[usize; 2]; COMMANDS.len()],
+    refused: [usize; 7],
+    more: usize,
+    unwritten: usize,
+    end: usize,
+}
+
+impl Tally {
+    fn count(&mut self, rewritten: &Rewritten) {
+        for item in &rewritten.items {
+            match *item {
+                Written::HeartBeat => self.beats += 1,
+                Written::Frame { command, added } => {
+                    self.frames[command.0 - 1][usize::from(added)] += 1;
+                }
+            }
+        }
+        match rewritten.stop {
+            Stop::Refused { code, .. } => self.refused[code - 1] += 1,
+            Stop::More => self.more += 1,
+            Stop::Unwritten { .. } => self.unwritten += 1,
+            Stop::End => self.end += 1,
+        }
+    }
+
+    fn print(&self) {
+        println!("beat {}", self.beats);
+        for (index, [without, added]) in self.frames.iter().enumerate() {
+            let name = String::from_utf8_lossy(COMMANDS[index]);
+            println!(
+                "frame {} {name} {without}, with a line added {added}",
+                index + 1
+            );
+        }
+        for (index, count) in self.refused.iter().enumerate() {
+            println!("refused {} {count}", index + 1);
+        }
+        println!("more {}", self.more);
+        println!("unwritten 52 {}", self.unwritten);
+        println!("end {}", self.end);
+    }
+}
+
+/// Compares that many streams of the seed. False at the first difference, which is printed.
+pub fn compare(program: &str, count: usize, seed: u64) -> io::Result<bool> {
+    let mut random = Random::new(seed);
+    let mut tally = Tally::default();
+    for number in 0..count {
+        let stream = streams::stream_to_rewrite(&mut random);
+        let rewritten = rewrite::rewrite(&stream);
+        let ran = program::run(program, &stream)?;
+        if !alike(&rewritten, &ran) {
+            let name = format!("second-difference-rewrite-{seed}-{number}");
+            report(&name, &stream, &rewritten, &ran)?;
+            return Ok(false);
+        }
+        tally.count(&rewritten);
+    }
+    tally.print();
+    println!("second: {count} streams written again and compared, {seed} seed");
+    Ok(true)
+}
+
+/// Whether standard output and standard error are equal, and both statuses 0 or both another.
+fn alike(rewritten: &Rewritten, ran: &Ran) -> bool {
+    ran.output == rewritten.octets
+        && ran.errors == rewrite::complaint(rewritten).as_bytes()
+        && status_alike(rewritten, ran)
+}
+
+fn status_alike(rewritten: &Rewritten, ran: &Ran) -> bool {
+    let whole = rewritten.stop == Stop::End;
+    ran.status.is_some_and(|status| (status == 0) == whole)
+}
+
+/// Keeps the stream in a file and prints what differs.
+fn report(name: &str, stream: &[u8], rewritten: &Rewritten, ran: &Ran) -> io::Result<()> {
+    let path = program::keep(name, stream)?;
+    println!("second: a difference, the stream is in {}", path.display());
+    program::print_difference("standard output", &rewritten.octets, &ran.output);
+    let complaint = rewrite::complaint(rewritten);
+    program::print_difference("standard error", complaint.as_bytes(), &ran.errors);
+    match ran.status {
+        Some(status) if !status_alike(rewritten, ran) => {
+            println!("the compared program's status is {status}");
+        }
+        status => program::print_signal(status),
+    }
+    Ok(())
+}

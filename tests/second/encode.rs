@@ -1,0 +1,144 @@
+//! Encoding, document 01, "Writing": the image of a command, a header block and a body, or the first
+//! of the refusals in the document's order.
+
+use crate::block::{self, Entry};
+use crate::decode::Content;
+use crate::item::{
+    Command, BACKSLASH, COLON, CONTENT_LENGTH, CR, ESCAPED, ESCAPE_LETTERS, LF, MAX_LINE,
+    MAX_LINES, NUL,
+};
+
+/// A refusal: its number, and the index of the entry that 53 names (0 in the others).
+#[derive(Clone, Copy, PartialEq, Eq, Debug)]
+pub struct Refusal {
+    pub code: usize,
+    pub index: usize,
+}
+
+fn refused(code: usize) -> Refusal {
+    Refusal { code, index: 0 }
+}
+
+/// The image, for a target of `room` octets.
+pub fn encode(command: u32, block: &[u8], body: &[u8], room: usize) -> Result<Vec<u8>, Refusal> {
+    // "50 unknown command; 51 malformed sheet"
+    let command = Command::numbered(command).ok_or(refused(50))?;
+    let entries = block::read(block).ok_or(refused(51))?;
+    let body = body.to_vec();
+    let content = Content {
+        command,
+        entries,
+        body,
+    };
+    if let Some(refusal) = ROWS.iter().find_map(|row| row(&content)) {
+        return Err(refusal);
+    }
+    // "56 the target is shorter than the image"
+    let image = image(&content);
+    if room < image.len() {
+        return Err(refused(56));
+    }
+    Ok(image)
+}
+
+type Row = fn(&Content) -> Option<Refusal>;
+
+/// The refusals 52 to 55, in their order.
+const ROWS: [Row; 4] = [too_many_lines, spoiled_entry, wrong_body, wrong_length];
+
+/// "52 more than 32 lines, the added one counted"
+fn too_many_lines(content: &Content) -> Option<Refusal> {
+    let lines = content.entries.len() + usize::from(adds_length(content));
+    (lines > MAX_LINES).then_some(refused(52))
+}
+
+/// "If the body is not empty and no entry is named content-length", a line is added.
+pub fn adds_length(content: &Content) -> bool {
+    !content.body.is_empty() && first_length(content).is_none()
+}
+
+/// The first entry named content-length.
+fn first_length(content: &Content) -> Option<&Entry> {
+    let named = |entry: &&Entry| entry.name == CONTENT_LENGTH;
+    content.entries.iter().find(named)
+}
+
+/// "53 an entry has an empty name, a raw line over 512, or in CONNECT/CONNECTED holds 10, 13 or a
+/// colon (the first such entry is named, from 0)"
+fn spoiled_entry(content: &Content) -> Option<Refusal> {
+    let command = content.command;
+    let spoiled = |entry: &Entry| {
+        let holds = |octet: &u8| entry.name.contains(octet) || entry.value.contains(octet);
+        entry.name.is_empty()
+            || line(command, entry).len() > MAX_LINE
+            || (!command.escapes() && [LF, CR, COLON].iter().any(holds))
+    };
+    let index = content.entries.iter().position(spoiled)?;
+    Some(Refusal { code: 53, index })
+}
+
+/// "54 body not allowed or too long"
+fn wrong_body(content: &Content) -> Option<Refusal> {
+    let most = content.command.max_body();
+    (content.body.len() > most).then_some(refused(54))
+}
+
+/// "55 the first content-length entry is not digits with the body's length as value"
+fn wrong_length(content: &Content) -> Option<Refusal> {
+    let entry = first_length(content)?;
+    let right = says(&entry.value, content.body.len());
+    (!right).then_some(refused(55))
+}
+
+/// Whether the value is digits with that number as value: its shortest decimal, perhaps with zeros
+/// before it.
+fn says(value: &[u8], number: usize) -> bool {
+    let shortest = number.to_string();
+    let before = value.strip_suffix(shortest.as_bytes());
+    before.is_some_and(|zeros| zeros.iter().all(|&digit| digit == b'0'))
+}
+
+/// "Output: line ends are octet 10; entries in order, escaped where the command escapes. If the body
+/// is not empty and no entry is named content-length, a line `content-length:` with the shortest
+/// decimal follows the entries."
+pub fn image(content: &Content) -> Vec<u8> {
+    let mut entries = content.entries.clone();
+    if adds_length(content) {
+        entries.push(length_entry(content.body.len()));
+    }
+    let mut image = content.command.name().to_vec();
+    image.push(LF);
+    for entry in &entries {
+        image.extend(line(content.command, entry));
+        image.push(LF);
+    }
+    image.push(LF);
+    image.extend_from_slice(&content.body);
+    image.push(NUL);
+    image
+}
+
+/// The entry that is added to a body of that length.
+pub fn length_entry(length: usize) -> Entry {
+    Entry::new(CONTENT_LENGTH, length.to_string().as_bytes())
+}
+
+/// The raw line of an entry, without its line end.
+pub fn line(command: Command, entry: &Entry) -> Vec<u8> {
+    let mut line = raw(command, &entry.name);
+    line.push(COLON);
+    line.extend(raw(command, &entry.value));
+    line
+}
+
+/// Text as it stands in a line: escaped where the command escapes.
+fn raw(command: Command, text: &[u8]) -> Vec<u8> {
+    let mut raw = Vec::new();
+    for &octet in text {
+        match ESCAPED.iter().position(|&escaped| escaped == octet) {
+            Some(index) if command.escapes() => raw.extend([BACKSLASH, ESCAPE_LETTERS[index]]),
+            _ => raw.push(octet),
+        }
+    }
+    raw
+}
