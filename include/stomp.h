@@ -1,0 +1,238 @@
+/* Mouhtali: STOMP 1.2 frames, parsed, decoded, searched and encoded.
+ *
+ * The functions are in libframes.a, which `rt staticlib frames` writes, for x86-64. For C99, C11
+ * and C++. docs/MANUAL.md has the rules of the format and what to do about each number.
+ *
+ * A slice is passed as a pointer to its first octet and its length. An empty slice may have any
+ * pointer. Slices are used during the call only. The slices of one call must not overlap.
+ * Every call takes any octets, and ends. An answer is one number; the readers below take it apart. */
+#ifndef STOMP_H
+#define STOMP_H
+
+#include <stddef.h>
+#include <stdint.h>
+
+#ifdef __cplusplus
+extern "C" {
+#endif
+
+/* The commands. Only SEND, MESSAGE and ERROR may have a body. */
+enum stomp_command {
+    STOMP_COMMAND_ABORT = 1,
+    STOMP_COMMAND_ACK = 2,
+    STOMP_COMMAND_BEGIN = 3,
+    STOMP_COMMAND_COMMIT = 4,
+    STOMP_COMMAND_CONNECT = 5,
+    STOMP_COMMAND_CONNECTED = 6,
+    STOMP_COMMAND_DISCONNECT = 7,
+    STOMP_COMMAND_ERROR = 8,
+    STOMP_COMMAND_MESSAGE = 9,
+    STOMP_COMMAND_NACK = 10,
+    STOMP_COMMAND_RECEIPT = 11,
+    STOMP_COMMAND_SEND = 12,
+    STOMP_COMMAND_STOMP = 13,
+    STOMP_COMMAND_SUBSCRIBE = 14,
+    STOMP_COMMAND_UNSUBSCRIBE = 15
+};
+
+/* The sizes. */
+enum stomp_size {
+    STOMP_MAX_LINES = 32,    /* header lines of a frame */
+    STOMP_MAX_LINE = 512,    /* octets of a raw header line, its line end not counted */
+    STOMP_MAX_BODY = 32768,  /* octets of a body */
+    STOMP_MAX_FRAME = 49228, /* octets of a frame: holds every image */
+    STOMP_MAX_BLOCK = 16544  /* octets of a decoded frame's header block: holds those of every frame */
+};
+
+/* What stomp_parse found. */
+enum stomp_kind {
+    STOMP_INCOMPLETE = 0, /* the octets can still be finished: read more */
+    STOMP_HEART_BEAT = 1, /* they begin with a heart-beat */
+    STOMP_FRAME = 2,      /* they begin with a frame */
+    STOMP_INVALID = 3     /* neither: no item begins so */
+};
+
+/* The numbers of stomp_parse: what the octet at the offset does. */
+enum stomp_parse_refusal {
+    STOMP_INVALID_COMMAND = 1,        /* leaves no command, and begins no heart-beat */
+    STOMP_INVALID_LINE_END = 2,       /* follows 13 and is not 10 */
+    STOMP_INVALID_LINE = 3,           /* a colon with an empty name, a second colon, a line end before
+                                         the colon, a wrong or cut escape */
+    STOMP_INVALID_LINE_LENGTH = 4,    /* makes the line longer than STOMP_MAX_LINE */
+    STOMP_INVALID_LINE_COUNT = 5,     /* begins a line too many */
+    STOMP_INVALID_CONTENT_LENGTH = 6, /* spoils the first content-length: no digit, or too large */
+    STOMP_INVALID_BODY_END = 7        /* stands where only octet 0 can */
+};
+
+/* The numbers of stomp_decode. */
+enum stomp_decode_refusal {
+    STOMP_DECODE_NOT_A_FRAME = 20, /* the octets are not exactly one frame */
+    STOMP_DECODE_SHORT_BLOCK = 21, /* the block is shorter than needed */
+    STOMP_DECODE_LONG_LINE = 23    /* a decoded line would be longer than STOMP_MAX_LINE */
+};
+
+/* The number of stomp_find. */
+enum stomp_find_refusal {
+    STOMP_FIND_MALFORMED = 22 /* the block is not a row of whole records */
+};
+
+/* The numbers of stomp_encode, in the order in which they are given. */
+enum stomp_encode_refusal {
+    STOMP_ENCODE_COMMAND = 50,        /* unknown command */
+    STOMP_ENCODE_MALFORMED = 51,      /* the block is not a row of whole records */
+    STOMP_ENCODE_LINE_COUNT = 52,     /* more than STOMP_MAX_LINES lines, the added one counted */
+    STOMP_ENCODE_ENTRY = 53,          /* an empty name, a raw line over STOMP_MAX_LINE, or in CONNECT and
+                                         CONNECTED octet 10, 13 or a colon; the index says which entry */
+    STOMP_ENCODE_BODY = 54,           /* a body is not allowed, or longer than STOMP_MAX_BODY */
+    STOMP_ENCODE_CONTENT_LENGTH = 55, /* the first content-length is not the body's length in digits */
+    STOMP_ENCODE_SHORT_TARGET = 56    /* the target is shorter than the image */
+};
+
+/* Parses the first item of the octets. Octets behind it change nothing. Writes nothing.
+ *
+ * The answer is 0 where they are incomplete, 1 + 4*length for a heart-beat,
+ * 2 + 4*(length + 2^16*(command + 2^4*(headers + 2^6*(body + 2^16*body_len)))) for a frame,
+ * 3 + 4*(code + 2^8*offset) where they are invalid, with a number from 1 to 7. */
+uint64_t stomp_parse(const uint8_t *octets, size_t len);
+
+/* Decodes the header lines of one frame into a header block: for each line, in order, a record of
+ * the octets 72 68, the lengths of name and value in two octets each, high first, then the name and
+ * the value, escapes replaced. `frame` must be exactly one frame, as long as stomp_parse says.
+ *
+ * The answer is the length of the records, or 2^16*code: 20, else 21, else 23. The records stand
+ * at the front of the block, and what is behind them stays as it was. Where it is refused nothing
+ * is written. `frame` and `block` must not overlap. */
+uint64_t stomp_decode(const uint8_t *frame, size_t frame_len, uint8_t *block, size_t block_len);
+
+/* Finds the first value of a name in a header block. `block_len` is the length in use, as
+ * stomp_decode answered it, and not that of the buffer. Writes nothing.
+ *
+ * The answer is 0 where no entry has the name, 1 where the block is malformed (22), else the place
+ * in the block where the value starts, at least 6. The value's length is the two octets
+ * at start - name_len - 2, high first. `block` and `name` must not overlap. */
+uint64_t stomp_find(const uint8_t *block, size_t block_len, const uint8_t *name, size_t name_len);
+
+/* Encodes a frame: the command, the entries of the block in order, escaped where the command has
+ * escapes, and the body. Where the body is not empty and no entry is named content-length, a line
+ * with the body's length follows the entries.
+ *
+ * The answer is the length of the image, or 2^16*code + index: the first of 50 to 56 that fits, and
+ * the entry's index from 0 with 53, else index 0. The image stands at the front of the target, and
+ * what is behind it stays as it was. Where it is refused nothing is written. `block`, `body` and
+ * `target` must not overlap. */
+uint64_t stomp_encode(uint32_t command, const uint8_t *block, size_t block_len, const uint8_t *body,
+                      size_t body_len, uint8_t *target, size_t target_len);
+
+/* Readers of what stomp_parse answered. */
+
+static inline enum stomp_kind stomp_parse_kind(uint64_t answer)
+{
+    return (enum stomp_kind)(answer & 3);
+}
+
+/* Octets used: the length of the heart-beat or frame; else 0. The next item begins there. */
+static inline size_t stomp_parse_used(uint64_t answer)
+{
+    if (stomp_parse_kind(answer) == STOMP_HEART_BEAT)
+        return (size_t)(answer >> 2);
+    return stomp_parse_kind(answer) == STOMP_FRAME ? (size_t)(answer >> 2 & 0xffff) : 0;
+}
+
+/* The number of the frame's command; of anything else 0. */
+static inline uint32_t stomp_parse_command(uint64_t answer)
+{
+    return stomp_parse_kind(answer) == STOMP_FRAME ? (uint32_t)(answer >> 18 & 0xf) : 0;
+}
+
+/* How many header lines the frame has; of anything else 0. */
+static inline size_t stomp_parse_headers(uint64_t answer)
+{
+    return stomp_parse_kind(answer) == STOMP_FRAME ? (size_t)(answer >> 22 & 0x3f) : 0;
+}
+
+/* Where in the frame the body starts, which is the place of octet 0 if it is empty; of anything else 0. */
+static inline size_t stomp_parse_body(uint64_t answer)
+{
+    return stomp_parse_kind(answer) == STOMP_FRAME ? (size_t)(answer >> 28 & 0xffff) : 0;
+}
+
+/* The length of the frame's body; of anything else 0. */
+static inline size_t stomp_parse_body_length(uint64_t answer)
+{
+    return stomp_parse_kind(answer) == STOMP_FRAME ? (size_t)(answer >> 44) : 0;
+}
+
+/* The number of the refusal, from 1 to 7; 0 where it was not refused. */
+static inline unsigned stomp_parse_code(uint64_t answer)
+{
+    return stomp_parse_kind(answer) == STOMP_INVALID ? (unsigned)(answer >> 2 & 0xff) : 0;
+}
+
+/* The place of the first octet that no item can have there; 0 where it was not refused. */
+static inline size_t stomp_parse_offset(uint64_t answer)
+{
+    return stomp_parse_kind(answer) == STOMP_INVALID ? (size_t)(answer >> 10) : 0;
+}
+
+/* Readers of what stomp_decode and stomp_encode answered. */
+
+/* Whether it was refused, and nothing is written. */
+static inline int stomp_refused(uint64_t answer)
+{
+    return answer > 0xffff;
+}
+
+/* The number of the refusal; 0 where it was not refused. */
+static inline unsigned stomp_code(uint64_t answer)
+{
+    return (unsigned)(answer >> 16);
+}
+
+/* The index of the entry that stomp_encode refused with 53; else 0. */
+static inline size_t stomp_index(uint64_t answer)
+{
+    return stomp_refused(answer) ? (size_t)(answer & 0xffff) : 0;
+}
+
+/* How many octets were written; 0 where it was refused. */
+static inline size_t stomp_length(uint64_t answer)
+{
+    return stomp_refused(answer) ? 0 : (size_t)answer;
+}
+
+/* Readers of what stomp_find answered. */
+
+/* Whether an entry has the name. */
+static inline int stomp_found(uint64_t answer)
+{
+    return answer > 1;
+}
+
+/* 22 where the block is malformed, else 0. */
+static inline unsigned stomp_find_code(uint64_t answer)
+{
+    return answer == 1 ? (unsigned)STOMP_FIND_MALFORMED : 0;
+}
+
+/* Where in the block the value starts; 0 where none was found. */
+static inline size_t stomp_find_start(uint64_t answer)
+{
+    return stomp_found(answer) ? (size_t)answer : 0;
+}
+
+/* The length of the value, read from the block that was searched for a name of this length; 0 where
+ * none was found. */
+static inline size_t stomp_find_length(uint64_t answer, const uint8_t *block, size_t name_len)
+{
+    const uint8_t *octets;
+    if (!stomp_found(answer))
+        return 0;
+    octets = block + stomp_find_start(answer) - name_len - 2;
+    return (size_t)octets[0] << 8 | octets[1];
+}
+
+#ifdef __cplusplus
+}
+#endif
+
+#endif
