@@ -1,26 +1,19 @@
-#define _DEFAULT_SOURCE
-
 #include "answers.h"
 
-#include <signal.h>
 #include <stdio.h>
 #include <stdlib.h>
 #include <string.h>
-#include <sys/mman.h>
-#include <unistd.h>
 
+#include "../include/stomp.h"
+#include "blocks.h"
+#include "buffers.h"
+#include "calls.h"
 #include "examples.h"
-#include "parsers.h"
+#include "guard.h"
+#include "row.h"
 
-enum { ROOM = 1 << 17, SHOWN = 600 };
 enum { TOKEN_CASES = 300000, EDGE_CASES = 100000, BODY_CASES = 1000 };
 enum { OUTCOMES = 10, LEAST_OF_EACH = 200 };
-
-/* A case that is being made. */
-struct row {
-    uint8_t octets[ROOM];
-    size_t length;
-};
 
 /* How often each answer was given: incomplete, heart-beat, frame, invalid 1 to 7. */
 static unsigned long tally[OUTCOMES];
@@ -28,61 +21,23 @@ static unsigned long cases;
 
 static struct row made;
 
-/* The end of room before a page that cannot be read, so that reading on is noticed. */
+/* The end of the room that the parsers read. */
 static uint8_t *guard;
-
-static void read_past_end(int number)
-{
-    static const char text[] = "bench: a parser read past the end of its input, or crashed\n";
-    ssize_t written = write(STDERR_FILENO, text, sizeof text - 1);
-    (void)number;
-    (void)written;
-    _exit(1);
-}
-
-static void make_guard(void)
-{
-    size_t page = (size_t)sysconf(_SC_PAGESIZE);
-    uint8_t *room = mmap(NULL, ROOM + page, PROT_READ | PROT_WRITE, MAP_PRIVATE | MAP_ANONYMOUS, -1, 0);
-    if (room == MAP_FAILED || ROOM % page != 0 || mprotect(room + ROOM, page, PROT_NONE) != 0) {
-        fprintf(stderr, "bench: no guarded memory\n");
-        exit(2);
-    }
-    guard = room + ROOM;
-    signal(SIGSEGV, read_past_end);
-    signal(SIGBUS, read_past_end);
-}
 
 static void show_answer(const char *name, uint64_t a)
 {
     fprintf(stderr, "  %-16s ", name);
-    if (answer_kind(a) == INCOMPLETE)
+    if (stomp_parse_kind(a) == STOMP_INCOMPLETE)
         fprintf(stderr, "incomplete");
-    else if (answer_kind(a) == INVALID)
-        fprintf(stderr, "invalid %u at %zu", invalid_code(a), invalid_offset(a));
-    else if (answer_kind(a) == HEART_BEAT)
-        fprintf(stderr, "heart-beat %zu", item_length(a));
+    else if (stomp_parse_kind(a) == STOMP_INVALID)
+        fprintf(stderr, "invalid %u at %zu", stomp_parse_code(a), stomp_parse_offset(a));
+    else if (stomp_parse_kind(a) == STOMP_HEART_BEAT)
+        fprintf(stderr, "heart-beat %zu", stomp_parse_used(a));
     else
-        fprintf(stderr, "frame %zu, command %u, headers %u, body at %u, %u", item_length(a),
-                (unsigned)(a >> 18 & 15), (unsigned)(a >> 22 & 63), (unsigned)(a >> 28 & 65535),
-                (unsigned)(a >> 44));
+        fprintf(stderr, "frame %zu, command %u, headers %zu, body at %zu, %zu", stomp_parse_used(a),
+                (unsigned)stomp_parse_command(a), stomp_parse_headers(a), stomp_parse_body(a),
+                stomp_parse_body_length(a));
     fprintf(stderr, " (%llu)\n", (unsigned long long)a);
-}
-
-static void show_octets(const uint8_t *octets, size_t length)
-{
-    fprintf(stderr, "  %zu octets: ", length);
-    for (size_t i = 0; i < length; i++) {
-        if (length > SHOWN && i == SHOWN / 2) {
-            fprintf(stderr, " .. ");
-            i = length - SHOWN / 2;
-        }
-        if (octets[i] >= ' ' && octets[i] <= '~' && octets[i] != '\\')
-            fputc(octets[i], stderr);
-        else
-            fprintf(stderr, "\\%03o", octets[i]);
-    }
-    fputc('\n', stderr);
 }
 
 static void fail(const char *what, const uint8_t *octets, size_t length)
@@ -90,16 +45,15 @@ static void fail(const char *what, const uint8_t *octets, size_t length)
     fflush(stdout);
     fprintf(stderr, "bench: %s\n", what);
     for (size_t p = 0; p < PARSERS; p++)
-        show_answer(parser_names[p], parsers[p](octets, length));
-    show_octets(octets, length);
+        show_answer(names[p], parsers[p](octets, length));
+    show_octets("the input", octets, length);
     exit(1);
 }
 
 /* The answer of all parsers to these octets. */
 static uint64_t agreed(const uint8_t *octets, size_t length)
 {
-    uint8_t *copy = guard - length;
-    memcpy(copy, octets, length);
+    const uint8_t *copy = at_end(guard, octets, length);
     uint64_t answer = parsers[BASELINE](copy, length);
     for (size_t p = 0; p < PARSERS; p++)
         if (parsers[p](copy, length) != answer)
@@ -110,23 +64,28 @@ static uint64_t agreed(const uint8_t *octets, size_t length)
 /* How many octets settle this answer; 0 where it is not settled. */
 static size_t settled_by(uint64_t answer)
 {
-    return answer_kind(answer) == INVALID ? invalid_offset(answer) + 1 : item_length(answer);
+    return stomp_parse_kind(answer) == STOMP_INVALID ? stomp_parse_offset(answer) + 1
+                                                     : stomp_parse_used(answer);
 }
 
-/* One case: the parsers agree; what settles the answer gives it, and one octet less does not. */
+/* One case: the parsers agree; what settles the answer gives it, and one octet less does not. Then
+ * decode and encode are tried with it. */
 static void try(const uint8_t *octets, size_t length)
 {
     uint64_t answer = agreed(octets, length);
     size_t settled = settled_by(answer);
-    unsigned outcome = answer_kind(answer) == INVALID ? 2 + invalid_code(answer) : answer_kind(answer);
+    unsigned outcome = stomp_parse_kind(answer);
+    if (outcome == STOMP_INVALID)
+        outcome = 2 + stomp_parse_code(answer);
     if (settled > length || outcome >= OUTCOMES)
         fail("no such answer", octets, length);
     if (settled > 0 && agreed(octets, settled) != answer)
         fail("octets that come after change the answer", octets, length);
-    if (settled > 0 && agreed(octets, settled - 1) != INCOMPLETE)
+    if (settled > 0 && agreed(octets, settled - 1) != STOMP_INCOMPLETE)
         fail("the answer was settled before", octets, length);
     tally[outcome]++;
     cases++;
+    try_buffers(octets, length);
 }
 
 /* Every beginning of these octets. */
@@ -136,26 +95,12 @@ static void try_prefixes(const uint8_t *octets, size_t length)
         try(octets, cut);
 }
 
-static void put(struct row *r, const char *text, size_t length)
-{
-    memcpy(r->octets + r->length, text, length);
-    r->length += length;
-}
-
-static void put_times(struct row *r, const char *text, size_t times)
-{
-    for (; times > 0; times--)
-        put(r, text, strlen(text));
-}
-
 static void check_examples(void)
 {
     for (size_t i = 0; i < example_count; i++) {
         const struct example *e = &examples[i];
         made.length = 0;
-        for (size_t p = 0; p < PARTS; p++)
-            for (size_t times = e->parts[p].times; times > 0; times--)
-                put(&made, e->parts[p].text, e->parts[p].length);
+        put_parts(&made, e->parts, PARTS);
         try(made.octets, made.length);
         if (agreed(made.octets, made.length) != e->answer) {
             fprintf(stderr, "bench: example: %s\n", e->what);
@@ -266,58 +211,6 @@ static void check_bodies(uint64_t *seed)
     }
 }
 
-/* Where a long item is damaged: in its first octets, or anywhere. */
-static size_t damage_place(const struct row *r, uint64_t *seed)
-{
-    size_t last = r->length - 1;
-    if (last > SHOWN && random_between(seed, 0, 1))
-        last = SHOWN;
-    return random_between(seed, 0, last);
-}
-
-/* Moves what stands behind a place, so that octets come in there or go. */
-static void shift(struct row *r, size_t from, size_t to)
-{
-    memmove(r->octets + to, r->octets + from, r->length - from);
-    r->length = r->length - from + to;
-}
-
-static void damage(struct row *r, uint64_t *seed)
-{
-    static const char octets[] = "\0\n\r:\\\\cnrt0019 aA\xff";
-    size_t at = damage_place(r, seed);
-    uint8_t x = (uint8_t)octets[random_between(seed, 0, sizeof octets - 2)];
-    size_t piece = random_between(seed, 1, r->length - at < 40 ? r->length - at : 40);
-    switch (random_between(seed, 0, 6)) {
-    case 0:
-        r->octets[at] = x;
-        break;
-    case 1:
-        r->octets[at] = (uint8_t)random_next(seed);
-        break;
-    case 2:
-        shift(r, at, at + 1);
-        r->octets[at] = x;
-        break;
-    case 3:
-        shift(r, at + 1, at);
-        break;
-    case 4:
-        shift(r, at + piece, at);
-        break;
-    case 5:
-        shift(r, at, at + piece);
-        break;
-    default:
-        while (at < r->length && r->octets[at] != '\n')
-            at++;
-        if (at < r->length) {
-            shift(r, at, at + 1);
-            r->octets[at] = '\r';
-        }
-    }
-}
-
 /* An item with one to three damages, and perhaps cut. */
 static void check_damaged(const uint8_t *item, size_t length, size_t times, uint64_t *seed)
 {
@@ -341,11 +234,11 @@ static void check_stream(const struct stream *st, uint64_t *seed)
     while (at < st->length) {
         const uint8_t *item = st->octets + at;
         uint64_t answer = parsers[BASELINE](item, st->length - at);
-        size_t length = item_length(answer);
+        size_t length = stomp_parse_used(answer);
         for (size_t p = 0; p < PARSERS; p++)
             if (parsers[p](item, st->length - at) != answer)
                 fail("the answers differ in a stream", item, st->length - at);
-        if (answer_kind(answer) != FRAME)
+        if (stomp_parse_kind(answer) != STOMP_FRAME)
             fail("a stream has something else than a frame", item, st->length - at);
         try(item, length);
         check_damaged(item, length, damages, seed);
@@ -366,8 +259,10 @@ void check_answers(const struct stream streams[STREAMS])
         "incomplete", "heart-beat", "frame", "1", "2", "3", "4", "5", "6", "7"
     };
     uint64_t seed = 12;
-    make_guard();
+    guard = guarded_end();
+    make_buffers();
     check_examples();
+    check_blocks();
     check_tokens(&seed);
     check_edges(&seed);
     check_bodies(&seed);
@@ -383,4 +278,5 @@ void check_answers(const struct stream streams[STREAMS])
             exit(1);
         }
     }
+    report_buffers();
 }

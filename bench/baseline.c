@@ -1,24 +1,9 @@
 #include "baseline.h"
 
-#include <stdbool.h>
 #include <string.h>
 
-enum { LF = 10, CR = 13, COLON = 58, BACKSLASH = 92 };
-enum { MAX_HEADERS = 32, MAX_LINE = 512, MAX_BODY = 32768 };
-enum { CONNECT = 5, CONNECTED = 6, ERROR = 8, MESSAGE = 9, SEND = 12, COMMANDS = 15 };
+#include "rules.h"
 
-/* The codes of invalid input. */
-enum {
-    NOT_A_COMMAND = 1,
-    CR_WITHOUT_LF = 2,
-    BAD_LINE = 3,
-    LONG_LINE = 4,
-    MANY_HEADERS = 5,
-    BAD_CONTENT_LENGTH = 6,
-    NOT_ZERO = 7
-};
-
-#define INCOMPLETE ((uint64_t)0)
 #define NO_LENGTH SIZE_MAX
 
 /* The input, how far it is read, and what has been found so far. */
@@ -36,13 +21,12 @@ struct scan {
 
 typedef size_t zero_finder(const uint8_t *octets, size_t length);
 
-/* In order, so that names with the same beginning stand together. */
-static const char names[COMMANDS + 1][12] = {
+const char command_words[COMMANDS + 1][12] = {
     "", "ABORT", "ACK", "BEGIN", "COMMIT", "CONNECT", "CONNECTED", "DISCONNECT", "ERROR", "MESSAGE",
     "NACK", "RECEIPT", "SEND", "STOMP", "SUBSCRIBE", "UNSUBSCRIBE"
 };
 
-/* How many octets a name shares with the one before it. */
+/* How many octets a word shares with the one before it. */
 static const uint8_t shared[COMMANDS + 2] = {0, 0, 1, 0, 0, 2, 7, 0, 0, 0, 0, 0, 0, 1, 1, 0, 0};
 
 /* The first command with this letter, or 0. */
@@ -77,9 +61,9 @@ static inline bool read_line_end(struct scan *s)
     if (s->octets[s->at] == CR) {
         s->at++;
         if (s->at == s->length)
-            return stop(s, INCOMPLETE);
+            return stop(s, STOMP_INCOMPLETE);
         if (s->octets[s->at] != LF)
-            return invalid(s, CR_WITHOUT_LF, s->at);
+            return invalid(s, STOMP_INVALID_LINE_END, s->at);
     }
     s->at++;
     return true;
@@ -91,24 +75,24 @@ static inline bool read_command(struct scan *s)
     unsigned letter = (unsigned)s->octets[0] - 'A';
     unsigned c = letter < 26 ? first_with[letter] : 0;
     if (c == 0)
-        return invalid(s, NOT_A_COMMAND, 0);
+        return invalid(s, STOMP_INVALID_COMMAND, 0);
     for (size_t i = 1; i < s->length; i++) {
         uint8_t x = s->octets[i];
-        if (names[c][i] == 0 && (x == LF || x == CR)) {
+        if (command_words[c][i] == 0 && (x == LF || x == CR)) {
             s->at = i;
             s->command = c;
-            s->kinds = c == CONNECT || c == CONNECTED ? kinds_without : kinds_with_escapes;
-            s->max_body = c == SEND || c == MESSAGE || c == ERROR ? MAX_BODY : 0;
+            s->kinds = has_escapes(c) ? kinds_with_escapes : kinds_without;
+            s->max_body = most_body(c);
             return true;
         }
-        /* Go to the next name that begins with what was read. */
-        while (names[c][i] != x || x == 0) {
+        /* Go to the next word that begins with what was read. */
+        while (command_words[c][i] != x || x == 0) {
             c++;
             if (shared[c] < i)
-                return invalid(s, NOT_A_COMMAND, i);
+                return invalid(s, STOMP_INVALID_COMMAND, i);
         }
     }
-    return stop(s, INCOMPLETE);
+    return stop(s, STOMP_INCOMPLETE);
 }
 
 /* Reads header text up to a raw colon or line end. At `limit` only those can stand. */
@@ -129,18 +113,18 @@ static inline bool read_text(struct scan *s, size_t limit)
             /* A backslash, which owes one more octet. */
             i++;
             if (i == limit)
-                return invalid(s, LONG_LINE, i - 1);
+                return invalid(s, STOMP_INVALID_LINE_LENGTH, i - 1);
             if (i == s->length)
-                return stop(s, INCOMPLETE);
+                return stop(s, STOMP_INCOMPLETE);
             if (!letters[octets[i]])
-                return invalid(s, BAD_LINE, i);
+                return invalid(s, STOMP_INVALID_LINE, i);
             i++;
         }
     }
     if (i == s->length)
-        return stop(s, INCOMPLETE);
+        return stop(s, STOMP_INCOMPLETE);
     if (kinds[octets[i]] != END)
-        return invalid(s, LONG_LINE, i);
+        return invalid(s, STOMP_INVALID_LINE_LENGTH, i);
     s->at = i;
     return true;
 }
@@ -152,46 +136,45 @@ static inline bool read_content_length(struct scan *s, size_t limit)
     for (size_t i = s->at; i < s->length; i++) {
         uint8_t x = s->octets[i];
         if (x == COLON)
-            return invalid(s, BAD_LINE, i);
+            return invalid(s, STOMP_INVALID_LINE, i);
         if (x == LF || x == CR) {
             if (i == s->at)
-                return invalid(s, BAD_CONTENT_LENGTH, i);
+                return invalid(s, STOMP_INVALID_CONTENT_LENGTH, i);
             s->at = i;
             s->content_length = value;
             return true;
         }
         if (i == limit || (i + 1 == limit && s->kinds[x] == ESCAPE))
-            return invalid(s, LONG_LINE, i);
+            return invalid(s, STOMP_INVALID_LINE_LENGTH, i);
         if (x < '0' || x > '9')
-            return invalid(s, BAD_CONTENT_LENGTH, i);
+            return invalid(s, STOMP_INVALID_CONTENT_LENGTH, i);
         value = 10 * value + (x - '0');
         if (value > s->max_body)
-            return invalid(s, BAD_CONTENT_LENGTH, i);
+            return invalid(s, STOMP_INVALID_CONTENT_LENGTH, i);
     }
-    return stop(s, INCOMPLETE);
+    return stop(s, STOMP_INCOMPLETE);
 }
 
 /* Reads one header line, which begins here, with its line end. */
 static inline bool read_header(struct scan *s)
 {
-    static const char name[] = "content-length";
     size_t start = s->at;
     /* The colon may be the last octet of the line. */
-    if (!read_text(s, start + MAX_LINE - 1))
+    if (!read_text(s, start + STOMP_MAX_LINE - 1))
         return false;
     size_t colon = s->at;
     if (s->octets[colon] != COLON)
-        return invalid(s, BAD_LINE, colon);
+        return invalid(s, STOMP_INVALID_LINE, colon);
     s->at++;
-    if (s->content_length == NO_LENGTH && colon - start == sizeof name - 1 &&
-        memcmp(s->octets + start, name, sizeof name - 1) == 0) {
-        if (!read_content_length(s, start + MAX_LINE))
+    if (s->content_length == NO_LENGTH && colon - start == CONTENT_LENGTH_OCTETS &&
+        memcmp(s->octets + start, CONTENT_LENGTH, CONTENT_LENGTH_OCTETS) == 0) {
+        if (!read_content_length(s, start + STOMP_MAX_LINE))
             return false;
     } else {
-        if (!read_text(s, start + MAX_LINE))
+        if (!read_text(s, start + STOMP_MAX_LINE))
             return false;
         if (s->octets[s->at] == COLON)
-            return invalid(s, BAD_LINE, s->at);
+            return invalid(s, STOMP_INVALID_LINE, s->at);
     }
     return read_line_end(s);
 }
@@ -201,14 +184,14 @@ static inline bool read_headers(struct scan *s)
 {
     for (;;) {
         if (s->at == s->length)
-            return stop(s, INCOMPLETE);
+            return stop(s, STOMP_INCOMPLETE);
         uint8_t x = s->octets[s->at];
         if (x == LF || x == CR)
             return read_line_end(s);
         if (x == COLON)
-            return invalid(s, BAD_LINE, s->at);
-        if (s->headers == MAX_HEADERS)
-            return invalid(s, MANY_HEADERS, s->at);
+            return invalid(s, STOMP_INVALID_LINE, s->at);
+        if (s->headers == STOMP_MAX_LINES)
+            return invalid(s, STOMP_INVALID_LINE_COUNT, s->at);
         if (!read_header(s))
             return false;
         s->headers++;
@@ -225,9 +208,9 @@ static inline bool read_body(struct scan *s, zero_finder *find_zero)
     }
     size_t end = s->at + body_length;
     if (end >= s->length)
-        return stop(s, INCOMPLETE);
+        return stop(s, STOMP_INCOMPLETE);
     if (s->octets[end] != 0)
-        return invalid(s, NOT_ZERO, end);
+        return invalid(s, STOMP_INVALID_BODY_END, end);
     uint64_t body = s->at | (uint64_t)body_length << 16;
     uint64_t frame = (end + 1) | (uint64_t)(s->command | s->headers << 4) << 16 | body << 26;
     return stop(s, 2 + 4 * frame);
@@ -237,7 +220,7 @@ static inline uint64_t parse(const uint8_t *octets, size_t length, zero_finder *
 {
     struct scan s = {.octets = octets, .length = length, .content_length = NO_LENGTH};
     if (length == 0)
-        return INCOMPLETE;
+        return STOMP_INCOMPLETE;
     if (octets[0] == LF || octets[0] == CR) {
         if (read_line_end(&s))
             s.answer = 1 + 4 * (uint64_t)s.at;

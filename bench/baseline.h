@@ -1,11 +1,7 @@
-/* A hand-written parser of STOMP 1.2 items, to compare the proved one with.
+/* Parsing, decoding and encoding of STOMP 1.2 items by hand, to compare the proved calls with.
  *
- * The answer is packed as that of stomp_parse:
- *   0                             incomplete
- *   1 + 4*length                  heart-beat
- *   2 + 4*(length + 2^16*(command + 2^4*(headers + 2^6*(body + 2^16*body_length))))
- *   3 + 4*(code + 2^8*offset)     invalid
- */
+ * The answers are packed as those of stomp_parse, stomp_decode and stomp_encode, and a refusal
+ * writes nothing. */
 #ifndef BASELINE_H
 #define BASELINE_H
 
@@ -17,5 +13,12 @@ uint64_t baseline_parse(const uint8_t *octets, size_t length);
 
 /* The same, but for a body without content-length, whose end it finds with memchr. */
 uint64_t baseline_parse_memchr(const uint8_t *octets, size_t length);
+
+/* Parses as baseline_parse does, goes over the lines once to measure and once to write. */
+uint64_t baseline_decode(const uint8_t *frame, size_t length, uint8_t *block, size_t block_length);
+
+/* Goes over the block once for its records, once to measure and once to write. */
+uint64_t baseline_encode(uint32_t command, const uint8_t *block, size_t block_length, const uint8_t *body,
+                         size_t body_length, uint8_t *target, size_t target_length);
 
 #endif

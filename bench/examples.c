@@ -1,8 +1,5 @@
 #include "examples.h"
 
-#define T(text) {text, sizeof text - 1, 1}
-#define N(times, text) {text, sizeof text - 1, times}
-
 #define MORE 0
 #define BEAT(length) (1 + 4 * (uint64_t)(length))
 #define ITEM(length, command, headers, body, body_length)                                          \
@@ -10,11 +7,6 @@
               65536 * ((uint64_t)(command) +                                                       \
                        16 * ((headers) + 64 * ((body) + 65536 * (uint64_t)(body_length))))))
 #define BAD(code, offset) (3 + 4 * ((uint64_t)(code) + 256 * (uint64_t)(offset)))
-
-/* 510 octets. */
-#define X6 "bbbbbb"
-#define X56 X6 X6 X6 X6 X6 X6 X6 X6 X6 "bb"
-#define X510 X56 X56 X56 X56 X56 X56 X56 X56 X56 X6
 
 const struct example examples[] = {
     {"P1", MORE, {T("")}},

@@ -5,14 +5,9 @@
 #include <stddef.h>
 #include <stdint.h>
 
-enum { PARTS = 6 };
+#include "row.h"
 
-/* A text, so many times. */
-struct part {
-    const char *text;
-    size_t length;
-    size_t times;
-};
+enum { PARTS = 6 };
 
 /* An input is its parts, one after another. */
 struct example {
