@@ -1,0 +1,64 @@
+//! Reads a frame that a relay passed on, finds its first port, and writes a frame that answers it.
+
+mod stomp;
+
+use stomp::{Parsed, Refusal};
+
+/// The relay put a fresh port in front and kept the old one below. The body holds octet 0.
+const MESSAGE: &[u8] = b"MESSAGE\n\
+    destination:/ports/ocean\n\
+    message-id:7\n\
+    subscription:ice\n\
+    port:tcp\\cocean-2\\c4711\n\
+    port:tcp\\cocean-1\\c4710\n\
+    content-length:9\n\
+    \n\
+    temp\0salt\0";
+
+/// What can be printed, and the number of any other octet.
+fn shown(octets: &[u8]) -> String {
+    let show = |&x: &u8| match x {
+        b'\n' | b' '..=b'~' => char::from(x).to_string(),
+        _ => format!("<{x}>"),
+    };
+    octets.iter().map(show).collect()
+}
+
+fn main() -> Result<(), Refusal> {
+    let frame = match stomp::parse(MESSAGE) {
+        Parsed::Frame(frame) => frame,
+        other => panic!("{other:?}"),
+    };
+    let body = &MESSAGE[frame.body..frame.body + frame.body_len];
+    println!(
+        "read a frame of {} octets: command {}, {} headers, a body of {} octets at {}",
+        frame.used, frame.command, frame.headers, frame.body_len, frame.body
+    );
+    println!("{}", shown(body));
+
+    let mut read = vec![0; stomp::MAX_BLOCK];
+    let used = stomp::decode(&MESSAGE[..frame.used], &mut read)?;
+    read.truncate(used);
+    println!("decoded its headers to {used} octets");
+
+    let port = stomp::find(&read, b"port")?.expect("a port");
+    println!("found the first port, {} octets", port.len());
+    println!("{}", shown(port));
+
+    let mut reply = Vec::new();
+    let mut target = vec![0; stomp::MAX_FRAME];
+    stomp::add(&mut reply, b"destination", b"/ports/ice");
+    stomp::add(&mut reply, b"port", port);
+    let written = stomp::encode(stomp::COMMAND_SEND, &reply, body, &mut target)?;
+    println!("wrote a frame of {written} octets");
+    println!("{}", shown(&target[..written]));
+
+    // What a refusal looks like: a command without a body, and octets that begin no frame.
+    if let Err(refusal) = stomp::encode(stomp::COMMAND_ACK, &reply, body, &mut target) {
+        println!("as an ACK it is refused with {}", refusal.code);
+    }
+    if let Parsed::Invalid(refusal) = stomp::parse(b"SENT") {
+        println!("SENT is refused with {} at {}", refusal.code, refusal.place);
+    }
+    Ok(())
+}

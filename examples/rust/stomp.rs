@@ -1,0 +1,157 @@
+//! Safe calls of the library. Each answer is one number, which is taken apart here; see include/stomp.h.
+//!
+//! A slice is passed as pointer and length. Rust sees to it that the one that is written overlaps no
+//! other; those that are only read may overlap, as nothing is written through them.
+
+/// Octets that the header block of any frame fits in, and that any image fits in.
+pub const MAX_BLOCK: usize = 16544;
+pub const MAX_FRAME: usize = 49228;
+
+pub const COMMAND_ACK: u32 = 2;
+pub const COMMAND_SEND: u32 = 12;
+
+mod library {
+    extern "C" {
+        pub fn stomp_parse(octets: *const u8, len: usize) -> u64;
+        pub fn stomp_decode(
+            frame: *const u8,
+            frame_len: usize,
+            block: *mut u8,
+            block_len: usize,
+        ) -> u64;
+        pub fn stomp_find(
+            block: *const u8,
+            block_len: usize,
+            name: *const u8,
+            name_len: usize,
+        ) -> u64;
+        pub fn stomp_encode(
+            command: u32,
+            block: *const u8,
+            block_len: usize,
+            body: *const u8,
+            body_len: usize,
+            target: *mut u8,
+            target_len: usize,
+        ) -> u64;
+    }
+}
+
+#[derive(Debug, Clone, Copy, PartialEq, Eq)]
+pub struct Frame {
+    pub used: usize,
+    pub command: u32,
+    pub headers: usize,
+    pub body: usize,
+    pub body_len: usize,
+}
+
+#[derive(Debug, Clone, Copy, PartialEq, Eq)]
+pub enum Parsed {
+    Incomplete,
+    HeartBeat { used: usize },
+    Frame(Frame),
+    Invalid(Refusal),
+}
+
+/// The number, and the place it speaks of: the offset of an octet for 1 to 7, the index of an entry
+/// for 53, else 0.
+#[derive(Debug, Clone, Copy, PartialEq, Eq)]
+pub struct Refusal {
+    pub code: u32,
+    pub place: usize,
+}
+
+/// Some bits of an answer, from a place on.
+fn bits(answer: u64, from: u32, count: u32) -> usize {
+    (answer >> from & ((1 << count) - 1)) as usize
+}
+
+/// The first item of the octets.
+pub fn parse(octets: &[u8]) -> Parsed {
+    let answer = unsafe { library::stomp_parse(octets.as_ptr(), octets.len()) };
+    match answer & 3 {
+        0 => Parsed::Incomplete,
+        1 => Parsed::HeartBeat {
+            used: bits(answer, 2, 62),
+        },
+        2 => Parsed::Frame(Frame {
+            used: bits(answer, 2, 16),
+            command: bits(answer, 18, 4) as u32,
+            headers: bits(answer, 22, 6),
+            body: bits(answer, 28, 16),
+            body_len: bits(answer, 44, 20),
+        }),
+        _ => Parsed::Invalid(Refusal {
+            code: bits(answer, 2, 8) as u32,
+            place: bits(answer, 10, 54),
+        }),
+    }
+}
+
+/// The length that decode or encode wrote.
+fn length(answer: u64) -> Result<usize, Refusal> {
+    match answer >> 16 {
+        0 => Ok(answer as usize),
+        code => Err(Refusal {
+            code: code as u32,
+            place: bits(answer, 0, 16),
+        }),
+    }
+}
+
+/// Decodes the headers of exactly one frame; the length used of the block.
+pub fn decode(frame: &[u8], block: &mut [u8]) -> Result<usize, Refusal> {
+    length(unsafe {
+        library::stomp_decode(frame.as_ptr(), frame.len(), block.as_mut_ptr(), block.len())
+    })
+}
+
+/// The first value of a name. The block is the part in use.
+pub fn find<'a>(block: &'a [u8], name: &[u8]) -> Result<Option<&'a [u8]>, Refusal> {
+    let answer =
+        unsafe { library::stomp_find(block.as_ptr(), block.len(), name.as_ptr(), name.len()) };
+    match answer as usize {
+        0 => Ok(None),
+        1 => Err(Refusal { code: 22, place: 0 }),
+        start => {
+            let at = start - name.len() - 2;
+            let len = usize::from(u16::from_be_bytes([block[at], block[at + 1]]));
+            Ok(Some(&block[start..start + len]))
+        }
+    }
+}
+
+/// Writes a frame; its length.
+pub fn encode(
+    command: u32,
+    block: &[u8],
+    body: &[u8],
+    target: &mut [u8],
+) -> Result<usize, Refusal> {
+    length(unsafe {
+        library::stomp_encode(
+            command,
+            block.as_ptr(),
+            block.len(),
+            body.as_ptr(),
+            body.len(),
+            target.as_mut_ptr(),
+            target.len(),
+        )
+    })
+}
+
+/// Adds an entry at the end of a block.
+pub fn add(block: &mut Vec<u8>, name: &[u8], value: &[u8]) {
+    let two_octets = |len: usize| {
+        u16::try_from(len)
+            .expect("at most 65,535 octets")
+            .to_be_bytes()
+    };
+    block.extend([72, 68]);
+    block.extend(two_octets(name.len()));
+    block.extend(two_octets(value.len()));
+    block.extend(name);
+    block.extend(value);
+}
