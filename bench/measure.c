@@ -202,7 +202,9 @@ static void print_row(const struct stream *st, const double best[PARSERS], bool 
 static void print_head(bool with_memchr)
 {
     printf("%-21s %9s %7s %9s %9s %9s", "stream", "octets", "items", "ours", "baseline", "ratio");
-    printf(with_memchr ? " %9s %9s\n" : "\n", "memchr", "ratio");
+    if (with_memchr)
+        printf(" %9s %9s", "memchr", "ratio");
+    printf("\n");
 }
 
 /* Whether a ratio is as large as asked; says so where it is not. */
