@@ -21,11 +21,11 @@ pub mod Checks
 pub mod Gliding
 pub mod Sizes
 pub mod Packing
-pub mod Packed
 pub mod Running
 pub mod Passing
 pub mod Named
 pub mod Heads
+pub mod Packed
 pub mod Readings
 pub mod Decoding
 pub mod Images

@@ -1,20 +1,31 @@
 -- The packed answers of decode, encode and find read back. Assumes nothing.
 use mathlib.Core.Path.{_≡_, refl, sym, _∙_, ap}
-use mathlib.Core.Bool.{false}
+use mathlib.Core.Bool.{Bool, true, false, cond}
+use mathlib.Core.Option.{Option, none, some}
 use mathlib.Core.List.{List, [], _∷_}
 use Prim.Native.Nat.{ℕ, _+_, _*_, _/_, _%_, _≤_, _<_}
 use native.Mathlib.Omega.{arith}
 use lib.ListN.{length}
 use lib.Dec.{ltb}
 use borrow.Author.Tests.{lt-ltb, le-ltb, ne-eqb}
+use Rattle.headers.specs.Rows.{any}
+use Rattle.headers.specs.Block.{Entry, image}
 use Rattle.headers.specs.Answers.{Answer, accepted, refused, find-answer, found-says}
 use Rattle.headers.specs.declared.block.Found.{Found}
 use Rattle.headers.proofs.Finding.{find-headed}
+use Rattle.frames.specs.Grammar.{Version, Tree, heart-beat, frame}
+use Rattle.frames.specs.Decoding.{too-long, decode-answer, head-entries, tree-entries, Reading, Decodes}
 use Rattle.frames.specs.Encoding.{Encoding, image-length, refusal}
 use Rattle.frames.specs.Answers.{packed-decode, unpacked-decode, packed-encode, unpacked-encode, packed-find, unpacked-find}
+use Rattle.frames.proofs.Heads.{block-long}
+
+-- how many values an answer has
+abbrev count : Answer → ℕ
+count (accepted values) = length values
+count (refused k) = 0
 
 -- a refusal is 65,536 or more, and its number and index are told apart
-module _ (k i : ℕ) (some : 0 < k) (small : i < 65536) where
+module _ (k i : ℕ) (positive : 0 < k) (small : i < 65536) where
   large : ltb (65536 * k + i) 65536 ≡ false
   large = le-ltb (65536 * k + i) 65536 (omega arith)
 
@@ -28,9 +39,9 @@ module _ (k i : ℕ) (some : 0 < k) (small : i < 65536) where
   refusal-back = rw (large, number-back, index-back)
 
 pub refused-back : (k : ℕ) → 0 < k → unpacked-decode (packed-decode (refused k)) ≡ refused k
-refused-back k some =
+refused-back k positive =
     let zero : 65536 * k ≡ 65536 * k + 0 = omega arith in
-    rw zero (rw (large k 0 some (omega arith), number-back k 0 some (omega arith)))
+    rw zero (rw (large k 0 positive (omega arith), number-back k 0 positive (omega arith)))
 
 -- a length is less
 pub accepted-back : (n : ℕ) → n < 65536 → unpacked-decode n ≡ accepted (n ∷ [])
@@ -38,6 +49,25 @@ accepted-back n h = rw (lt-ltb n 65536 h)
 
 pub length-back : (n : ℕ) → n < 65536 → unpacked-encode n ≡ image-length n
 length-back n h = rw (lt-ltb n 65536 h)
+
+-- the length that decode answers is that of a block of at most 16,544 octets
+settled-long : (room n : ℕ) (es : List Entry) → length (image es) ≤ 16544 → accepted (n ∷ []) ≡ decode-answer room (some es) → n < 65536
+unfolding decode-answer
+settled-long room n es fits e = by (ltb room (length (image es))) (any too-long es) e
+  where
+    by : (a b : Bool) → accepted (n ∷ []) ≡ cond a (refused 21) (cond b (refused 23) (accepted (length (image es) ∷ []))) → n < 65536
+    by true b k = absurd (omega (arith, ap count k))
+    by false true k = absurd (omega (arith, ap count k))
+    by false false k = omega (arith, ap packed-decode k)
+
+pub decode-small : (ver : Version) {xs before after : List ℕ} (n : ℕ) → Decodes ver xs before (accepted (n ∷ [])) after → n < 65536
+unfolding decode-answer
+decode-small ver {xs} {before} n d = by (d .tree) (d .reading) (d .answered)
+  where
+    by : (t : Option Tree) → Reading ver xs t → accepted (n ∷ []) ≡ decode-answer (length before) (tree-entries ver t) → n < 65536
+    by none r k = absurd (omega (arith, ap count k))
+    by (some (heart-beat e)) r k = absurd (omega (arith, ap count k))
+    by (some (frame h e b)) r k = settled-long (length before) n (head-entries ver h) (block-long ver h (r .0 .0 .0)) k
 
 -- what find answers
 pub find-back : (block name : List ℕ) (f : Found) → found-says f ≡ find-answer block name → unpacked-find block name (packed-find (found-says f)) ≡ found-says f

@@ -4,7 +4,9 @@ ghost use Prim.Native.Nat.{_<_};
 ghost use Rattle.frames.specs.Grammar.{v1-2};
 ghost use Rattle.frames.specs.Parsing.{parsed};
 ghost use Rattle.headers.specs.Answers.{find-answer};
-ghost use Rattle.frames.specs.Answers.{parsed-says, packed, unpacked, SmallFrame, packed-find, unpacked-find};
+ghost use Rattle.frames.specs.Answers.{parsed-says, packed, unpacked, SmallFrame, packed-decode, unpacked-decode, packed-find, unpacked-find};
+ghost use Rattle.frames.specs.Decoding.{Decodes};
+use crate::decode::Decoded;
 use crate::parse::Item;
 use crate::parse::Parsed;
 use crate::parse::Refusal;
@@ -58,5 +60,21 @@ pub extern "C" fn stomp_find(block: &[u8], name: &[u8]) -> u64
         Found::Value(p) => p.start as u64,
         Found::Absent => 0,
         Found::Malformed => 1,
+    }
+}
+
+// What decode answers, in one number: what is read back of it is the answer, and its content of the block is decode's.
+#[no_mangle]
+pub extern "C" fn stomp_decode(frame: &[u8], block: &mut [u8]) -> u64
+    ensures { λ r. ⌜
+        Decodes v1-2 (now (frame .entry)) (now (block .entry)) (unpacked-decode r) (now (block .exit))
+        × (r ≡ packed-decode (unpacked-decode r))
+        ⌝ }
+{
+    match crate::decode::decode(frame, block) {
+        Decoded::Length(n) => n as u64,
+        Decoded::NotFrame => 65536 * 20,
+        Decoded::TooShort => 65536 * 21,
+        Decoded::TooLong => 65536 * 23,
     }
 }
