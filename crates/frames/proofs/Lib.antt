@@ -31,3 +31,4 @@ pub mod Decoding
 pub mod Images
 pub mod Rewriting
 pub mod RoundTrips
+pub mod Writing

@@ -145,7 +145,7 @@ module _ (st : Scan) where
       by true e = record { known = omega arith; few = omega arith; short = omega arith; small = l; place = omega arith; fresh-word = λ q. absurd (omega arith); word-so-far = λ q. absurd (omega arith); body-so-far = λ q. absurd (omega arith); counted-so-far = λ q. omega arith; no-lines = λ q. absurd (omega arith); clean-code = λ q. refl; clean-match = λ q. refl; clean-size = λ q n. u q; unsized = λ q. absurd (omega arith) }
       by false e = record { known = omega arith; few = omega arith; short = omega arith; small = l; place = omega arith; fresh-word = λ q. absurd (omega arith); word-so-far = λ q. absurd (omega arith); body-so-far = λ q. omega arith; counted-so-far = λ q. absurd (omega arith); no-lines = λ q. absurd (omega arith); clean-code = λ q. refl; clean-match = λ q. refl; clean-size = λ q n. u q; unsized = λ q. e }
 
-most-small : (c : ℕ) → most-of c ≤ 32768
+pub most-small : (c : ℕ) → most-of c ≤ 32768
 most-small c = cond-case (λ n. n ≤ 32768) (eqb c 8 || eqb c 9 || eqb c 12) (λ t. omega arith) (λ t. omega arith)
 
 -- ---- one octet, by the phase

@@ -12,4 +12,5 @@ pub mod Validity
 pub mod Layout
 pub mod Decoding
 pub mod Encoding
+pub mod Writing
 pub mod Answers

@@ -1,4 +1,4 @@
-// Frames: the grammar of items, parsing and decoding.
+// Frames: the grammar of items, parsing, decoding and encoding.
 mod word; // the words of commands
 mod scan; // what of an item has been read, in numbers
 mod valid; // whether a state is one that a run can leave
@@ -8,4 +8,5 @@ mod run; // a row of octets
 pub mod parse; // the reply
 mod layout; // where the parts of a head stand
 pub mod decode; // a frame's entries as a header block
+pub mod encode; // a frame's octets from its parts
 mod exports; // calls for C

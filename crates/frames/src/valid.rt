@@ -62,7 +62,7 @@ fn least(c: u32) -> usize
 }
 
 // How many letters a command's word has.
-fn word_len(c: u32) -> usize
+pub(crate) fn word_len(c: u32) -> usize
     requires { ⌜ c ≤ 15 ⌝ }
     ensures { λ r. ⌜ r ≡ length (word-of c) ⌝ }
 {

@@ -32,7 +32,7 @@ fn letters(c: u32) -> u64
 }
 
 // The letter at place k of a command's word, or 64 behind it.
-fn letter(c: u32, k: usize) -> u8
+pub(crate) fn letter(c: u32, k: usize) -> u8
     requires { ⌜ (c ≤ 15) × (k ≤ 11) ⌝ }
     ensures { λ r. ⌜ r ≡ getD (word-of c) k 64 ⌝ }
 {

@@ -1,0 +1,180 @@
+// Encoding: the octets of a frame, from a command, a header block and a body.
+ghost use mathlib.Core.Path.{_≡_};
+ghost use mathlib.Core.Bool.{Bool, true, _&&_, not};
+ghost use mathlib.Core.List.{List, [], _∷_, _++_};
+ghost use Prim.Native.Nat.{_+_, _≤_, _<_};
+ghost use lib.Dec.{eqb};
+ghost use lib.ListN.{length, take, drop};
+ghost use Rattle.headers.specs.Rows.{any, every};
+ghost use Rattle.headers.specs.Numbers.{decimal, is-amount};
+ghost use Rattle.headers.specs.Block.{entries};
+ghost use Rattle.headers.specs.Lines.{written-line, can-write};
+ghost use Rattle.headers.specs.Answers.{is-block, left-in};
+ghost use Rattle.frames.specs.Grammar.{v1-2};
+ghost use Rattle.frames.specs.Scanning.{word-of, style-of};
+ghost use Rattle.frames.specs.Encoding.{Call, first-unwritable, length-entry, written-lines, encode-answer, encode-image, encode-index, indexed};
+ghost use Rattle.frames.specs.Writing.{listed, Told, Sums, lengths-of, image-of};
+ghost use Rattle.frames.specs.Answers.{encoded-says};
+use headers::DecimalRead;
+use headers::DecimalWritten;
+use headers::EntryAt;
+use headers::Found;
+use headers::LineLength;
+use headers::LineWritten;
+use headers::Style;
+
+// What encoding gives: the image's length; or that the command is unknown (50), the block malformed (51), that there are too many
+// lines (52), that the entry of an index cannot be written (53), that the body is not allowed or too long (54), that the first
+// content-length is not the body's (55), or that the target is too short (56).
+pub enum Encoded {
+    Length(usize),
+    UnknownCommand,
+    Malformed,
+    TooManyLines,
+    Unwritable(usize),
+    BadBody,
+    WrongLength,
+    TooShort,
+}
+
+// The content-length of a block: whether the block is well formed, whether an entry has the name, and where the first value stands.
+pub struct Declared {
+    pub valid: bool,
+    pub present: bool,
+    pub start: usize,
+    pub end: usize,
+}
+
+// What the entries of a block come to: how many they are, or 33; how many from the front can be written; the octets of the lines of
+// those, with their line ends.
+pub struct Totals {
+    pub count: usize,
+    pub good: usize,
+    pub total: usize,
+}
+
+fn declared_length(block: &[u8]) -> Declared
+    ensures { λ r. ⌜ Told (now (block .entry)) r ⌝ }
+{
+    match headers::find(block, b"content-length") {
+        Found::Value(p) => Declared {
+            valid: true,
+            present: true,
+            start: p.start,
+            end: p.start + p.len,
+        },
+        Found::Absent => Declared {
+            valid: true,
+            present: false,
+            start: 0,
+            end: 0,
+        },
+        Found::Malformed => Declared {
+            valid: false,
+            present: false,
+            start: 0,
+            end: 0,
+        },
+    }
+}
+
+// One pass over the entries; it ends at the 33rd.
+fn sum(block: &[u8], style: Style) -> Totals
+    requires { ⌜ is-block (now block) ≡ true ⌝ }
+    ensures { λ r. ⌜ Sums style (listed (entries (now (block .entry)))) r ⌝ }
+{
+    let mut count = 0usize;
+    let mut good = 0usize;
+    let mut total = 0usize;
+    let mut at = 0usize;
+    while count < 33 {
+        let EntryAt::Entry(l) = headers::entry_at(block, at) else {
+            return Totals { count, good, total };
+        };
+        let from = at + 6;
+        let mid = from + l.name;
+        at = mid + l.value;
+        if good == count {
+            if let LineLength::Length(k) = headers::line_length(
+                &block[from..mid],
+                &block[mid..at],
+                style,
+            ) {
+                good += 1;
+                total = total + k + 1;
+            }
+        }
+        count += 1;
+    }
+    Totals { count, good, total }
+}
+
+// Whether a length line is added: the body is not empty and no entry has the name.
+fn adds_length(length: Declared, body: usize) -> bool
+    ensures { λ r. ⌜ r ≡ not (eqb body 0) && not (length .present) ⌝ }
+{
+    (body != 0) & !length.present
+}
+
+// Whether a value is digits that say n.
+fn says_length(value: &[u8], n: usize) -> bool
+    requires { ⌜ n ≤ 32768 ⌝ }
+    ensures { λ r. ⌜ r ≡ is-amount n (now (value .entry)) && eqb (decimal 0 (now (value .entry))) n ⌝ }
+{
+    match headers::read_decimal(value, n as u32) {
+        DecimalRead::Number(m) => (m as usize) == n,
+        DecimalRead::Invalid => false,
+    }
+}
+
+// The octets of an image: the command's word, the lines of the entries, the added line if there is one, the body, and what stands
+// between them.
+fn image_length(command: u32, lines: usize, adds: bool, body: usize) -> usize
+    requires { ⌜ (command ≤ 15) × (lines ≤ 16929) × (body ≤ 32768) ⌝ }
+    ensures { λ r. ⌜ r ≡ lengths-of command lines adds body ⌝ }
+{
+    let plain = crate::valid::word_len(command) + lines + body + 3;
+    if adds {
+        return plain + 16 + headers::decimal_length(body as u64);
+    }
+    plain
+}
+
+// The answer: every refusal in its order, or the image's length.
+fn settle(command: u32, block: &[u8], length: Declared, body: &[u8], room: usize) -> Encoded
+    requires { ⌜ Told (now block) length ⌝ }
+    ensures { λ r. ⌜ encoded-says r ≡ indexed
+        (encode-answer v1-2 (record { command = command; block = now (block .entry); body = now (body .entry) }) room)
+        (encode-index v1-2 (record { command = command; block = now (block .entry); body = now (body .entry) })) ⌝ }
+{
+    if (command == 0) | (15 < command) {
+        return Encoded::UnknownCommand;
+    }
+    if !length.valid {
+        return Encoded::Malformed;
+    }
+    let s = sum(block, crate::scan::style_of(command));
+    let adds = adds_length(length, body.len());
+    let lines = if adds { s.count + 1 } else { s.count };
+    if 32 < lines {
+        return Encoded::TooManyLines;
+    }
+    if s.good < s.count {
+        return Encoded::Unwritable(s.good);
+    }
+    if crate::scan::most_of(command) < body.len() {
+        return Encoded::BadBody;
+    }
+    let start = length.start;
+    let end = length.end;
+    if length.present {
+        if !says_length(&block[start..end], body.len()) {
+            return Encoded::WrongLength;
+        }
+    }
+    let total = image_length(command, s.total, adds, body.len());
+    if room < total {
+        return Encoded::TooShort;
+    }
+    Encoded::Length(total)
+}
