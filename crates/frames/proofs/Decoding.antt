@@ -39,7 +39,7 @@ use Rattle.frames.specs.Decoding.{line-entries, too-long, decode-answer,
 use Rattle.frames.specs.Answers.{parsed-says}
 use Rattle.frames.specs.Scanning.{plain-in, style-of}
 use Rattle.frames.proofs.Gliding.{span-le}
-use Rattle.frames.proofs.Heads.{frame-lines}
+use Rattle.frames.proofs.Heads.{frame-lines, block-long, none-too-long}
 use Rattle.frames.proofs.Readings.{Other, OneFrame, NoFrame}
 
 -- ---- Places
@@ -276,6 +276,12 @@ module _ {xs : List ℕ} {c n s l : ℕ} (f : OneFrame v1-2 xs c n s l) where
       decodes A after h =
           let (answered, written) = rw entries-are at h in
           record { tree = some (frame (f .h) (f .e) (f .b)); reading = (f .valid, f .whole); answered = answered; written = written }
+
+      -- a block of 16,544 octets has room for any, and no line is too long
+      pub ample : 16544 ≤ length before → (length (image es) ≤ length before) × (any too-long es ≡ false)
+      ample h =
+          let ok = f .valid .0 .0 in
+          (omega (arith, ap (λ z. length (image z)) entries-are, block-long v1-2 (f .h) ok), ap (any too-long) entries-are ∙ none-too-long v1-2 (f .h) ok)
 
       pub settled : (total : ℕ) (long : Bool) → total ≡ length (image es) → long ≡ any too-long es → Settled xs before es total long
       settled total long total-is long-is =

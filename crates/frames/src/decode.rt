@@ -68,15 +68,18 @@ fn measure(s: &[u8], from: usize, n: usize, style: Style) -> Measured
     Measured { total, long }
 }
 
-// Those records at the front of the block, each by a call that is given the part of the block that is left.
-fn put_records(s: &[u8], from: usize, n: usize, style: Style, block: &mut [u8])
+// Those records at the front of the block: their octets. Each is written by a call that is given the part of the block that is left.
+fn put_records(s: &[u8], from: usize, n: usize, style: Style, block: &mut [u8]) -> usize
     requires { ⌜
         (from ≤ length (now s))
         × (length (image (line-entries style (front-lines n (drop from (now s))))) ≤ length (now block))
         × (any too-long (line-entries style (front-lines n (drop from (now s)))) ≡ false)
         ⌝ }
-    ensures { λ _. ⌜ now (block .exit) ≡ image (line-entries style (front-lines n (drop from (now (s .entry)))))
-        ++ drop (length (image (line-entries style (front-lines n (drop from (now (s .entry))))))) (now (block .entry)) ⌝ }
+    ensures { λ r. ⌜
+        (r ≡ length (image (line-entries style (front-lines n (drop from (now (s .entry)))))))
+        × (now (block .exit) ≡ image (line-entries style (front-lines n (drop from (now (s .entry)))))
+        ++ drop (length (image (line-entries style (front-lines n (drop from (now (s .entry))))))) (now (block .entry)))
+        ⌝ }
 {
     let mut used = 0usize;
     let mut at = from;
@@ -92,16 +95,17 @@ fn put_records(s: &[u8], from: usize, n: usize, style: Style, block: &mut [u8])
             &s[value..end],
             style,
         ) else {
-            return;
+            return used;
         };
         used += k;
         at = l.next;
         i += 1;
     }
+    used
 }
 
 // The entries of exactly one frame, decoded, as records at the front of the block. Every refusal is settled before the first octet
-// is written.
+// is written: 16,544 octets hold the records of any frame, and only a shorter block is measured against them.
 pub fn decode(frame: &[u8], block: &mut [u8]) -> Decoded
     ensures { λ r. ⌜ Decodes v1-2 (now (frame .entry)) (now (block .entry)) (decoded-says r) (now (block .exit)) ⌝ }
 {
@@ -116,6 +120,9 @@ pub fn decode(frame: &[u8], block: &mut [u8]) -> Decoded
     }
     let style = crate::scan::style_of(item.command);
     let from = crate::layout::first_line(frame);
+    if 16544 <= block.len() {
+        return Decoded::Length(put_records(frame, from, item.headers, style, block));
+    }
     let m = measure(frame, from, item.headers, style);
     if block.len() < m.total {
         return Decoded::TooShort;
@@ -123,6 +130,5 @@ pub fn decode(frame: &[u8], block: &mut [u8]) -> Decoded
     if m.long {
         return Decoded::TooLong;
     }
-    put_records(frame, from, item.headers, style, block);
-    Decoded::Length(m.total)
+    Decoded::Length(put_records(frame, from, item.headers, style, block))
 }

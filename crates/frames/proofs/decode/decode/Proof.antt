@@ -1,15 +1,19 @@
 -- `decode::decode` meets its contract: parse tells whether it is exactly one frame; its entries are measured, then written.
-use Prim.Native.Nat.{ℕ}
+use Prim.Native.Nat.{ℕ, _≤_}
 use native.Mathlib.Omega.{arith}
 use lib.ListN.{length, drop}
-use mathlib.Core.Path.{_≡_, refl, ap}
+use mathlib.Core.Path.{_≡_, refl, sym, ap}
+use mathlib.Core.Bool.{Bool, false}
+use mathlib.Core.List.{List}
 use mathlib.Core.Logic.{_⊎_, ⊎-elim}
+use Rattle.headers.specs.Rows.{any}
+use Rattle.headers.specs.Block.{Entry, image}
 use Rattle.frames.specs.Grammar.{v1-2}
 use Rattle.frames.specs.Answers.{parsed-says}
 use Rattle.frames.proofs.Readings.{OneFrame, one-frame, not-frame}
-use Rattle.frames.proofs.Decoding.{few-lines, not-complete, decodes-none, Settled, settled}
+use Rattle.frames.proofs.Decoding.{few-lines, not-complete, decodes-none, Settled, settled, ample}
 use Rattle.frames.specs.Layout.{front-lines}
-use Rattle.frames.specs.Decoding.{line-entries}
+use Rattle.frames.specs.Decoding.{line-entries, too-long}
 use borrow.Author.Needs.{needs}
 use Rattle.frames.proofs.decode.decode.Statement.{statement}
 use Rattle.frames.proofs.decode.decode.Tie as tie
@@ -51,35 +55,66 @@ style-of-requires c κs = search needs
 first-line-requires : tie.Need-first-line-requires
 first-line-requires c κs = search needs
 
-measure-requires : tie.Need-measure-requires
-measure-requires c κs = (c .first-line .ensures .0, few-lines (one (c .before .before)))
+-- the entries of its lines, as the code has them
+abbrev entries-of : tie.After-first-line → List Entry
+entries-of c =
+    line-entries (c .before .style-of .result)
+    (front-lines (c .before .before .before .before .before .before .before .item .given .0 .0 .headers) (drop (c .first-line .result) (c .before .before .before .before .before .before .before .before .before .before .before .before .args .frame .now)))
 
--- its entries are measured
-measured : (c : tie.After-measure) →
-    let a = c .before .before .before .before .before .before .before .before .before .before .before .before .before .args in
-    let style = c .before .before .style-of .result in
-    let lines = front-lines (c .before .before .before .before .before .before .before .before .item .given .0 .0 .headers) (drop (c .before .first-line .result) (a .frame .now)) in
-    Settled (a .frame .now) (a .block .now) (line-entries style lines) (c .measure .result .total) (c .measure .result .long)
-measured c =
-    settled (one (c .before .before .before)) (c .before .before .style-of .result) (c .before .first-line .result) (c .before .before .style-of .ensures) (c .before .first-line .ensures .1)
-    (c .before .before .before .before .before .before .before .before .before .before .before .before .before .args .block .now) (c .measure .result .total) (c .measure .result .long) (c .measure .ensures .0) (c .measure .ensures .1)
+-- what is known of them, whatever is measured
+settles : (c : tie.After-first-line) (total : ℕ) (long : Bool) → total ≡ length (image (entries-of c)) → long ≡ any too-long (entries-of c)
+    → let a = c .before .before .before .before .before .before .before .before .before .before .before .before .args in Settled (a .frame .now) (a .block .now) (entries-of c) total long
+settles c = settled (one (c .before .before)) (c .before .style-of .result) (c .first-line .result) (c .before .style-of .ensures) (c .first-line .ensures .1) _
 
-returns-4 : tie.Need-returns-4
-returns-4 c = measured (c .before .before) .short (c .if3 .taken)
-
-returns-5 : tie.Need-returns-5
-returns-5 c = measured (c .before .before .before) .over (c .before .if3 .left) (c .if4 .taken)
+fits : (c : tie.After-first-line) → let a = c .before .before .before .before .before .before .before .before .before .before .before .before .args in 16544 ≤ length (a .block .now)
+    → (length (image (entries-of c)) ≤ length (a .block .now)) × (any too-long (entries-of c) ≡ false)
+fits c =
+    ample (one (c .before .before)) (c .before .style-of .result) (c .first-line .result) (c .before .style-of .ensures) (c .first-line .ensures .1)
+    (c .before .before .before .before .before .before .before .before .before .before .before .before .args .block .now)
 
 put-records-requires : tie.Need-put-records-requires
-put-records-requires c κs =
-    let m = measured (c .before .before .before .before) in
-    (c .before .before .before .before .before .first-line .ensures .0, m .room (c .before .before .if3 .left), m .ok (c .before .if4 .left))
+put-records-requires c κs = let f = fits (c .before .before) (c .before .if3 .taken) in (c .before .before .first-line .ensures .0, f .0, f .1)
 
 same-length : tie.Need-same-length
 same-length c = search needs
 
+returns-4 : tie.Need-returns-4
+returns-4 c =
+    let p = c .before .before in
+    let l = p .before .before .before in
+    let f = fits l (p .before .before .if3 .taken) in
+    settles l (p .put-records .result) false (p .put-records .ensures .0) (sym (f .1)) .whole (omega (arith, f .0, p .put-records .ensures .0)) refl _ (p .put-records .ensures .1)
+
+measure-requires : tie.Need-measure-requires
+measure-requires c κs = (c .before .first-line .ensures .0, few-lines (one (c .before .before .before)))
+
+-- its entries are measured
+measured : (c : tie.After-measure) → let l = c .before .before in
+    let a = l .before .before .before .before .before .before .before .before .before .before .before .before .args in
+    Settled (a .frame .now) (a .block .now) (entries-of l) (c .measure .result .total) (c .measure .result .long)
+measured c = settles (c .before .before) (c .measure .result .total) (c .measure .result .long) (c .measure .ensures .0) (c .measure .ensures .1)
+
+returns-5 : tie.Need-returns-5
+returns-5 c = measured (c .before .before) .short (c .if4 .taken)
+
 returns-6 : tie.Need-returns-6
-returns-6 c = measured (c .before .before .before .before .before .before .before) .whole (c .before .before .before .before .before .if3 .left) (c .before .before .before .before .if4 .left) _ (c .before .before .put-records .ensures)
+returns-6 c = measured (c .before .before .before) .over (c .before .if4 .left) (c .if5 .taken)
+
+put-records-requires-2 : tie.Need-put-records-requires-2
+put-records-requires-2 c κs =
+    let m = c .before .before .before .before in
+    (m .before .before .first-line .ensures .0, measured m .room (c .before .before .if4 .left), measured m .ok (c .before .if5 .left))
+
+same-length-2 : tie.Need-same-length-2
+same-length-2 c = search needs
+
+returns-7 : tie.Need-returns-7
+returns-7 c =
+    let p = c .before .before in
+    let m = p .before .before .before .before .before in
+    let fits = measured m .room (p .before .before .before .if4 .left) in
+    settles (m .before .before) (p .put-records2 .result) (m .measure .result .long) (p .put-records2 .ensures .0) (m .measure .ensures .1) .whole
+    (omega (arith, fits, p .put-records2 .ensures .0)) (p .before .before .if5 .left) _ (p .put-records2 .ensures .1)
 
 pub decode-spec : {M : Type 1} → statement M
 decode-spec =
@@ -92,9 +127,12 @@ decode-spec =
     returns-3
     style-of-requires
     first-line-requires
-    measure-requires
-    returns-4
-    returns-5
     put-records-requires
     same-length
-    returns-6)
+    returns-4
+    measure-requires
+    returns-5
+    returns-6
+    put-records-requires-2
+    same-length-2
+    returns-7)

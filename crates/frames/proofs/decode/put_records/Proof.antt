@@ -126,7 +126,7 @@ returns-2 c =
     let h = c .before .loop in
     let a = c .before .before .before .before .args in
     let none = left-none (a .style) (a .s .now) (a .n) (h .i) (h .at) (c .loop-test .left) in
-    put-whole-done (h .used) (h .block) (a .block .now) _ _ (h .inv .4) (h .inv .2) (ap image none) (h .inv .5) .1
+    put-whole-done (h .used) (h .block) (a .block .now) _ _ (h .inv .4) (h .inv .2) (ap image none) (h .inv .5)
 
 pub put-records-spec : {M : Type 1} → statement M
 put-records-spec =
