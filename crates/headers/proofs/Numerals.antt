@@ -195,6 +195,10 @@ pub length-shortest : (n : ℕ) → length (shortest n) ≡ size n
 unfolding shortest
 length-shortest n = length-digits (size n) n
 
+-- a number of 64 bits has at most twenty digits
+pub shortest-twenty : (n : ℕ) → n < 2 ^ 64 → length (shortest n) ≤ 20
+shortest-twenty n h = omega (arith, length-shortest n, size-least 19 n (omega arith))
+
 -- as many digits as the shortest decimal has are the shortest decimal
 pub digits-shortest : (k n : ℕ) → k ≡ length (shortest n) → digits k n ≡ shortest n
 unfolding shortest

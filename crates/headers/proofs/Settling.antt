@@ -1,6 +1,6 @@
 -- Answers settled by checks in order: laws. Assumes nothing.
 --     refusal, acceptance     what a buffer call owes at its end, from the answer alone
---     decoded-.., record-.., length-.., encoded-.., line-..   which answer the checks of a call settle on
+--     decoded-.., record-.., length-.., encoded-.., line-.., decimal-..   which answer the checks of a call settle on
 use mathlib.Core.Path.{_≡_, refl, ap, _∙_}
 use mathlib.Core.Bool.{Bool, true, false}
 use mathlib.Core.List.{List, [], _∷_, _++_}
@@ -12,9 +12,10 @@ use borrow.Author.Tests.{le-leb, lt-leb, lt-ltb, le-ltb}
 use Rattle.headers.specs.Rows.{empty, every}
 use Rattle.headers.specs.Text.{is-text}
 use Rattle.headers.specs.Escapes.{decode, encode, writable}
+use Rattle.headers.specs.Numbers.{shortest}
 use Rattle.headers.specs.Block.{Entry}
 use Rattle.headers.specs.Lines.{decoded-entry, line-length, are-text, raw-line, written-line, can-write}
-use Rattle.headers.specs.Answers.{Answer, accepted, refused, left-in, written-record, decoded-answer, record-answer, writable-answer, length-answer, encoded-answer, line-answer}
+use Rattle.headers.specs.Answers.{Answer, accepted, refused, left-in, written-record, decoded-answer, record-answer, writable-answer, length-answer, encoded-answer, line-answer, decimal-answer}
 use Rattle.headers.specs.declared.text.Style.{Style}
 use Rattle.headers.specs.declared.text.Field.the-variants.{Name, Value}
 use Rattle.headers.proofs.Rows.{and-no}
@@ -139,3 +140,20 @@ module _ (s : Style) (room : ℕ) (name value : List ℕ) where
         → decoded-answer s room name value ≡ accepted (length (written-record s name value) ∷ [])
     unfolding decoded-answer
     decoded-yes h = rw (enough, le-ltb 512 (line-length (decoded-entry s name value)) (omega arith))
+
+-- ---- a decimal that has room
+
+pub decimal-room : (room n : ℕ) → length (shortest n) ≤ room → decimal-answer room n ≡ accepted (length (shortest n) ∷ [])
+unfolding decimal-answer
+decimal-room room n h = rw (le-ltb room (length (shortest n)) h)
+
+pub decimal-length : (room n k : ℕ) → length (shortest n) ≤ room → accepted (k ∷ []) ≡ decimal-answer room n → k ≡ length (shortest n)
+decimal-length room n k h e = let a = e ∙ decimal-room room n h in cc
+
+pub decimal-never : (room n k : ℕ) → length (shortest n) ≤ room → refused k ≡ decimal-answer room n → ⊥
+decimal-never room n k h e = let a = e ∙ decimal-room room n h in let z : _≡_ {A = ℕ} 0 1 = cc in omega arith
+
+-- what write_decimal leaves then
+pub decimal-put : (d after : List ℕ) (n : ℕ) → length (shortest n) ≤ length d → after ≡ left-in (decimal-answer (length d) n) (shortest n) d
+    → after ≡ shortest n ++ drop (length (shortest n)) d
+decimal-put d after n h w = w ∙ ap (λ z. left-in z (shortest n) d) (decimal-room (length d) n h)

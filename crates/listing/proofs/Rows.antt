@@ -1,8 +1,8 @@
--- Numbers in a row, and decimals that have room: laws. Assumes nothing.
+-- Numbers in a row, and a decimal with an octet behind it: laws. Assumes nothing.
 use mathlib.Core.Path.{_≡_, refl, sym, _∙_, ap}
 use mathlib.Core.Bool.{Bool, true, false, cond}
 use mathlib.Core.List.{List, [], _∷_, _++_, append-assoc, append-nil}
-use Prim.Native.Nat.{ℕ, suc, _+_, _-_, _^_, _≤_, _<_}
+use Prim.Native.Nat.{ℕ, suc, _+_, _-_, _≤_, _<_}
 use native.Mathlib.Omega.{arith}
 use native.Mathlib.Numerals.{add-one}
 use lib.ListN.{length, take, drop, getD, set, drop-of-length-le, length-drop, length-take, length-append}
@@ -10,21 +10,13 @@ use lib.Seq.{drop-cons, length-take-le, take-suc, getD-append-add, getD-drop}
 use lib.Dec.{ltb}
 use borrow.Author.Tests.{lt-ltb, le-ltb, ltb-true, ltb-false}
 use Rattle.headers.specs.Numbers.{shortest}
-use Rattle.headers.specs.Answers.{accepted, refused, left-in, decimal-answer}
+use Rattle.headers.specs.Answers.{left-in, decimal-answer}
 use borrow.Rule.Slice.PartMut.{midOf, putMid}
 use Rattle.headers.proofs.Put.{store-grow, put-grow}
-use Rattle.headers.proofs.Numerals.{length-shortest, size-least}
+use Rattle.headers.proofs.Settling.{decimal-put}
 use Rattle.headers.proofs.Rows.{cond-case}
 use Rattle.listing.specs.Streams.{moved}
 use Rattle.listing.specs.Lines.{numbers, behind-at, line-used, line-left}
-
--- a number of 64 bits has at most twenty digits
-pub shortest-twenty : (n : ℕ) → n < 2 ^ 64 → length (shortest n) ≤ 20
-shortest-twenty n h = omega (arith, length-shortest n, size-least 19 n (omega arith))
-
-pub decimal-room : (room n : ℕ) → length (shortest n) ≤ room → decimal-answer room n ≡ accepted (length (shortest n) ∷ [])
-unfolding decimal-answer
-decimal-room room n h = rw (le-ltb room (length (shortest n)) h)
 
 -- a row of numbers, one number on
 numbers-cons : (n : ℕ) (ms : List ℕ) → numbers (n ∷ ms) ≡ (shortest n ++ (cond (ltb 0 (length ms)) 32 10 ∷ [])) ++ numbers ms
@@ -45,19 +37,10 @@ pub numbers-end : (ns : List ℕ) (i : ℕ) → length ns ≤ i → numbers (dro
 numbers-end ns i h = rw (drop-of-length-le ns h)
 
 -- what write_decimal leaves where a decimal has room, and a store behind it
-module _ (d d′ : List ℕ) (n : ℕ) (fits : length (shortest n) < length d) (w : d′ ≡ left-in (decimal-answer (length d) n) (shortest n) d) where
-  pub decimal-left : d′ ≡ shortest n ++ drop (length (shortest n)) d
-  decimal-left = w ∙ ap (λ z. left-in z (shortest n) d) (decimal-room (length d) n (omega arith))
-
-  pub decimal-behind : (k x : ℕ) → k ≡ length (shortest n) → set d′ k x ≡ (shortest n ++ (x ∷ [])) ++ drop (k + 1) d
-  decimal-behind k x e = store-grow d d′ (shortest n) k x (decimal-left ∙ ap (λ z. shortest n ++ drop z d) (sym e)) (sym e) (omega arith)
-
--- its answer then
-pub decimal-length : (room n k : ℕ) → length (shortest n) ≤ room → accepted (k ∷ []) ≡ decimal-answer room n → k ≡ length (shortest n)
-decimal-length room n k h e = let a = e ∙ decimal-room room n h in cc
-
-pub decimal-never : (room n k : ℕ) → length (shortest n) ≤ room → refused k ≡ decimal-answer room n → ⊥
-decimal-never room n k h e = let a = e ∙ decimal-room room n h in let z : _≡_ {A = ℕ} 0 1 = cc in omega arith
+pub decimal-behind : (d d′ : List ℕ) (n : ℕ) → length (shortest n) < length d → d′ ≡ left-in (decimal-answer (length d) n) (shortest n) d
+    → (k x : ℕ) → k ≡ length (shortest n) → set d′ k x ≡ (shortest n ++ (x ∷ [])) ++ drop (k + 1) d
+decimal-behind d d′ n fits w k x e =
+    store-grow d d′ (shortest n) k x (decimal-put d d′ n (omega arith) w ∙ ap (λ z. shortest n ++ drop z d) (sym e)) (sym e) (omega arith)
 
 -- S written at the front of d, and R by a callee behind it
 pub put-both : (d l ys S R : List ℕ) (k r : ℕ) → k ≡ length S → r ≡ length R → l ≡ S ++ drop k d → length ys ≡ length (midOf k (length l - k) l) → k ≤ length d
