@@ -25,10 +25,11 @@ pub mod Running
 pub mod Passing
 pub mod Named
 pub mod Heads
-pub mod Packed
 pub mod Readings
 pub mod Decoding
 pub mod Images
 pub mod Rewriting
 pub mod RoundTrips
 pub mod Writing
+pub mod Putting
+pub mod Packed

@@ -178,3 +178,29 @@ fn settle(command: u32, block: &[u8], length: Declared, body: &[u8], room: usize
     }
     Encoded::Length(total)
 }
+
+// The octets of a frame at the front of the target. Every refusal is settled before the first octet is written.
+pub fn encode(command: u32, block: &[u8], body: &[u8], target: &mut [u8]) -> Encoded
+    ensures { λ r. ⌜
+        (encoded-says r ≡ indexed
+        (encode-answer v1-2 (record { command = command; block = now (block .entry); body = now (body .entry) }) (length (now (target .entry))))
+        (encode-index v1-2 (record { command = command; block = now (block .entry); body = now (body .entry) })))
+        × (now (target .exit) ≡ left-in
+        (encode-answer v1-2 (record { command = command; block = now (block .entry); body = now (body .entry) }) (length (now (target .entry))))
+        (encode-image v1-2 (record { command = command; block = now (block .entry); body = now (body .entry) }))
+        (now (target .entry)))
+        ⌝ }
+{
+    let length = declared_length(block);
+    let answer = settle(command, block, length, body, target.len());
+    if let Encoded::Length(n) = answer {
+        crate::put::put_frame(
+            target,
+            command,
+            block,
+            adds_length(length, body.len()),
+            body,
+        );
+    }
+    answer
+}

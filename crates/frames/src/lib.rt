@@ -8,5 +8,6 @@ mod run; // a row of octets
 pub mod parse; // the reply
 mod layout; // where the parts of a head stand
 pub mod decode; // a frame's entries as a header block
+mod put; // a frame's parts, written
 pub mod encode; // a frame's octets from its parts
 mod exports; // calls for C

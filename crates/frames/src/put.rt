@@ -1,0 +1,129 @@
+// The octets of a frame, written part by part: each part at the front of what is left of the target.
+ghost use mathlib.Core.Path.{_≡_};
+ghost use mathlib.Core.Bool.{true};
+ghost use mathlib.Core.List.{[], _∷_, _++_};
+ghost use Prim.Native.Nat.{_+_, _≤_, _<_};
+ghost use lib.ListN.{length, drop};
+ghost use Rattle.headers.specs.Block.{entries};
+ghost use Rattle.headers.specs.Answers.{is-block};
+ghost use Rattle.frames.specs.Scanning.{word-of};
+ghost use Rattle.frames.specs.Encoding.{written-lines};
+ghost use Rattle.frames.specs.Writing.{listed, length-octets, added-octets, image-of};
+use headers::DecimalWritten;
+use headers::EntryAt;
+use headers::LineWritten;
+use headers::Style;
+
+// The word of a command and a line end.
+fn put_word(d: &mut [u8], command: u32) -> usize
+    requires { ⌜ (command ≤ 15) × (length (word-of command) < length (now d)) ⌝ }
+    ensures { λ r. ⌜
+        (r ≡ length (word-of command) + 1)
+        × (now (d .exit) ≡ (word-of command ++ (10 ∷ [])) ++ drop (length (word-of command) + 1) (now (d .entry)))
+        ⌝ }
+{
+    let n = crate::valid::word_len(command);
+    let mut i = 0usize;
+    while i < n {
+        d[i] = crate::word::letter(command, i);
+        i += 1;
+    }
+    d[n] = 10;
+    n + 1
+}
+
+// The lines of the entries of a block.
+fn put_lines(d: &mut [u8], block: &[u8], style: Style) -> usize
+    requires { ⌜ (is-block (now block) ≡ true) × (length (written-lines style (listed (entries (now block)))) ≤ length (now d)) ⌝ }
+    ensures { λ r. ⌜
+        (r ≡ length (written-lines style (listed (entries (now (block .entry))))))
+        × (now (d .exit) ≡ written-lines style (listed (entries (now (block .entry))))
+        ++ drop (length (written-lines style (listed (entries (now (block .entry)))))) (now (d .entry)))
+        ⌝ }
+{
+    let mut used = 0usize;
+    let mut at = 0usize;
+    loop {
+        let EntryAt::Entry(l) = headers::entry_at(block, at) else {
+            return used;
+        };
+        let from = at + 6;
+        let mid = from + l.name;
+        let next = mid + l.value;
+        let LineWritten::Length(k) = headers::write_encoded(
+            &mut d[used..],
+            &block[from..mid],
+            &block[mid..next],
+            style,
+        ) else {
+            return used;
+        };
+        used += k;
+        at = next;
+    }
+}
+
+// The line that says a body's length.
+fn put_length(d: &mut [u8], body: usize, style: Style) -> usize
+    requires { ⌜ length (length-octets style body) ≤ length (now d) ⌝ }
+    ensures { λ r. ⌜
+        (r ≡ length (length-octets style body))
+        × (now (d .exit) ≡ length-octets style body ++ drop (length (length-octets style body)) (now (d .entry)))
+        ⌝ }
+{
+    let mut digits = [0u8; 20];
+    let DecimalWritten::Length(k) = headers::write_decimal(&mut digits, body as u64) else {
+        return 0;
+    };
+    let LineWritten::Length(n) = headers::write_encoded(d, b"content-length", &digits[0..k], style)
+    else {
+        return 0;
+    };
+    n
+}
+
+// The same where it is added, and nothing where it is not.
+fn put_added(d: &mut [u8], adds: bool, body: usize, style: Style) -> usize
+    requires { ⌜ length (added-octets style adds body) ≤ length (now d) ⌝ }
+    ensures { λ r. ⌜
+        (r ≡ length (added-octets style adds body))
+        × (now (d .exit) ≡ added-octets style adds body ++ drop (length (added-octets style adds body)) (now (d .entry)))
+        ⌝ }
+{
+    if adds {
+        return put_length(d, body, style);
+    }
+    0
+}
+
+// A body and octet 0.
+fn put_body(d: &mut [u8], body: &[u8])
+    requires { ⌜ length (now body) < length (now d) ⌝ }
+    ensures { λ _. ⌜ now (d .exit) ≡ (now (body .entry) ++ (0 ∷ [])) ++ drop (length (now (body .entry)) + 1) (now (d .entry)) ⌝ }
+{
+    let mut i = 0usize;
+    while i < body.len() {
+        d[i] = body[i];
+        i += 1;
+    }
+    d[i] = 0;
+}
+
+// A whole frame.
+pub(crate) fn put_frame(d: &mut [u8], command: u32, block: &[u8], adds: bool, body: &[u8])
+    requires { ⌜
+        (command ≤ 15)
+        × (is-block (now block) ≡ true)
+        × (length (image-of command (listed (entries (now block))) adds (now body)) ≤ length (now d))
+        ⌝ }
+    ensures { λ _. ⌜ now (d .exit) ≡ image-of command (listed (entries (now (block .entry)))) adds (now (body .entry))
+        ++ drop (length (image-of command (listed (entries (now (block .entry)))) adds (now (body .entry)))) (now (d .entry)) ⌝ }
+{
+    let style = crate::scan::style_of(command);
+    let mut at = put_word(d, command);
+    at += put_lines(&mut d[at..], block, style);
+    at += put_added(&mut d[at..], adds, body.len(), style);
+    d[at] = 10;
+    let next = at + 1;
+    put_body(&mut d[next..], body);
+}
