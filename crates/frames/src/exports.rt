@@ -3,10 +3,13 @@ ghost use mathlib.Core.Path.{_≡_};
 ghost use Prim.Native.Nat.{_<_};
 ghost use Rattle.frames.specs.Grammar.{v1-2};
 ghost use Rattle.frames.specs.Parsing.{parsed};
-ghost use Rattle.headers.specs.Answers.{find-answer};
-ghost use Rattle.frames.specs.Answers.{parsed-says, packed, unpacked, SmallFrame, packed-decode, unpacked-decode, packed-find, unpacked-find};
+ghost use lib.ListN.{length};
+ghost use Rattle.headers.specs.Answers.{find-answer, left-in};
+ghost use Rattle.frames.specs.Answers.{parsed-says, packed, unpacked, SmallFrame, packed-decode, unpacked-decode, packed-encode, unpacked-encode, packed-find, unpacked-find};
 ghost use Rattle.frames.specs.Decoding.{Decodes};
+ghost use Rattle.frames.specs.Encoding.{encode-answer, encode-image, encode-index, indexed};
 use crate::decode::Decoded;
+use crate::encode::Encoded;
 use crate::parse::Item;
 use crate::parse::Parsed;
 use crate::parse::Refusal;
@@ -76,5 +79,31 @@ pub extern "C" fn stomp_decode(frame: &[u8], block: &mut [u8]) -> u64
         Decoded::NotFrame => 65536 * 20,
         Decoded::TooShort => 65536 * 21,
         Decoded::TooLong => 65536 * 23,
+    }
+}
+
+// What encode answers, in one number; it reads back, and the target is as encode leaves it.
+#[no_mangle]
+pub extern "C" fn stomp_encode(command: u32, block: &[u8], body: &[u8], target: &mut [u8]) -> u64
+    ensures { λ r. ⌜
+        (unpacked-encode r ≡ indexed
+        (encode-answer v1-2 (record { command = command; block = now (block .entry); body = now (body .entry) }) (length (now (target .entry))))
+        (encode-index v1-2 (record { command = command; block = now (block .entry); body = now (body .entry) })))
+        × (r ≡ packed-encode (unpacked-encode r))
+        × (now (target .exit) ≡ left-in
+        (encode-answer v1-2 (record { command = command; block = now (block .entry); body = now (body .entry) }) (length (now (target .entry))))
+        (encode-image v1-2 (record { command = command; block = now (block .entry); body = now (body .entry) }))
+        (now (target .entry)))
+        ⌝ }
+{
+    match crate::encode::encode(command, block, body, target) {
+        Encoded::Length(n) => n as u64,
+        Encoded::UnknownCommand => 65536 * 50,
+        Encoded::Malformed => 65536 * 51,
+        Encoded::TooManyLines => 65536 * 52,
+        Encoded::Unwritable(i) => 65536 * 53 + (i as u64),
+        Encoded::BadBody => 65536 * 54,
+        Encoded::WrongLength => 65536 * 55,
+        Encoded::TooShort => 65536 * 56,
     }
 }

@@ -1,0 +1,176 @@
+-- `exports::stomp_encode` meets its contract: each answer packed, and read back.
+use Prim.Native.Nat.{ℕ, _<_}
+use native.Mathlib.Omega.{arith}
+use lib.ListN.{length}
+use mathlib.Core.Path.{_≡_, refl, sym, _∙_, ap}
+use Rattle.frames.specs.Encoding.{Call, image-length, refusal}
+use Rattle.frames.specs.Answers.{encoded-says}
+use Rattle.frames.specs.declared.encode.Encoded.{Encoded}
+use Rattle.frames.proofs.Writing.{says-of, octets-each}
+use Rattle.frames.proofs.Packed.{length-back, refusal-back, encode-small, index-small}
+use borrow.Author.Needs.{needs}
+use Rattle.frames.proofs.exports.stomp_encode.Statement.{statement}
+use Rattle.frames.proofs.exports.stomp_encode.Tie as tie
+
+-- the call, and what encode's answer says of it
+abbrev call : tie.After-encode → Call
+call c = let a = c .before .before .before .before .before .args in record { command = a .command; block = a .block .now; body = a .body .now }
+
+abbrev room : tie.After-encode → ℕ
+room c = length (c .before .before .before .before .before .args .target .now)
+
+told : (c : tie.After-encode) (f : Encoded) → c .encode .result ≡ f → encoded-says f ≡ says-of (call c) (room c)
+told c f e = ap encoded-says (sym e) ∙ c .encode .ensures .0
+
+-- a length and an index are small
+length-small : (c : tie.After-encode) (n : ℕ) → c .encode .result ≡ Encoded.Length n → n < 65536
+length-small c n e =
+    let s = c .before .before .before in
+    encode-small (call c) (room c) n (octets-each (call c .block) (λ i. omega (arith, s .before .shared-slice-known .given i)))
+    (octets-each (call c .body) (λ i. omega (arith, s .shared-slice-known2 .given i))) (told c (Encoded.Length n) e)
+
+place-small : (c : tie.After-encode) (i : ℕ) → c .encode .result ≡ Encoded.Unwritable i → i < 65536
+place-small c i e = index-small (call c) (room c) i (told c (Encoded.Unwritable i) e)
+
+encode-requires : tie.Need-encode-requires
+encode-requires c κs = search needs
+
+enum-known-n : tie.Need-enum-known-n
+enum-known-n c = search needs
+
+enum-told : tie.Need-enum-told
+enum-told c = search needs
+
+mul-result : tie.Need-mul-result
+mul-result c = search needs
+
+enum-told-2 : tie.Need-enum-told-2
+enum-told-2 c = search needs
+
+mul-result-2 : tie.Need-mul-result-2
+mul-result-2 c = search needs
+
+enum-told-3 : tie.Need-enum-told-3
+enum-told-3 c = search needs
+
+mul-result-3 : tie.Need-mul-result-3
+mul-result-3 c = search needs
+
+enum-known-i : tie.Need-enum-known-i
+enum-known-i c = search needs
+
+mul-result-4 : tie.Need-mul-result-4
+mul-result-4 c = search needs
+
+add-result : tie.Need-add-result
+add-result c = let s = place-small (c .before .before .before .before .before) _ (c .before .i .given .1) in search needs
+
+enum-told-4 : tie.Need-enum-told-4
+enum-told-4 c = search needs
+
+mul-result-5 : tie.Need-mul-result-5
+mul-result-5 c = search needs
+
+enum-told-5 : tie.Need-enum-told-5
+enum-told-5 c = search needs
+
+mul-result-6 : tie.Need-mul-result-6
+mul-result-6 c = search needs
+
+enum-told-6 : tie.Need-enum-told-6
+enum-told-6 c = search needs
+
+mul-result-7 : tie.Need-mul-result-7
+mul-result-7 c = search needs
+
+same-length : tie.Need-same-length
+same-length c = search needs
+
+returns : tie.Need-returns
+returns c =
+    let s = c .before .before .before .before .before in
+    let e = c .before .n .given .1 in
+    rw (length-back _ (length-small s _ e)) (told s _ e, refl, s .encode .ensures .1)
+
+same-length-2 : tie.Need-same-length-2
+same-length-2 c = search needs
+
+returns-2 : tie.Need-returns-2
+returns-2 c = let s = c .before .before .before .before in (told s _ (c .enum-told .given .1), refl, s .encode .ensures .1)
+
+same-length-3 : tie.Need-same-length-3
+same-length-3 c = search needs
+
+returns-3 : tie.Need-returns-3
+returns-3 c = let s = c .before .before .before .before in (told s _ (c .enum-told2 .given .1), refl, s .encode .ensures .1)
+
+same-length-4 : tie.Need-same-length-4
+same-length-4 c = search needs
+
+returns-4 : tie.Need-returns-4
+returns-4 c = let s = c .before .before .before .before in (told s _ (c .enum-told3 .given .1), refl, s .encode .ensures .1)
+
+same-length-5 : tie.Need-same-length-5
+same-length-5 c = search needs
+
+returns-5 : tie.Need-returns-5
+returns-5 c =
+    let s = c .before .before .before .before .before in
+    let e = c .before .i .given .1 in
+    rw (refusal-back 53 _ (omega arith) (place-small s _ e)) (told s _ e, refl, s .encode .ensures .1)
+
+same-length-6 : tie.Need-same-length-6
+same-length-6 c = search needs
+
+returns-6 : tie.Need-returns-6
+returns-6 c = let s = c .before .before .before .before in (told s _ (c .enum-told4 .given .1), refl, s .encode .ensures .1)
+
+same-length-7 : tie.Need-same-length-7
+same-length-7 c = search needs
+
+returns-7 : tie.Need-returns-7
+returns-7 c = let s = c .before .before .before .before in (told s _ (c .enum-told5 .given .1), refl, s .encode .ensures .1)
+
+same-length-8 : tie.Need-same-length-8
+same-length-8 c = search needs
+
+returns-8 : tie.Need-returns-8
+returns-8 c = let s = c .before .before .before .before in (told s _ (c .enum-told6 .given .1), refl, s .encode .ensures .1)
+
+pub stomp-encode-spec : {M : Type 1} → statement M
+stomp-encode-spec =
+    tie.close
+    (tie.spec
+    encode-requires
+    enum-known-n
+    enum-told
+    mul-result
+    enum-told-2
+    mul-result-2
+    enum-told-3
+    mul-result-3
+    enum-known-i
+    mul-result-4
+    add-result
+    enum-told-4
+    mul-result-5
+    enum-told-5
+    mul-result-6
+    enum-told-6
+    mul-result-7
+    same-length
+    returns
+    same-length-2
+    returns-2
+    same-length-3
+    returns-3
+    same-length-4
+    returns-4
+    same-length-5
+    returns-5
+    same-length-6
+    returns-6
+    same-length-7
+    returns-7
+    same-length-8
+    returns-8)
