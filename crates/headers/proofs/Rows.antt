@@ -1,5 +1,5 @@
 -- Laws of choices by a test, and of rows. Assumes nothing.
-use mathlib.Core.Path.{_≡_, refl, sym, ap₂}
+use mathlib.Core.Path.{_≡_, refl, sym, ap, ap₂}
 use mathlib.Core.Logic.{_≢_}
 use mathlib.Core.Bool.{Bool, true, false, cond, _&&_, _||_, not}
 use mathlib.Core.List.{List, [], _∷_, _++_}
@@ -191,3 +191,13 @@ begins-front (x ∷ xs) w = rw (eq-eqb x x refl) (begins-front xs w)
 -- a row that begins another is its front
 pub front-of : (xs ys : List ℕ) → begins xs ys ≡ true → take (length xs) ys ≡ xs
 front-of xs ys h = let (w, e) = begins-rest xs ys h in rw e (take-at xs w (length xs) refl)
+
+-- what a test says of the numbers below n, computed at once; two tests that say the same agree at each of them
+abbrev pub listed : (ℕ → Bool) → ℕ → List Bool
+listed f zero = []
+listed f (suc n) = f 0 ∷ listed (λ i. f (suc i)) n
+
+pub alike : (f g : ℕ → Bool) (n k : ℕ) → listed f n ≡ listed g n → k < n → f k ≡ g k
+alike f g zero k e h = absurd (omega arith)
+alike f g (suc n) zero e h = ap (λ l. getD l 0 true) e
+alike f g (suc n) (suc k) e h = alike (λ i. f (suc i)) (λ i. g (suc i)) n k (ap (drop 1) e) (omega arith)

@@ -57,11 +57,13 @@ fn meaning_of(style: Style, x: u8) -> u8
     x
 }
 
-// Whether the octet is written as an escape.
+// Whether the octet is written as an escape, by one comparison: bits 2 and 4 tell 10, 13, 58 and 92 apart, and say where in a word
+// each of them is.
 fn is_escaped(style: Style, x: u8) -> bool
     ensures { λ r. ⌜ r ≡ escaped style x ⌝ }
 {
-    style.escapes & ((x == 13) | ((x == 10) | ((x == 58) | (x == 92))))
+    let n = x as u64;
+    style.escapes & (n == (0x5c3a00000d0a >> (2 * (n & 20))) & 255)
 }
 
 // The letter of an octet that is written as an escape.
