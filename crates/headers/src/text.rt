@@ -66,20 +66,13 @@ fn is_escaped(style: Style, x: u8) -> bool
     style.escapes & (n == (0x5c3a00000d0a >> (2 * (n & 20))) & 255)
 }
 
-// The letter of an octet that is written as an escape.
+// The letter of an octet that is written as an escape: without branches, which would often be mispredicted.
 fn letter_for(style: Style, x: u8) -> u8
     ensures { λ r. ⌜ r ≡ letter-of style x ⌝ }
 {
-    if x == 13 {
-        return 114;
-    }
-    if x == 10 {
-        return 110;
-    }
-    if x == 58 {
-        return 99;
-    }
-    x
+    let colon: u8 = if x == 58 { 99 } else { x };
+    let newline: u8 = if x == 10 { 110 } else { colon };
+    if x == 13 { 114 } else { newline }
 }
 
 // Whether the octet goes on with text whose last octet is a pending backslash, or is not.
@@ -228,11 +221,11 @@ pub(crate) fn put_encoded(d: &mut [u8], text: &[u8], style: Style) -> usize
     n
 }
 
-// Whether the octet can be written in this field.
+// Whether the octet can be written in this field: where there are escapes, every octet that is a stop has one.
 pub(crate) fn can_write(style: Style, field: Field, x: u8) -> bool
     ensures { λ r. ⌜ r ≡ writable style field x ⌝ }
 {
-    is_escaped(style, x) | !is_stop(style, field, x)
+    style.escapes | !is_stop(style, field, x)
 }
 
 // Whether each octet of the text can be written in this field.
