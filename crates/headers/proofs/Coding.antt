@@ -10,9 +10,10 @@ use mathlib.Core.Bool.{Bool, true, false, cond, _&&_, not}
 use mathlib.Core.List.{List, [], _∷_, _++_}
 use Prim.Native.Nat.{ℕ, suc, _+_, _*_, _/_, _≤_, _<_}
 use native.Mathlib.Omega.{arith}
+use native.Mathlib.Nat.{add-zero}
 use native.Mathlib.Numerals.{add-one}
 use lib.ListN.{length, drop, getD, length-append, length-drop, drop-of-length-le}
-use lib.Seq.{drop-cons, drop-drop}
+use lib.Seq.{drop-cons, drop-drop, getD-drop}
 use lib.Dec.{eqb, leb}
 use borrow.Author.Tests.{eqb-true, not-true, leb-true, le-leb}
 use Rattle.headers.specs.Rows.{every}
@@ -82,6 +83,13 @@ no-escape s x (y ∷ ys) h = rw h
 module _ (s : Style) (xs : List ℕ) (i : ℕ) (h : i < length xs) where
   pub escape-shut : opens s (getD xs i 0) ≡ false → at-escape s (drop i xs) ≡ false
   escape-shut k = rw (drop-cons xs i 0) (no-escape s (getD xs i 0) (drop (suc i) xs) k)
+
+  -- there, one octet is decoded as itself
+  pub plain-octet : opens s (getD xs i 0) ≡ false → octet-at s (drop i xs) ≡ getD xs i 0
+  plain-octet k = simp (escape-shut k, getD-drop, add-zero)
+
+  pub plain-width : opens s (getD xs i 0) ≡ false → width s (drop i xs) ≡ 1
+  plain-width k = rw (escape-shut k)
 
   pub escape-cut : length xs ≤ i + 1 → at-escape s (drop i xs) ≡ false
   escape-cut k = rw (drop-cons xs i 0, drop-of-length-le xs {i = suc i} (omega arith))

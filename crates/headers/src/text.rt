@@ -160,8 +160,14 @@ pub(crate) fn put_decoded(d: &mut [u8], raw: &[u8], style: Style) -> usize
     let mut n = 0usize;
     let mut i = 0usize;
     while i < raw.len() {
-        d[n] = decoded_at(raw, style, i);
-        i += width_at(raw, style, i);
+        let x = raw[i];
+        if is_open(style, x) {
+            d[n] = decoded_at(raw, style, i);
+            i += width_at(raw, style, i);
+        } else {
+            d[n] = x;
+            i += 1;
+        }
         n += 1;
     }
     n
