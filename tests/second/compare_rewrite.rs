@@ -76,16 +76,12 @@ pub fn compare(program: &str, count: usize, seed: u64) -> io::Result<bool> {
     Ok(true)
 }
 
-/// Whether standard output and standard error are equal, and both statuses 0 or both another.
+/// Whether standard output and standard error are equal, and the program came to its end. Its status
+/// is 0 in any case: standard error tells.
 fn alike(rewritten: &Rewritten, ran: &Ran) -> bool {
     ran.output == rewritten.octets
         && ran.errors == rewrite::complaint(rewritten).as_bytes()
-        && status_alike(rewritten, ran)
-}
-
-fn status_alike(rewritten: &Rewritten, ran: &Ran) -> bool {
-    let whole = rewritten.stop == Stop::End;
-    ran.status.is_some_and(|status| (status == 0) == whole)
+        && ran.status == Some(0)
 }
 
 /// Keeps the stream in a file and prints what differs.
@@ -96,7 +92,7 @@ fn report(name: &str, stream: &[u8], rewritten: &Rewritten, ran: &Ran) -> io::Re
     let complaint = rewrite::complaint(rewritten);
     program::print_difference("standard error", complaint.as_bytes(), &ran.errors);
     match ran.status {
-        Some(status) if !status_alike(rewritten, ran) => {
+        Some(status) if status != 0 => {
             println!("the compared program's status is {status}");
         }
         status => program::print_signal(status),
