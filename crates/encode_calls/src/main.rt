@@ -1,0 +1,130 @@
+// Calls of encode, read from standard input, each as four numbers of four octets, high first, and then the block and the body. For each
+// call the answer, as stomp_encode gives it, in decimal, and the target, which held octet 170 everywhere; a line end behind each.
+ghost use mathlib.Core.Path.{_≡_};
+ghost use Prim.Native.Nat.{_≤_, _<_};
+ghost use lib.ListN.{length};
+use frames::encode::Encoded;
+use libc::STDIN_FILENO;
+use libc::STDOUT_FILENO;
+
+// The four numbers: command, lengths of block, body and target.
+struct Call {
+    command: u32,
+    block: usize,
+    body: usize,
+    target: usize,
+}
+
+// An octet as a wider number.
+fn wide(x: u8) -> u32
+    ensures { λ r. ⌜ r < 256 ⌝ }
+{
+    x as u32
+}
+
+// The number of four octets at i, high first.
+fn number_at(head: &[u8; 16], i: usize) -> u32
+    requires { ⌜ i < 13 ⌝ }
+{
+    let high = wide(head[i]) * 256 + wide(head[i + 1]);
+    let low = wide(head[i + 2]) * 256 + wide(head[i + 3]);
+    high * 65536 + low
+}
+
+// A length, at most that of a buffer.
+fn at_most(n: u32) -> usize
+    ensures { λ r. ⌜ r ≤ 65536 ⌝ }
+{
+    if 65536 < n {
+        return 65536;
+    }
+    n as usize
+}
+
+fn call_of(head: &[u8; 16]) -> Call
+    ensures { λ r. ⌜ (r .block ≤ 65536) × (r .body ≤ 65536) × (r .target ≤ 65536) ⌝ }
+{
+    Call {
+        command: number_at(head, 0),
+        block: at_most(number_at(head, 4)),
+        body: at_most(number_at(head, 8)),
+        target: at_most(number_at(head, 12)),
+    }
+}
+
+// The answer in one number.
+fn packed(answer: Encoded) -> u64 {
+    match answer {
+        Encoded::Length(n) => n as u64,
+        Encoded::UnknownCommand => 65536 * 50,
+        Encoded::Malformed => 65536 * 51,
+        Encoded::TooManyLines => 65536 * 52,
+        Encoded::Unwritable(i) => 65536 * 53 + (i as u64) % 65536,
+        Encoded::BadBody => 65536 * 54,
+        Encoded::WrongLength => 65536 * 55,
+        Encoded::TooShort => 65536 * 56,
+    }
+}
+
+// Octet 170 everywhere.
+fn fill(d: &mut [u8])
+    ensures { λ _. ⌜ length (now (d .exit)) ≡ length (now (d .entry)) ⌝ }
+{
+    let mut i = 0usize;
+    while i < d.len() {
+        d[i] = 170;
+        i += 1;
+    }
+}
+
+// One call and what it gives.
+fn answer(c: Call, block: &[u8], body: &[u8], target: &mut [u8]) {
+    fill(target);
+    let a = packed(frames::encode::encode(c.command, block, body, target));
+    io::print_decimal(STDOUT_FILENO, a);
+    io::write_all(STDOUT_FILENO, b"\n");
+    io::write_all(STDOUT_FILENO, target);
+    io::write_all(STDOUT_FILENO, b"\n");
+}
+
+// n octets at the front of a buffer: whether there were as many.
+fn read_front(buf: &mut [u8], n: usize) -> bool
+    requires { ⌜ n ≤ length (now buf) ⌝ }
+    ensures { λ _. ⌜ length (now (buf .exit)) ≡ length (now (buf .entry)) ⌝ }
+{
+    io::read_full(STDIN_FILENO, &mut buf[0..n]) == n
+}
+
+// Reads a call and answers it: whether it was whole.
+fn one_call(head: &[u8; 16]) -> bool {
+    let c = call_of(head);
+    let mut block = io::large_buffer();
+    let mut body = io::large_buffer();
+    let mut target = io::large_buffer();
+    let n = c.block;
+    let m = c.body;
+    let t = c.target;
+    if !read_front(&mut block, n) {
+        return false;
+    }
+    if !read_front(&mut body, m) {
+        return false;
+    }
+    answer(c, &block[0..n], &body[0..m], &mut target[0..t]);
+    true
+}
+
+fn main() {
+    let mut calls = u64::MAX;
+    while calls > 0 {
+        let mut head = [0u8; 16];
+        if io::read_full(STDIN_FILENO, &mut head) < 16 {
+            return;
+        }
+        if !one_call(&head) {
+            io::write_all(libc::STDERR_FILENO, b"encode_calls: a call is cut\n");
+            return;
+        }
+        calls -= 1;
+    }
+}
