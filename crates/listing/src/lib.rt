@@ -1,3 +1,4 @@
-// The listing of a stream, for programs: a line for each item.
-pub mod line; // one line
-pub mod stream; // a whole stream
+// Streams, for programs: listed, a line for each item, or rewritten.
+pub mod line; // one line of a listing
+pub mod stream; // a whole stream, listed
+pub mod rewrite; // a whole stream, decoded and encoded again

@@ -74,7 +74,7 @@ fn fill(fd: i32, buf: &mut [u8], from: usize) -> Filled
 }
 
 // More octets to list.
-fn refill(fd: i32, buf: &mut [u8], p: Progress) -> Progress
+pub(crate) fn refill(fd: i32, buf: &mut [u8], p: Progress) -> Progress
     requires { ⌜ (p .lo ≤ p .hi) × (p .hi ≤ length (now buf)) ⌝ }
     ensures { λ r. ⌜
         (r .lo ≡ 0) × (r .hi ≤ length (now (buf .entry))) × (r .used ≡ p .used)
@@ -95,7 +95,7 @@ fn refill(fd: i32, buf: &mut [u8], p: Progress) -> Progress
 }
 
 // The lines laid out are written.
-fn flush(out: &[u8], p: Progress) -> Progress
+pub(crate) fn flush(out: &[u8], p: Progress) -> Progress
     requires { ⌜ p .used ≤ length (now out) ⌝ }
     ensures { λ r. ⌜ (r .lo ≡ p .lo) × (r .hi ≡ p .hi) × (r .used ≡ 0) ⌝ }
 {
@@ -120,7 +120,7 @@ fn lesser(a: u64, b: u64) -> u64
 }
 
 // A line of k octets is laid out, for n octets of the stream. Behind the largest position there is none, and counting fails.
-fn advance(p: Progress, n: usize, k: usize, last: bool) -> Progress
+pub(crate) fn advance(p: Progress, n: usize, k: usize, last: bool) -> Progress
     requires { ⌜ (p .lo + n ≤ p .hi) × (p .used + k < 18446744073709551616) ⌝ }
     ensures { λ r. ⌜ (r .lo ≡ p .lo + n) × (r .hi ≡ p .hi) × (r .used ≡ p .used + k) ⌝ }
 {
@@ -155,7 +155,7 @@ fn is_complete(reply: Parsed) -> bool {
     }
 }
 
-fn is_incomplete(reply: Parsed) -> bool {
+pub(crate) fn is_incomplete(reply: Parsed) -> bool {
     match reply {
         Parsed::Incomplete => true,
         _ => false,
@@ -163,7 +163,7 @@ fn is_incomplete(reply: Parsed) -> bool {
 }
 
 // The reply to the octets from lo to hi.
-fn reply_to(buf: &[u8], lo: usize, hi: usize) -> Parsed
+pub(crate) fn reply_to(buf: &[u8], lo: usize, hi: usize) -> Parsed
     requires { ⌜ (lo ≤ hi) × (hi ≤ length (now buf)) ⌝ }
     ensures { λ r. ⌜
         (parsed-says r ≡ parsed v1-2 (take (hi - lo) (drop lo (now (buf .entry)))))
@@ -201,9 +201,11 @@ fn turn(fd: i32, buf: &mut [u8], out: &mut [u8], p: Progress) -> Progress
     advance(p, used_of(reply), k, !is_complete(reply))
 }
 
-// Lists the octets of fd on standard output, with two buffers: whether the last line is written.
-fn list_in(fd: i32, buf: &mut [u8], out: &mut [u8]) -> bool {
-    let mut p = Progress {
+// Before the first octet.
+pub(crate) fn nothing_listed() -> Progress
+    ensures { λ r. ⌜ (r .lo ≡ 0) × (r .hi ≡ 0) × (r .used ≡ 0) ⌝ }
+{
+    Progress {
         lo: 0,
         hi: 0,
         used: 0,
@@ -211,7 +213,12 @@ fn list_in(fd: i32, buf: &mut [u8], out: &mut [u8]) -> bool {
         ended: false,
         failed: false,
         done: false,
-    };
+    }
+}
+
+// Lists the octets of fd on standard output, with two buffers: whether the last line is written.
+fn list_in(fd: i32, buf: &mut [u8], out: &mut [u8]) -> bool {
+    let mut p = nothing_listed();
     let mut turns = u64::MAX;
     while turns > 0 && !(p.failed | p.done) {
         p = turn(fd, buf, out, p);

@@ -12,39 +12,33 @@ Inv-loop fd buf₀ out₀ p₀ turns₀ buf out p turns =
 abbrev μ-loop : tie.MeasureT-loop
 μ-loop fd buf₀ out₀ p₀ turns₀ buf out p turns = turns
 
--- src/stream.rt:191:5
+nothing-listed-requires : tie.Need-nothing-listed-requires Inv-loop μ-loop
+nothing-listed-requires c κs = search needs
+
 loop-holds : tie.Need-loop-holds Inv-loop μ-loop
 loop-holds c = search needs
 
--- src/stream.rt:192:9
 turn-requires : tie.Need-turn-requires Inv-loop μ-loop
 turn-requires c κs = search needs
 
--- src/stream.rt:193:9
 sub-turns : tie.Need-sub-turns Inv-loop μ-loop
 sub-turns c = search needs
 
--- src/stream.rt:191:5
 loop-less : tie.Need-loop-less Inv-loop μ-loop
 loop-less c = search needs
 
--- src/stream.rt:191:5
 loop-again : tie.Need-loop-again Inv-loop μ-loop
 loop-again c = search needs
 
--- src/stream.rt:195:9
 flush-requires : tie.Need-flush-requires Inv-loop μ-loop
 flush-requires c κs = search needs
 
--- src/stream.rt:180:1
 same-length : tie.Need-same-length Inv-loop μ-loop
 same-length c = search needs
 
--- src/stream.rt:180:1
 same-length-2 : tie.Need-same-length-2 Inv-loop μ-loop
 same-length-2 c = search needs
 
--- src/stream.rt:180:1
 returns : tie.Need-returns Inv-loop μ-loop
 returns c = search needs
 
@@ -54,6 +48,7 @@ list-in-spec =
     (tie.spec
     Inv-loop
     μ-loop
+    nothing-listed-requires
     loop-holds
     turn-requires
     sub-turns
