@@ -22,6 +22,7 @@ use Rattle.headers.proofs.Rows.{cond-case, and-left, and-right, every-step, eve
 use Rattle.frames.specs.declared.scan.Scan.{Scan}
 use Rattle.frames.specs.Scanning.{style-of, most-of, in-line, on-value, on-name, on-body, on-counted, scan-step, scan, len-max, Valid, span, plain-in, not-zero, skip, Ahead}
 use Rattle.frames.proofs.Steps.{read-open, read-letter}
+use Rattle.frames.proofs.Validity.{most-small}
 
 -- ---- The front of a row that passes a test
 
@@ -179,9 +180,6 @@ pub reads-plain : (s : Style) (f : Field) (x : ℕ) → plain s f x ≡ true →
 reads-plain s f x h =
     simp (not-true (stops s f x) (and-left (not (stops s f x)) (not (opens s x)) h), not-true (opens s x) (and-right (not (stops s f x)) (not (opens s x)) h))
 
-most-few : (c : ℕ) → most-of c ≤ 32768
-most-few c = cond-case (λ n. n ≤ 32768) (eqb c 8 || eqb c 9 || eqb c 12) (λ h. omega arith) (λ h. omega arith)
-
 span-any : (xs : List ℕ) → span (λ x. true) xs ≡ length xs
 unfolding span
 span-any [] = refl
@@ -243,7 +241,7 @@ module _ (st : Scan) (v : Valid st) where
               v .clean-size (v .unsized e) (λ e′. omega arith),
               add-assoc,
             );
-        stays = λ k h. valid-on k (omega arith) (rw e (omega (arith, most-few (st .command)))) (λ e′. h) (λ e′. absurd (omega arith));
+        stays = λ k h. valid-on k (omega arith) (rw e (omega (arith, most-small (st .command)))) (λ e′. h) (λ e′. absurd (omega arith));
       }
 
   -- in a body with one

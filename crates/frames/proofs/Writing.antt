@@ -92,11 +92,6 @@ listed-end xs EntryAt.Malformed e h other =
 
 -- ## What looking content-length up tells
 
--- octets that are so one by one
-pub octets-each : (xs : List ℕ) → ((i : ℕ) → getD xs i 0 < 256) → every is-octet xs ≡ true
-octets-each [] h = refl
-octets-each (x ∷ xs) h = rw (lt-ltb x 256 (h 0)) (octets-each xs (λ i. h (suc i)))
-
 other-length : (d : Entry) → d .name ≢ content-length → is-length d ≡ false
 other-length d h = refuted (is-length d) (λ t. h (same-eq (d .name) content-length t))
 

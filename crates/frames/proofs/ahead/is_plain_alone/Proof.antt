@@ -1,32 +1,16 @@
 -- `ahead::is_plain_alone` meets its contract: the word and the test agree at each of the 256 octets, which antt computes.
-use mathlib.Core.Path.{_≡_, refl, sym, _∙_, ap}
+use mathlib.Core.Path.{_≡_, refl}
 use mathlib.Core.Bool.{Bool, true, false, not}
-use mathlib.Core.List.{List, [], _∷_}
 use mathlib.Core.Logic.{⊎-elim}
-use Prim.Native.Nat.{ℕ, zero, suc, _+_, _<_, _*_, _/_, _^_}
+use Prim.Native.Nat.{ℕ, _<_, _*_, _/_, _^_}
 use native.Mathlib.Omega.{arith}
 use lib.Bits.{bitAnd, and-le-r}
 use lib.Dec.{eqb}
-use lib.ListN.{getD}
 use borrow.Author.Needs.{needs}
+use Rattle.headers.proofs.Rows.{alike}
 use Rattle.frames.specs.Scanning.{plain-in}
 use Rattle.frames.proofs.ahead.is_plain_alone.Statement.{statement}
 use Rattle.frames.proofs.ahead.is_plain_alone.Tie as tie
-
--- f of n numbers from i on
-abbrev listed : (ℕ → Bool) → ℕ → ℕ → List Bool
-listed f i zero = []
-listed f i (suc n) = f i ∷ listed f (suc i) n
-
-listed-at : (f : ℕ → Bool) (i n k : ℕ) → k < n → getD (listed f i n) k true ≡ f (i + k)
-listed-at f i zero k h = absurd (omega arith)
-listed-at f i (suc n) zero h = ap f (omega arith)
-listed-at f i (suc n) (suc k) h = listed-at f (suc i) n k (omega arith) ∙ ap f (omega arith)
-
-alike : (f g : ℕ → Bool) (n k : ℕ) → listed f 0 n ≡ listed g 0 n → k < n → f k ≡ g k
-alike f g n k e h =
-    let z : 0 + k ≡ k = omega arith in
-    ap f (sym z) ∙ sym (listed-at f 0 n k h) ∙ ap (λ l. getD l k true) e ∙ listed-at g 0 n k h ∙ ap g z
 
 -- what the code computes of a word
 abbrev misses : ℕ → ℕ → Bool

@@ -7,7 +7,8 @@ use native.Mathlib.Omega.{arith}
 use Rattle.headers.specs.Answers.{found-says}
 use Rattle.headers.specs.declared.block.Found.{Found}
 use Rattle.frames.specs.Writing.{Told}
-use Rattle.frames.proofs.Writing.{octets-each, told-of, declared-of}
+use Rattle.frames.proofs.Running.{octets-known}
+use Rattle.frames.proofs.Writing.{told-of, declared-of}
 use Rattle.frames.proofs.encode.declared_length.Statement.{statement}
 use Rattle.frames.proofs.encode.declared_length.Tie as tie
 
@@ -23,7 +24,7 @@ block-at c = c .before .before .before .args .block .now
 
 known : (c : tie.After-find) (r : Found) → c .find .result ≡ r → Told (block-at c) (declared-of r)
 known c r e =
-    told-of (block-at c) (octets-each (block-at c) (λ i. omega (arith, c .before .before .shared-slice-known .given i))) r
+    told-of (block-at c) (octets-known (block-at c) (λ i. omega (arith, c .before .before .shared-slice-known .given i))) r
     (ap found-says (sym e) ∙ c .find .ensures)
 
 enum-known-p : tie.Need-enum-known-p

@@ -6,7 +6,8 @@ use mathlib.Core.Path.{_≡_, refl, sym, _∙_, ap}
 use Rattle.frames.specs.Encoding.{Call, image-length, refusal}
 use Rattle.frames.specs.Answers.{encoded-says}
 use Rattle.frames.specs.declared.encode.Encoded.{Encoded}
-use Rattle.frames.proofs.Writing.{says-of, octets-each}
+use Rattle.frames.proofs.Writing.{says-of}
+use Rattle.frames.proofs.Running.{octets-known}
 use Rattle.frames.proofs.Packed.{length-back, refusal-back, encode-small, index-small}
 use borrow.Author.Needs.{needs}
 use Rattle.frames.proofs.exports.stomp_encode.Statement.{statement}
@@ -26,8 +27,8 @@ told c f e = ap encoded-says (sym e) ∙ c .encode .ensures .0
 length-small : (c : tie.After-encode) (n : ℕ) → c .encode .result ≡ Encoded.Length n → n < 65536
 length-small c n e =
     let s = c .before .before .before in
-    encode-small (call c) (room c) n (octets-each (call c .block) (λ i. omega (arith, s .before .shared-slice-known .given i)))
-    (octets-each (call c .body) (λ i. omega (arith, s .shared-slice-known2 .given i))) (told c (Encoded.Length n) e)
+    encode-small (call c) (room c) n (octets-known (call c .block) (λ i. omega (arith, s .before .shared-slice-known .given i)))
+    (octets-known (call c .body) (λ i. omega (arith, s .shared-slice-known2 .given i))) (told c (Encoded.Length n) e)
 
 place-small : (c : tie.After-encode) (i : ℕ) → c .encode .result ≡ Encoded.Unwritable i → i < 65536
 place-small c i e = index-small (call c) (room c) i (told c (Encoded.Unwritable i) e)
