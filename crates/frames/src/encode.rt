@@ -39,10 +39,10 @@ pub enum Encoded {
 
 // The content-length of a block: whether the block is well formed, whether an entry has the name, and where the first value stands.
 pub struct Declared {
-    pub valid: bool,
-    pub present: bool,
     pub start: usize,
     pub end: usize,
+    pub valid: bool,
+    pub present: bool,
 }
 
 // What the entries of a block come to: how many they are, or 33; how many from the front can be written; the octets of the lines of

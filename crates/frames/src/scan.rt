@@ -12,16 +12,8 @@ ghost use Rattle.frames.specs.Scanning.{value-begins, on-digit, scan-ste
 use headers::Field;
 use headers::Style;
 
-// How far an item is read. The small fields stand together, so that the state has no odd gaps, which are slow to copy.
+// How far an item is read. The small fields stand together at the end, so that the state has no gaps inside, which are slow to copy.
 pub struct Scan {
-    // Where the next octet stands: see specs/Scanning.antt.
-    pub phase: u8,
-    // Whether a content-length is declared.
-    pub sized: bool,
-    // The command's number; while its word is read, the first command that begins so.
-    pub command: u32,
-    // The number of the refusal.
-    pub code: u32,
     // Header lines read.
     pub lines: usize,
     // How many octets of content-length the name is, or 15 once it is another.
@@ -32,6 +24,14 @@ pub struct Scan {
     pub len: usize,
     // The octets of the item.
     pub at: usize,
+    // Where the next octet stands: see specs/Scanning.antt.
+    pub phase: u8,
+    // Whether a content-length is declared.
+    pub sized: bool,
+    // The command's number; while its word is read, the first command that begins so.
+    pub command: u32,
+    // The number of the refusal.
+    pub code: u32,
 }
 
 // Before the first octet.
