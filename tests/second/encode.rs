@@ -21,7 +21,7 @@ fn refused(code: usize) -> Refusal {
 
 /// The image, for a target of `room` octets.
 pub fn encode(command: u32, block: &[u8], body: &[u8], room: usize) -> Result<Vec<u8>, Refusal> {
-    // "50 unknown command; 51 malformed sheet"
+    // 50 unknown command; 51 malformed header block
     let command = Command::numbered(command).ok_or(refused(50))?;
     let entries = block::read(block).ok_or(refused(51))?;
     let body = body.to_vec();

@@ -146,7 +146,7 @@ module _ (ver : Version) (h : Head) (ok : HeadOk ver h) where
   pub head-short : All Short (head-entries ver h)
   head-short = fit-short (head-entries ver h) head-fits
 
-  -- "The longest sheet is 16,544 octets"
+  -- the longest block has 16,544 octets
   pub block-long : length (image (head-entries ver h)) ≤ 16544
   block-long = omega (arith, fit-image (head-entries ver h) head-fits, length-map (h .entries) (line-entry (style ver (h .command))), ok .few)
 

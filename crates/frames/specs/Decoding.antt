@@ -25,8 +25,8 @@ line-entries s ls = map (line-entry s) ls
 abbrev pub too-long : Entry → Bool
 too-long e = ltb line-max (line-length e)
 
--- "Refusals, in order: 20 it isn't" exactly one frame; "21 the sheet is shorter than needed; 23 a decoded line would be longer than
--- 512. Otherwise ... the answer is the length used." The entries are none where it is not exactly one frame.
+-- The refusals in order: 20 it is not exactly one frame; 21 the block is shorter than needed; 23 a decoded line would be longer than
+-- 512. Otherwise the answer is the length used. The entries are none where it is not exactly one frame.
 unfoldable pub decode-answer : ℕ → Option (List Entry) → Answer
 decode-answer room none = refused 20
 decode-answer room (some es) =
@@ -36,7 +36,7 @@ decode-answer room (some es) =
     [])
     (length (image es) ∷ [])
 
--- "the sheet's front holds the records"
+-- the records that the block's front holds
 abbrev pub decoded-records : Option (List Entry) → List ℕ
 decoded-records none = []
 decoded-records (some es) = image es

@@ -14,7 +14,7 @@ use Rattle.headers.specs.declared.text.Style.{Style}
 use Rattle.frames.specs.Grammar.{Version, Command, number, word, style, most, lines-max}
 use Rattle.frames.specs.Open.{all}
 
--- "Input: command number, sheet (the whole slice), body."
+-- the input: a command's number, a header block (the whole slice), a body
 pub record Call : Type 0 where
   pub command : ℕ
   pub block : List ℕ
@@ -78,7 +78,7 @@ settle-frame ver c es body room =
     [])
     (length (frame-image ver c es body) ∷ [])
 
--- "50 unknown command; 51 malformed sheet"
+-- 50 unknown command; 51 malformed block
 abbrev pub encode-by : Version → Option Command → Option (List Entry) → List ℕ → ℕ → Answer
 encode-by ver none o body room = refused 50
 encode-by ver (some c) none body room = refused 51

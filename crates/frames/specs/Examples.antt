@@ -52,7 +52,7 @@ abbrev pub Given : {A : Type 0} → Option A → (A → Type 0) → Type 0
 Given none P = Unit {0}
 Given (some a) P = P a
 
--- "Its sheet": decoding the entries into n octets answers n, and the records are xs
+-- its header block: decoding the entries into n octets answers n, and the records are xs
 abbrev pub DecodesTo : Option (List Entry) → ℕ × List ℕ → Type 0
 DecodesTo es (n, xs) = (decode-answer n es ≡ accepted (n ∷ [])) × (decoded-records es ≡ xs)
 
