@@ -1,5 +1,6 @@
 -- Encoding in numbers (specs/Writing.antt) comes to Encoding's answer and image. Assumes nothing.
 --     entries-listed, listed-next, listed-end    the entries from one place of a block on, and from the next
+--     divided-at                                 the entry at a place, from one text
 --     told-of, adds-told, says-told              what looking content-length up tells
 --     Summing, sum-.., sums-..                   the sums over the entries, from one entry to the next, and what they say
 --     written-append, length-octets-are          the lines one after another, and the added one
@@ -17,6 +18,7 @@ use mathlib.Core.List.{List, [], _∷_, _++_, map, append-assoc, append-nil}
 use Prim.Native.Nat.{ℕ, zero, suc, _+_, _-_, _*_, _≤_, _<_}
 use native.Mathlib.Omega.{arith}
 use lib.ListN.{length, take, drop, getD, length-append, List·getD-eq-default}
+use lib.Seq.{take-add, take-at, drop-at, drop-drop}
 use lib.Dec.{eqb, leb, ltb, eqb·suc-zero}
 use borrow.Author.Tests.{lt-ltb, le-ltb, leb-true, leb-false, eqb-true, eqb-false, ltb-true, ltb-false}
 use Rattle.headers.specs.Rows.{empty, same, any, every, All, is-octet}
@@ -31,8 +33,8 @@ use Rattle.headers.specs.declared.block.Found.{Found}
 use Rattle.headers.specs.declared.block.Lengths.{Lengths}
 use Rattle.headers.specs.declared.block.EntryAt.{EntryAt}
 use Rattle.headers.proofs.Rows.{refuted, same-eq, same-self, and-right, or-false-left, or-false-right, empty-eqb}
-use Rattle.headers.proofs.Blocks.{Placed, placed, place-behind, entries-next, is-block-next, told-end, told-malformed, is-block-of, entries-block, Finds, find-finds}
-use Rattle.headers.proofs.Settling.{written-long}
+use Rattle.headers.proofs.Blocks.{Placed, placed, place-behind, placed-name, entries-next, is-block-next, told-end, told-malformed, is-block-of, entries-block, Finds, find-finds}
+use Rattle.headers.proofs.Settling.{written-long, divided}
 use Rattle.frames.specs.Grammar.{Command, number, v1-2, style, most, lines-max, line}
 use Rattle.frames.specs.Open.{all}
 use Rattle.frames.specs.Scanning.{word-of, style-of, most-of, number-of}
@@ -74,13 +76,15 @@ pub listed-next : (block : List ℕ) (i : ℕ) (l : Lengths) → Placed block i 
 listed-next block i l p h =
     ap listed (entries-next block i l p ∙ ap (entry-before (placed block i l)) (entries-listed (drop (place-behind i l) block) (sym (is-block-next block i l p) ∙ h)))
 
--- the entry at a place, by where its name and its value begin and end
-pub parted : (block : List ℕ) (i : ℕ) (l : Lengths)
-    → entry-of (take (i + 6 + l .name - (i + 6)) (drop (i + 6) block)) (take (place-behind i l - (i + 6 + l .name)) (drop (i + 6 + l .name) block)) ≡ placed block i l
-parted block i l =
-    let n : i + 6 + l .name - (i + 6) ≡ l .name = omega arith in
-    let v : place-behind i l - (i + 6 + l .name) ≡ l .value = omega arith in
-    rw (n, v)
+-- the entry at a place, by the text that holds its name and its value
+pub divided-at : (block : List ℕ) (i : ℕ) (l : Lengths) → Placed block i l
+    → divided (l .name) (take (place-behind i l - (i + 6)) (drop (i + 6) block)) ≡ placed block i l
+divided-at block i l p =
+    let n = placed-name block i l p in
+    let k : place-behind i l - (i + 6) ≡ l .name + l .value = omega arith in
+    let text : take (place-behind i l - (i + 6)) (drop (i + 6) block) ≡ placed block i l .name ++ placed block i l .value =
+    rw (k, take-add (l .name) (l .value) (drop (i + 6) block), drop-drop (l .name) (i + 6) block) in
+    rw text (ap₂ entry-of (take-at (placed block i l .name) (placed block i l .value) (l .name) n) (drop-at (placed block i l .name) (placed block i l .value) (l .name) n))
 
 -- where entry_at answers no entry in a block, none is left
 pub listed-end : (xs : List ℕ) (given : EntryAt) → entry-says given ≡ entry-answer xs → is-block xs ≡ true → ((l : Lengths) → given ≡ EntryAt.Entry l → ⊥) → listed (entries xs) ≡ []

@@ -92,14 +92,9 @@ fn sum(block: &[u8], style: Style) -> Totals
             return Totals { count, good, total };
         };
         let from = at + 6;
-        let mid = from + l.name;
-        at = mid + l.value;
+        at = from + l.name + l.value;
         if good == count {
-            if let LineLength::Length(k) = headers::line_length(
-                &block[from..mid],
-                &block[mid..at],
-                style,
-            ) {
+            if let LineLength::Length(k) = headers::entry_length(&block[from..at], l.name, style) {
                 good += 1;
                 total = total + k + 1;
             }

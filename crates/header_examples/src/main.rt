@@ -257,6 +257,7 @@ fn main() {
     not_raw();
     rooms();
     long_lines();
+    one_text();
     line_rooms();
     empty_names();
     cut_blocks();
@@ -374,6 +375,27 @@ fn long_lines() {
 fn length(label: &[u8], value: &[u8], escapes: bool) {
     say(label);
     match headers::line_length(b"x", value, Style { escapes }) {
+        LineLength::Length(n) => number_line(n as u64),
+        LineLength::Unwritable => number_line(53),
+    }
+}
+
+// Names and values in one text: lines of 512 and of 513, no name, and a name as long as the text or longer.
+fn one_text() {
+    length_of(b"together, 512: ", &[97u8; 511], 1, true);
+    length_of(b"together, 513: ", &[97u8; 512], 1, true);
+    length_of(b"together, colon in the name: ", b"a:b", 2, true);
+    length_of(b"the same, no escapes: ", b"a:b", 2, false);
+    length_of(b"together, no name: ", b"ab", 0, true);
+    length_of(b"together, no value: ", b"ab", 2, true);
+    length_of(b"together, name past the end: ", b"ab", 3, true);
+    length_of(b"together, nothing: ", b"", 1, true);
+}
+
+// The length of the line of a name and a value in one text.
+fn length_of(label: &[u8], text: &[u8], name: usize, escapes: bool) {
+    say(label);
+    match headers::entry_length(text, name, Style { escapes }) {
         LineLength::Length(n) => number_line(n as u64),
         LineLength::Unwritable => number_line(53),
     }

@@ -2,12 +2,14 @@
 --     decode-escape, decode-plain    one step of decoding
 --     decode-means                   of raw text, decoding gives what its characters stand for
 --     decode-encode, encode-decode   each undoes the other
---     decode-short, encode-twice     decoded text is never longer than raw, and encoded text at most twice as long
+--     decode-short                   decoded text is never longer than raw
+--     encode-long, encode-twice      encoded text is never shorter, and at most twice as long
+--     encode-append                  two texts are encoded one after the other
 --     encode-text                    what can be written is raw text when encoded
 --     decode-name                    a raw name without escapes, as content-length, is its decoded one, and only it is
 use mathlib.Core.Path.{_≡_, refl, sym, _∙_, ap, ap₂}
 use mathlib.Core.Bool.{Bool, true, false, cond, _&&_, not}
-use mathlib.Core.List.{List, [], _∷_, _++_}
+use mathlib.Core.List.{List, [], _∷_, _++_, append-assoc}
 use Prim.Native.Nat.{ℕ, suc, _+_, _*_, _/_, _≤_, _<_}
 use native.Mathlib.Omega.{arith}
 use native.Mathlib.Nat.{add-zero}
@@ -197,6 +199,16 @@ pub encode-twice : (s : Style) (xs : List ℕ) → length (encode s xs) ≤ 2 * 
 unfolding encode
 encode-twice s [] = omega arith
 encode-twice s (x ∷ xs) = simp length-append (omega (arith, encoded-some s x, encode-twice s xs))
+
+pub encode-long : (s : Style) (xs : List ℕ) → length xs ≤ length (encode s xs)
+unfolding encode
+encode-long s [] = omega arith
+encode-long s (x ∷ xs) = simp length-append (omega (arith, encoded-some s x, encode-long s xs))
+
+pub encode-append : (s : Style) (xs ys : List ℕ) → encode s (xs ++ ys) ≡ encode s xs ++ encode s ys
+unfolding encode
+encode-append s [] ys = refl
+encode-append s (x ∷ xs) ys = rw (encode-append s xs ys) (sym (append-assoc (encode-octet s x) (encode s xs) (encode s ys)))
 
 -- two texts that fit raw fit decoded, and that fit a half fit encoded
 module _ (s : Style) (xs ys : List ℕ) (most : ℕ) where

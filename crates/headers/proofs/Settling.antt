@@ -1,24 +1,25 @@
 -- Answers settled by checks in order: laws. Assumes nothing.
 --     refusal, acceptance     what a buffer call owes at its end, from the answer alone
 --     decoded-.., record-.., length-.., encoded-.., line-.., decimal-..   which answer the checks of a call settle on
-use mathlib.Core.Path.{_≡_, refl, ap, _∙_}
-use mathlib.Core.Bool.{Bool, true, false}
+use mathlib.Core.Path.{_≡_, refl, sym, ap, _∙_}
+use mathlib.Core.Bool.{Bool, true, false, _||_, not}
 use mathlib.Core.List.{List, [], _∷_, _++_}
-use Prim.Native.Nat.{ℕ, _+_, _≤_, _<_}
+use Prim.Native.Nat.{ℕ, zero, suc, _+_, _≤_, _<_}
 use native.Mathlib.Omega.{arith}
-use lib.ListN.{length, drop, length-append}
-use lib.Dec.{ltb}
+use lib.ListN.{length, take, drop, length-append, take-append-drop}
+use lib.Dec.{eqb, ltb, eqb·suc-zero}
 use borrow.Author.Tests.{le-leb, lt-leb, lt-ltb, le-ltb}
 use Rattle.headers.specs.Rows.{empty, every}
 use Rattle.headers.specs.Text.{is-text}
 use Rattle.headers.specs.Escapes.{decode, encode, writable}
 use Rattle.headers.specs.Numbers.{shortest}
 use Rattle.headers.specs.Block.{Entry}
-use Rattle.headers.specs.Lines.{decoded-entry, line-length, are-text, raw-line, written-line, can-write}
+use Rattle.headers.specs.Lines.{entry-of, decoded-entry, line-length, are-text, raw-line, written-line, can-write}
 use Rattle.headers.specs.Answers.{Answer, accepted, refused, left-in, written-record, decoded-answer, record-answer, writable-answer, length-answer, encoded-answer, line-answer, decimal-answer}
 use Rattle.headers.specs.declared.text.Style.{Style}
 use Rattle.headers.specs.declared.text.Field.the-variants.{Name, Value}
-use Rattle.headers.proofs.Rows.{and-no}
+use Rattle.headers.proofs.Rows.{and-left, and-right, and-no, refuted, every-left, every-right, every-append}
+use Rattle.headers.proofs.Coding.{encode-long, encode-append}
 use Rattle.headers.proofs.Blocks.{length-record}
 
 -- refused: the buffer is as before
@@ -62,6 +63,10 @@ module _ (s : Style) (e : Entry) where
   pub no-room : 512 < length (raw-line s e) → can-write s e ≡ false
   no-room h = simp (lt-leb (length (raw-line s e)) 512 h, and-no)
 
+  -- not even where nothing is escaped
+  pub no-room-plain : 511 < length (e .name) + length (e .value) → can-write s e ≡ false
+  no-room-plain h = no-room (omega (arith, raw-long, encode-long s (e .name), encode-long s (e .value)))
+
   pub can : empty (e .name) ≡ false → every (writable s Name) (e .name) ≡ true → every (writable s Value) (e .value) ≡ true → length (raw-line s e) ≤ 512 → can-write s e ≡ true
   can a b c h = simp (a, b, c, le-leb (length (raw-line s e)) 512 h)
 
@@ -98,6 +103,42 @@ module _ (s : Style) (e : Entry) where
   pub encoded-yes : (room : ℕ) → length (written-line s e) ≤ room → encoded-answer s room e ≡ accepted (length (written-line s e) ∷ [])
   unfolding encoded-answer
   encoded-yes room l = rw (le-ltb room (length (written-line s e)) l)
+
+-- ---- a name of k octets, and the value behind it in the same text
+
+abbrev pub divided : ℕ → List ℕ → Entry
+divided k xs = entry-of (take k xs) (drop k xs)
+
+pub divided-empty : (k : ℕ) (xs : List ℕ) → empty (take k xs) ≡ eqb k 0 || eqb (length xs) 0
+divided-empty zero xs = refl
+divided-empty (suc k) [] = rw (eqb·suc-zero k)
+divided-empty (suc k) (x ∷ xs) = rw (eqb·suc-zero k, eqb·suc-zero (length xs))
+
+pub divided-plain : (k : ℕ) (xs : List ℕ) → length (take k xs) + length (drop k xs) ≡ length xs
+divided-plain k xs = simp length-append at (ap length (take-append-drop k xs))
+
+module _ (s : Style) (k : ℕ) (xs : List ℕ) where
+  pub divided-long : length (raw-line s (divided k xs)) ≡ length (encode s xs) + 1
+  divided-long =
+      let whole = sym (encode-append s (take k xs) (drop k xs)) ∙ ap (encode s) (take-append-drop k xs) in
+      omega (arith, raw-long s (divided k xs), simp length-append at (ap length whole))
+
+  -- both fields take the same octets
+  pub divided-octet : every (writable s Value) xs ≡ false → can-write s (divided k xs) ≡ false
+  divided-octet h =
+      refuted (can-write s (divided k xs))
+      (λ w.
+      let texts = and-right (not (empty (take k xs))) _ w in
+      let rest = and-right (every (writable s Name) (take k xs)) _ texts in
+      let whole : every (writable s Value) (take k xs ++ drop k xs) ≡ true =
+      every-append (writable s Value) (take k xs) (drop k xs) (and-left (every (writable s Name) (take k xs)) _ texts) (and-left (every (writable s Value) (drop k xs)) _ rest) in
+      let all : every (writable s Value) xs ≡ true = rw take-append-drop at whole in
+      let z : _≡_ {A = ℕ} 0 1 = cc in omega arith)
+
+  pub divided-can : empty (take k xs) ≡ false → every (writable s Value) xs ≡ true → length (encode s xs) ≤ 511 → can-write s (divided k xs) ≡ true
+  divided-can some h fits =
+      let whole : every (writable s Value) (take k xs ++ drop k xs) ≡ true = rw take-append-drop h in
+      can s (divided k xs) some (every-left (writable s Value) (take k xs) (drop k xs) whole) (every-right (writable s Value) (take k xs) (drop k xs) whole) (omega (arith, divided-long))
 
 -- ---- one record
 

@@ -20,6 +20,7 @@ pub use decimal::read_decimal;
 pub use decimal::write_decimal;
 pub use line::LineLength;
 pub use line::LineWritten;
+pub use line::entry_length;
 pub use line::line_length;
 pub use line::write_encoded;
 pub use line::write_line;

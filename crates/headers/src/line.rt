@@ -2,7 +2,7 @@
 ghost use mathlib.Core.Path.{_≡_};
 ghost use mathlib.Core.List.{_++_};
 ghost use Prim.Native.Nat.{_+_, _≤_};
-ghost use lib.ListN.{length, drop};
+ghost use lib.ListN.{length, take, drop};
 ghost use lib.Dec.{leb};
 ghost use Rattle.headers.specs.Rows.{every};
 ghost use Rattle.headers.specs.Escapes.{writable, encode};
@@ -29,11 +29,12 @@ pub enum LineWritten {
     TooShort,
 }
 
-// How long the name or the value of an entry is encoded; or that an octet of it cannot be written (53).
+// How long short text is encoded; or that an octet of it cannot be written (53).
 fn text_length(text: &[u8], style: Style, field: Field) -> LineLength
+    requires { ⌜ length (now text) ≤ 511 ⌝ }
     ensures { λ r. ⌜ length-says r ≡ writable-answer (every (writable style field) (now (text .entry))) (length (encode style (now (text .entry)))) ⌝ }
 {
-    let mut n = 0usize;
+    let mut n = 0u16;
     let mut i = 0usize;
     while i < text.len() {
         let x = text[i];
@@ -43,7 +44,7 @@ fn text_length(text: &[u8], style: Style, field: Field) -> LineLength
         n += encoded_width(style, x);
         i += 1;
     }
-    LineLength::Length(n)
+    LineLength::Length(n as usize)
 }
 
 // How long the raw line of an entry is, its line end not counted.
@@ -51,6 +52,9 @@ pub fn line_length(name: &[u8], value: &[u8], style: Style) -> LineLength
     ensures { λ r. ⌜ length-says r ≡ length-answer style (entry-of (now (name .entry)) (now (value .entry))) ⌝ }
 {
     if name.len() == 0 {
+        return LineLength::Unwritable;
+    }
+    if !both_fit(name.len(), value.len(), 511) {
         return LineLength::Unwritable;
     }
     let LineLength::Length(n) = text_length(name, style, Field::Name) else {
@@ -63,6 +67,25 @@ pub fn line_length(name: &[u8], value: &[u8], style: Style) -> LineLength
         return LineLength::Unwritable;
     }
     LineLength::Length(n + 1 + v)
+}
+
+// The same of a name and the value behind it in one text, the name's length being given: one pass over both.
+pub fn entry_length(text: &[u8], name: usize, style: Style) -> LineLength
+    ensures { λ r. ⌜ length-says r ≡ length-answer style (entry-of (take name (now (text .entry))) (drop name (now (text .entry)))) ⌝ }
+{
+    if (name == 0) | (text.len() == 0) {
+        return LineLength::Unwritable;
+    }
+    if 511 < text.len() {
+        return LineLength::Unwritable;
+    }
+    let LineLength::Length(n) = text_length(text, style, Field::Value) else {
+        return LineLength::Unwritable;
+    };
+    if 511 < n {
+        return LineLength::Unwritable;
+    }
+    LineLength::Length(n + 1)
 }
 
 // The raw line of an entry, with octet 10 behind it, at the front of d; its length.

@@ -173,11 +173,15 @@ pub(crate) fn put_decoded(d: &mut [u8], raw: &[u8], style: Style) -> usize
     n
 }
 
-// How many octets an octet has encoded.
-pub(crate) fn encoded_width(style: Style, x: u8) -> usize
+// How many octets an octet has encoded. By comparisons and in a narrow number, so that a loop takes many octets at a time.
+pub(crate) fn encoded_width(style: Style, x: u8) -> u16
     ensures { λ r. ⌜ r ≡ length (encode-octet style x) ⌝ }
 {
-    if is_escaped(style, x) { 2 } else { 1 }
+    if style.escapes & ((x == 13) | ((x == 10) | ((x == 58) | (x == 92)))) {
+        2
+    } else {
+        1
+    }
 }
 
 // How many octets the text has encoded: any octets are taken.
@@ -187,7 +191,7 @@ pub fn encoded_length(text: &[u8], style: Style) -> usize
     let mut n = 0usize;
     let mut i = 0usize;
     while i < text.len() {
-        n += encoded_width(style, text[i]);
+        n += encoded_width(style, text[i]) as usize;
         i += 1;
     }
     n

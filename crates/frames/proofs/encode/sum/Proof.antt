@@ -8,15 +8,15 @@ use Prim.Native.Nat.{ℕ, _+_, _-_, _≤_}
 use native.Mathlib.Omega.{arith}
 use lib.ListN.{length, take, drop}
 use Rattle.headers.specs.Block.{Entry, entries}
-use Rattle.headers.specs.Lines.{entry-of, can-write}
+use Rattle.headers.specs.Lines.{can-write}
 use Rattle.headers.specs.Answers.{is-block, length-says, length-answer}
 use Rattle.headers.specs.declared.block.Lengths.{Lengths}
 use Rattle.headers.specs.declared.line.LineLength.{LineLength}
 use Rattle.headers.specs.declared.text.Style.{Style}
 use Rattle.headers.proofs.Blocks.{Placed, placed, place-behind, told-entry, is-block-next}
-use Rattle.headers.proofs.Settling.{length-refused, length-accepted}
+use Rattle.headers.proofs.Settling.{length-refused, length-accepted, divided}
 use Rattle.frames.specs.Writing.{listed}
-use Rattle.frames.proofs.Writing.{listed-next, listed-end, parted, Summing, sum-start, sum-line, sum-none, sum-end, sum-full}
+use Rattle.frames.proofs.Writing.{listed-next, listed-end, divided-at, Summing, sum-start, sum-line, sum-none, sum-end, sum-full}
 use Rattle.frames.proofs.encode.sum.Statement.{statement}
 use Rattle.frames.proofs.encode.sum.Tie as tie
 
@@ -66,11 +66,10 @@ before-it c =
 abbrev Asked : tie.After-l Inv-loop μ-loop → LineLength → Type 0
 Asked c r =
     length-says r ≡ length-answer (style-at c)
-    (entry-of (take (place-at c + 6 + lengths-at c .name - (place-at c + 6)) (drop (place-at c + 6) (block-at c)))
-    (take (place-behind (place-at c) (lengths-at c) - (place-at c + 6 + lengths-at c .name)) (drop (place-at c + 6 + lengths-at c .name) (block-at c))))
+    (divided (lengths-at c .name) (take (place-behind (place-at c) (lengths-at c) - (place-at c + 6)) (drop (place-at c + 6) (block-at c))))
 
 asked : (c : tie.After-l Inv-loop μ-loop) (given r : LineLength) → Asked c given → given ≡ r → length-says r ≡ length-answer (style-at c) (entry-here c)
-asked c given r e k = ap length-says (sym k) ∙ e ∙ ap (length-answer (style-at c)) (parted (block-at c) (place-at c) (lengths-at c))
+asked c given r e k = ap length-says (sym k) ∙ e ∙ ap (length-answer (style-at c)) (divided-at (block-at c) (place-at c) (lengths-at c) (here c))
 
 -- the sums behind it, where its line is written, and where it is not
 longer : (c : tie.After-l Inv-loop μ-loop) (given : LineLength) (k : ℕ) → Asked c given → given ≡ LineLength.Length k → turn c .loop .good ≡ turn c .loop .count
@@ -104,46 +103,37 @@ returns c = sum-end _ _ _ _ _ _ (c .before .before .before .loop .inv .3) (omega
 add-from : tie.Need-add-from Inv-loop μ-loop
 add-from c = omega (arith, here (c .before) .inside)
 
-add-mid : tie.Need-add-mid Inv-loop μ-loop
-add-mid c = omega (arith, here (c .before .before) .inside)
-
 add-at : tie.Need-add-at Inv-loop μ-loop
-add-at c = omega (arith, here (c .before .before .before) .inside)
+add-at c = omega (arith, here (c .before .before) .inside)
 
-sub-line-length : tie.Need-sub-line-length Inv-loop μ-loop
-sub-line-length c = omega arith
+add-at-2 : tie.Need-add-at-2 Inv-loop μ-loop
+add-at-2 c = omega (arith, here (c .before .before .before) .inside)
 
-part-line-length-start : tie.Need-part-line-length-start Inv-loop μ-loop
-part-line-length-start c = omega arith
+sub-entry-length : tie.Need-sub-entry-length Inv-loop μ-loop
+sub-entry-length c = omega arith
 
-part-line-length-end : tie.Need-part-line-length-end Inv-loop μ-loop
-part-line-length-end c = omega (arith, here (c .before .before .before .before) .inside)
+part-entry-length-start : tie.Need-part-entry-length-start Inv-loop μ-loop
+part-entry-length-start c = omega arith
 
-sub-line-length-2 : tie.Need-sub-line-length-2 Inv-loop μ-loop
-sub-line-length-2 c = omega arith
+part-entry-length-end : tie.Need-part-entry-length-end Inv-loop μ-loop
+part-entry-length-end c = omega (arith, here (c .before .before .before .before) .inside)
 
-part-line-length-start-2 : tie.Need-part-line-length-start-2 Inv-loop μ-loop
-part-line-length-start-2 c = omega arith
-
-part-line-length-end-2 : tie.Need-part-line-length-end-2 Inv-loop μ-loop
-part-line-length-end-2 c = omega (arith, here (c .before .before .before .before .before) .inside)
-
-line-length-requires : tie.Need-line-length-requires Inv-loop μ-loop
-line-length-requires c κs = search needs
+entry-length-requires : tie.Need-entry-length-requires Inv-loop μ-loop
+entry-length-requires c κs = search needs
 
 enum-known-k : tie.Need-enum-known-k Inv-loop μ-loop
 enum-known-k c = search needs
 
 add-good : tie.Need-add-good Inv-loop μ-loop
-add-good c = omega (arith, c .before .before .before .before .before .before .before .before .before .before .before .before .before .before .loop .inv .3 .within)
+add-good c = omega (arith, c .before .before .before .before .before .before .before .before .before .before .before .before .before .loop .inv .3 .within)
 
 -- the octets stay few
 total-small : (c : tie.After-known-told2 Inv-loop μ-loop)
-    → turn (c .before .before .before .before .before .before .before .before .before .before) .loop .total + c .before .k .given .0 .0 + 1 ≤ 17442
+    → turn (c .before .before .before .before .before .before .before .before .before) .loop .total + c .before .k .given .0 .0 + 1 ≤ 17442
 total-small c =
-    let l = c .before .before .before .before .before .before .before .before .before .before in
-    let line = c .before .before .before .line-length in
-    omega (arith, turn l .loop .inv .3 .within, longer l (line .result) (c .before .k .given .0 .0) (line .ensures) (c .before .k .given .1) (c .before .before .before .before .before .before .if1 .taken) .small)
+    let l = c .before .before .before .before .before .before .before .before .before in
+    let line = c .before .before .before .entry-length in
+    omega (arith, turn l .loop .inv .3 .within, longer l (line .result) (c .before .k .given .0 .0) (line .ensures) (c .before .k .given .1) (c .before .before .before .before .before .if1 .taken) .small)
 
 add-total : tie.Need-add-total Inv-loop μ-loop
 add-total c = omega (arith, total-small c)
@@ -167,8 +157,8 @@ loop-again c =
       here l .inside,
       omega arith,
       on-block l,
-      ⊎-elim (λ w. rw (w .7, w .8) (longer l (w .3 .result) (w .5 .given .0 .0) (w .3 .ensures) (w .5 .given .1) (w .0 .taken)))
-          (⊎-elim (λ w. rw (w .6, w .7) (as-long l (λ same. length-refused (style-at l) d 53 (asked l (w .3 .result) LineLength.Unwritable (w .3 .ensures) (w .5 .given .1)))))
+      ⊎-elim (λ w. rw (w .6, w .7) (longer l (w .2 .result) (w .4 .given .0 .0) (w .2 .ensures) (w .4 .given .1) (w .0 .taken)))
+          (⊎-elim (λ w. rw (w .5, w .6) (as-long l (λ same. length-refused (style-at l) d 53 (asked l (w .2 .result) LineLength.Unwritable (w .2 .ensures) (w .4 .given .1)))))
           (λ w. rw (w .1, w .2) (as-long l (λ same. absurd (w .0 .left same)))))
           (c .if1 .came),
     )
@@ -187,15 +177,12 @@ sum-spec =
     enum-known-l
     returns
     add-from
-    add-mid
     add-at
-    sub-line-length
-    part-line-length-start
-    part-line-length-end
-    sub-line-length-2
-    part-line-length-start-2
-    part-line-length-end-2
-    line-length-requires
+    add-at-2
+    sub-entry-length
+    part-entry-length-start
+    part-entry-length-end
+    entry-length-requires
     enum-known-k
     add-good
     add-total

@@ -59,6 +59,9 @@ loop-again c = let l = c .before .before .before .before .before .loop in
     let t = c .before .before .before .before .loop-test .taken in
     (omega arith, l .inv .1 ∙ every-step _ _ _ t ∙ simp on, count-more (a .style) (a .text .now) (l .i) (l .n) _ t (c .encoded-width .ensures) (l .inv .2))
 
+cast-t13 : tie.Need-cast-t13 Inv-loop μ-loop
+cast-t13 c = search needs
+
 returns-2 : tie.Need-returns-2 Inv-loop μ-loop
 returns-2 c = let a = c .before .before .before .args in
     let l = c .before .loop in
@@ -80,4 +83,5 @@ text-length-spec =
     add-i
     loop-less
     loop-again
+    cast-t13
     returns-2)

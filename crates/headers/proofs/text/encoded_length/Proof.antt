@@ -23,6 +23,9 @@ shared-slice-read-encoded-width c = search needs
 encoded-width-requires : tie.Need-encoded-width-requires Inv-loop μ-loop
 encoded-width-requires c κs = search needs
 
+cast-n : tie.Need-cast-n Inv-loop μ-loop
+cast-n c = search needs
+
 add-n : tie.Need-add-n Inv-loop μ-loop
 add-n c = let l = c .before .before .before .loop in
     let a = c .before .before .before .before .before .args in
@@ -52,6 +55,7 @@ encoded-length-spec =
     loop-holds
     shared-slice-read-encoded-width
     encoded-width-requires
+    cast-n
     add-n
     add-i
     loop-less
