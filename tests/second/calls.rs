@@ -1,7 +1,7 @@
 //! Random calls of the encoder: sound ones, and ones with a reason for each refusal. The reasons come
 //! up independently of each other, so that each meets each other one in some calls.
 
-mod damage;
+pub mod damage;
 mod headers;
 
 use crate::block;
@@ -57,7 +57,7 @@ fn command(random: &mut Random) -> Command {
 }
 
 /// Numbers next to the commands', and large ones whose lower octets are those of a command.
-fn unknown_command(random: &mut Random) -> u32 {
+pub fn unknown_command(random: &mut Random) -> u32 {
     let large = [17, 32, 255, 256, 268, 65_536, 65_548, 16_777_228];
     let largest = [1 << 31, (1 << 31) + 12, u32::MAX - 3, u32::MAX];
     match random.below(4) {

@@ -1,6 +1,11 @@
 //! Tests of the rules against slower readings of the definitions: items are put together by the
 //! grammar instead of taken apart, and "can still be finished" is looked up among their beginnings.
 
+mod histories;
+mod opening;
+mod records;
+mod replays;
+mod sessions;
 mod writing;
 
 use crate::item::{can_be_finished, first_item, parse, Answer, Command};

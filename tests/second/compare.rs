@@ -54,7 +54,7 @@ pub fn compare(program: &str, count: usize, seed: u64) -> io::Result<bool> {
         let stream = streams::stream(&mut random);
         let listing = listing::read(&stream);
         let ours = listing::write(&listing);
-        let ran = program::run(program, &stream)?;
+        let ran = program::run(program, &[], &stream)?;
         io::stderr().write_all(&ran.errors)?;
         if ran.output != ours.as_bytes() || ran.status.is_none() {
             let name = format!("second-difference-{seed}-{number}");

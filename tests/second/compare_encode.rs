@@ -90,7 +90,7 @@ pub fn compare(program: &str, count: usize, seed: u64) -> io::Result<bool> {
         let batch: Vec<Call> = (0..size).map(|_| calls::call(&mut random)).collect();
         let replies: Vec<Reply> = batch.iter().map(Reply::of).collect();
         let input: Vec<u8> = batch.iter().flat_map(octets).collect();
-        let ran = program::run(program, &input)?;
+        let ran = program::run(program, &[], &input)?;
         io::stderr().write_all(&ran.errors)?;
         let (alike, rest) = compared(&replies, &ran.output);
         if alike < size || !rest.is_empty() || ran.status.is_none() {

@@ -63,7 +63,7 @@ pub fn compare(program: &str, count: usize, seed: u64) -> io::Result<bool> {
     for number in 0..count {
         let stream = streams::stream_to_rewrite(&mut random);
         let rewritten = rewrite::rewrite(&stream);
-        let ran = program::run(program, &stream)?;
+        let ran = program::run(program, &[], &stream)?;
         if !alike(&rewritten, &ran) {
             let name = format!("second-difference-rewrite-{seed}-{number}");
             report(&name, &stream, &rewritten, &ran)?;

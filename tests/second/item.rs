@@ -245,20 +245,25 @@ fn is_text(command: Command, text: &[u8]) -> bool {
 
 /// "one or more digits, leading zeros allowed, at most 32,768, and 0 where no body is allowed"
 pub fn content_length(command: Command, value: &[u8]) -> Option<usize> {
+    decimal(value, command.max_body())
+}
+
+/// The number of one or more digits, leading zeros allowed, if it is at most the limit.
+pub fn decimal(value: &[u8], limit: usize) -> Option<usize> {
     if value.is_empty() || !value.iter().all(u8::is_ascii_digit) {
         return None;
     }
-    // Without its leading zeros a number of more than five digits is above every limit, and one of
-    // five digits fits any integer.
+    // Without its leading zeros a number of more digits than the limit has is above it, and one of
+    // as many digits fits any integer.
     let zeros = value.iter().take_while(|&&digit| digit == b'0').count();
     let digits = &value[zeros..];
-    if digits.len() > 5 {
+    if digits.len() > limit.to_string().len() {
         return None;
     }
     let number = digits
         .iter()
         .fold(0, |sum, &digit| sum * 10 + usize::from(digit - b'0'));
-    (number <= command.max_body()).then_some(number)
+    (number <= limit).then_some(number)
 }
 
 /// The length of the body that the row begins with, if octet 0 follows it. "The body is that many

@@ -57,14 +57,17 @@ pub fn write(listing: &Listing) -> String {
     for (start, item) in &listing.items {
         write_item(&mut text, *start, item);
     }
+    text + &last_line(listing)
+}
+
+/// The start reached, and what is there.
+pub fn last_line(listing: &Listing) -> String {
     let start = listing.reached;
-    let written = match listing.end {
-        End::Refused { code, offset } => writeln!(text, "{start} refused {code} {offset}"),
-        End::More => writeln!(text, "{start} more"),
-        End::Nothing => writeln!(text, "{start} end"),
-    };
-    written.expect("writing into a string");
-    text
+    match listing.end {
+        End::Refused { code, offset } => format!("{start} refused {code} {offset}\n"),
+        End::More => format!("{start} more\n"),
+        End::Nothing => format!("{start} end\n"),
+    }
 }
 
 /// The item's start, then its octets for a beat, or command, octets, headers, body start and body

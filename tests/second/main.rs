@@ -1,18 +1,28 @@
-//! An independent second program: it parses, decodes and encodes STOMP frames by document 01 and
-//! compares what it finds with what other programs write. README.md has the modes.
+//! An independent second program: it parses, decodes and encodes STOMP frames and keeps a client's
+//! session by document 01, and compares what it finds with what other programs write. README.md has the
+//! modes.
 
 mod block;
 mod calls;
+mod client;
 mod compare;
 mod compare_encode;
+mod compare_replay;
 mod compare_rewrite;
+mod compare_session;
 mod decode;
 mod encode;
+mod fixed;
 mod item;
 mod listing;
+mod lives;
 mod program;
 mod random;
+mod reader;
+mod replay;
 mod rewrite;
+mod session;
+mod session_calls;
 mod specification;
 mod streams;
 mod table;
@@ -21,16 +31,24 @@ mod vectors;
 #[cfg(test)]
 mod check;
 
+use session::opening::MAX_INTERVAL;
+use std::fs;
 use std::io::{self, Read, Write};
 use std::path::Path;
 use std::process::ExitCode;
 
 const USAGE: &str = "second list
 second rewrite
+second replay [SENDS WANTS]
+second session
 second compare PROGRAM COUNT SEED
 second compare-rewrite PROGRAM COUNT SEED
 second compare-encode PROGRAM COUNT SEED
+second compare-replay PROGRAM COUNT SEED
+second compare-session PROGRAM COUNT SEED
 second make DIR
+second make-replay FILE
+second make-session FILE
 second vectors DIR";
 
 fn main() -> ExitCode {
@@ -39,14 +57,16 @@ fn main() -> ExitCode {
     let done = match arguments[..] {
         ["list"] => list(),
         ["rewrite"] => rewrite(),
-        ["compare", program, count, seed] => compare_by(compare::compare, program, count, seed),
-        ["compare-rewrite", program, count, seed] => {
-            compare_by(compare_rewrite::compare, program, count, seed)
-        }
-        ["compare-encode", program, count, seed] => {
-            compare_by(compare_encode::compare, program, count, seed)
-        }
+        ["replay"] => replay("0", "0"),
+        ["replay", sends, wants] => replay(sends, wants),
+        ["session"] => session(),
+        [mode, program, count, seed] => match comparison(mode) {
+            Some(compare) => compare_by(compare, program, count, seed),
+            None => Err(io::Error::other(USAGE)),
+        },
         ["make", folder] => vectors::make(Path::new(folder)).map(|()| true),
+        ["make-replay", file] => fs::write(file, fixed::stream()).map(|()| true),
+        ["make-session", file] => fs::write(file, fixed::calls()).map(|()| true),
         ["vectors", folder] => vectors::write_listings(Path::new(folder)).map(|()| true),
         _ => Err(io::Error::other(USAGE)),
     };
@@ -80,7 +100,45 @@ fn rewrite() -> io::Result<bool> {
     Ok(true)
 }
 
+/// Reads a client's stream from standard input and writes what a session answers to its items.
+fn replay(sends: &str, wants: &str) -> io::Result<bool> {
+    let offer = |text: &str| item::decimal(text.as_bytes(), MAX_INTERVAL as usize);
+    let (Some(sends), Some(wants)) = (offer(sends), offer(wants)) else {
+        return Err(io::Error::other("replay: no heart-beat offers"));
+    };
+    let mut stream = Vec::new();
+    io::stdin().read_to_end(&mut stream)?;
+    let replay = replay::replay(&stream, sends as u32, wants as u32).expect("offers in the limit");
+    io::stdout().write_all(replay::write(&replay).as_bytes())?;
+    Ok(true)
+}
+
+/// Reads calls of a session from standard input and writes the replies.
+fn session() -> io::Result<bool> {
+    let mut input = Vec::new();
+    io::stdin().read_to_end(&mut input)?;
+    let calls =
+        session_calls::read(&input).ok_or(io::Error::other("session: a call is cut off"))?;
+    let mut output = io::stdout().lock();
+    for reply in session_calls::replies(&calls) {
+        output.write_all(&reply.octets())?;
+    }
+    output.flush()?;
+    Ok(true)
+}
+
 type Comparison = fn(&str, usize, u64) -> io::Result<bool>;
+
+fn comparison(mode: &str) -> Option<Comparison> {
+    Some(match mode {
+        "compare" => compare::compare,
+        "compare-rewrite" => compare_rewrite::compare,
+        "compare-encode" => compare_encode::compare,
+        "compare-replay" => compare_replay::compare,
+        "compare-session" => compare_session::compare,
+        _ => return None,
+    })
+}
 
 /// Compares; a difference is an answer, not an error.
 fn compare_by(compare: Comparison, program: &str, count: &str, seed: &str) -> io::Result<bool> {

@@ -13,9 +13,10 @@ pub struct Ran {
     pub status: Option<i32>,
 }
 
-/// Runs the program with these octets on its standard input.
-pub fn run(program: &str, input: &[u8]) -> io::Result<Ran> {
+/// Runs the program with these arguments and these octets on its standard input.
+pub fn run(program: &str, arguments: &[String], input: &[u8]) -> io::Result<Ran> {
     let mut child = Command::new(program)
+        .args(arguments)
         .stdin(Stdio::piped())
         .stdout(Stdio::piped())
         .stderr(Stdio::piped())

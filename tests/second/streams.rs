@@ -65,7 +65,7 @@ fn beats(random: &mut Random, stream: &mut Stream) {
     }
 }
 
-fn line_end(random: &mut Random, stream: &mut Stream) {
+pub fn line_end(random: &mut Random, stream: &mut Stream) {
     if random.once_in(3) {
         stream.push(CR);
     }
@@ -181,7 +181,7 @@ fn text(random: &mut Random, command: Command, length: usize, stream: &mut Strea
 }
 
 /// A content-length line with its line end, perhaps with leading zeros.
-fn length_line(random: &mut Random, length: usize, stream: &mut Stream) {
+pub fn length_line(random: &mut Random, length: usize, stream: &mut Stream) {
     let zeros = if random.once_in(3) {
         random.between(1, 12)
     } else {
@@ -224,7 +224,7 @@ fn damaged(random: &mut Random) -> Stream {
     stream
 }
 
-fn damage(random: &mut Random, stream: &mut Stream) {
+pub fn damage(random: &mut Random, stream: &mut Stream) {
     if stream.is_empty() {
         return;
     }

@@ -1,0 +1,127 @@
+//! Tests of random calls of a session: frames are answered as they are meant, calls change what they may
+//! and no more, and ids are those that the history of calls says.
+
+use super::sessions::open;
+use crate::client::right::right;
+use crate::client::wrong::{wrong, FRESH, OPEN};
+use crate::random::Random;
+use crate::session::opening::ONLY_1_2;
+use crate::session::{Accepted, Phase};
+use crate::session_calls::records;
+use crate::session_calls::sequence::{sequence, Step};
+use crate::session_calls::Call;
+use std::collections::{BTreeMap, BTreeSet};
+
+#[test]
+fn frames_are_answered_as_meant() {
+    let mut random = Random::new(10);
+    for round in 0..20_000 {
+        let phase = [Phase::Fresh, Phase::Open][round % 2];
+        let mut session = records::session(&mut random, phase);
+        let numbers: &[usize] = if phase == Phase::Fresh { &FRESH } else { &OPEN };
+        let number = random.pick(numbers);
+        if let Some(frame) = wrong(&mut random, &session, number) {
+            assert_eq!(session.clone().frame(&frame, 7), Err(number), "{frame:?}");
+        }
+        let frame = right(&mut random, &session);
+        let receipt = frame.first(b"receipt").is_some() && phase == Phase::Open;
+        assert_eq!(
+            session.frame(&frame, 7),
+            Ok(Accepted { receipt }),
+            "{frame:?}"
+        );
+    }
+}
+
+fn number_of(answer: &str) -> Option<usize> {
+    answer.strip_prefix("refused ")?.parse().ok()
+}
+
+/// What a call leaves of the record: "38 and 39 leave the session unchanged; every other number closes
+/// it and changes nothing else"; what is accepted sets last-heard.
+#[test]
+fn calls_change_only_what_they_may() {
+    let mut random = Random::new(11);
+    let mut answers = BTreeSet::new();
+    for Step {
+        call,
+        before,
+        reply,
+    } in sequence(&mut random, 30_000)
+    {
+        answers.insert((call.name(), reply.answer.clone()));
+        let mut expected = before;
+        match (&call, number_of(&reply.answer)) {
+            (Call::Make { .. } | Call::Set(_), _) => continue,
+            (Call::TimedOut { .. }, _) | (_, Some(38 | 39)) => {}
+            (_, Some(_)) => expected.phase = 2,
+            (Call::HeartBeat { time }, None) => expected.state.last_heard = *time,
+            (Call::Frame { command, time, .. }, None) => {
+                let after = &reply.record;
+                expected.state.last_heard = *time;
+                match command {
+                    5 | 13 => {
+                        expected.phase = 1;
+                        expected.state.shared = ONLY_1_2;
+                        expected.state.client_to_server = after.state.client_to_server;
+                        expected.state.server_to_client = after.state.server_to_client;
+                    }
+                    7 => expected.phase = 2,
+                    14 | 15 => expected.subscriptions = after.subscriptions.clone(),
+                    1 | 3 | 4 => expected.transactions = after.transactions.clone(),
+                    _ => {}
+                }
+            }
+        }
+        assert_eq!(reply.record, expected, "{call:?}");
+    }
+    assert_eq!(answers.len(), 2 + 1 + 15 + 3 + 3);
+}
+
+/// The ids of one kind, each with its place, by what the history of accepted calls says.
+#[derive(Default)]
+struct History(BTreeMap<Vec<u8>, usize>);
+
+impl History {
+    fn takes(&mut self, id: &[u8]) {
+        let free = |place: &usize| self.0.values().all(|taken| taken != place);
+        let place = (0..).find(free).expect("a place");
+        assert_eq!(self.0.insert(id.to_vec(), place), None);
+    }
+
+    fn frees(&mut self, id: &[u8]) {
+        assert!(self.0.remove(id).is_some());
+    }
+
+    /// Whether the places hold these ids and no others.
+    fn is_in(&self, places: &[Option<Vec<u8>>]) -> bool {
+        let live = places.iter().flatten().count();
+        let there = |(id, place): (&Vec<u8>, &usize)| places[*place].as_ref() == Some(id);
+        live == self.0.len() && self.0.iter().all(there)
+    }
+}
+
+/// "A new id takes the first free place (length 0); UNSUBSCRIBE, COMMIT and ABORT free one, to be used
+/// again."
+#[test]
+fn ids_are_those_of_the_history() {
+    let mut random = Random::new(12);
+    for _ in 0..60 {
+        let mut session = open().session().expect("a valid session");
+        let (mut subscriptions, mut transactions) = (History::default(), History::default());
+        for _ in 0..200 {
+            let frame = right(&mut random, &session);
+            session.frame(&frame, 7).expect("accepted");
+            let first = |name: &[u8]| frame.first(name).unwrap_or_default();
+            match frame.command.name() {
+                b"SUBSCRIBE" => subscriptions.takes(first(b"id")),
+                b"UNSUBSCRIBE" => subscriptions.frees(first(b"id")),
+                b"BEGIN" => transactions.takes(first(b"transaction")),
+                b"COMMIT" | b"ABORT" => transactions.frees(first(b"transaction")),
+                _ => {}
+            }
+            assert!(subscriptions.is_in(&session.subscriptions));
+            assert!(transactions.is_in(&session.transactions));
+        }
+    }
+}

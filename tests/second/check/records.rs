@@ -1,0 +1,117 @@
+//! Tests of session records: the rule of 38 is read from the octets, and a valid record is the one of
+//! its session.
+
+use crate::random::Random;
+use crate::reader::Reader;
+use crate::session::opening::ONLY_1_2;
+use crate::session::record::{make, Record, LENGTH};
+use crate::session_calls::records::{record, valid};
+
+/// The number of four octets.
+fn number(octets: &[u8]) -> u64 {
+    octets
+        .iter()
+        .fold(0, |sum, &octet| sum * 256 + u64::from(octet))
+}
+
+/// Whether the octets of a record break a rule of 38, each octet looked at in its place.
+fn is_invalid(octets: &[u8]) -> bool {
+    let numbers = [1, 5, 15, 19].map(|start| number(&octets[start..start + 4]));
+    octets[0] > 2
+        || numbers.iter().any(|&number| number > 3_600_000)
+        || (octets[0] != 2 && octets[9..12] != [0, 0, 1])
+        || store_is_invalid(&octets[27..539], &octets[539..555])
+        || store_is_invalid(&octets[555..683], &octets[683..])
+}
+
+fn store_is_invalid(octets: &[u8], lengths: &[u8]) -> bool {
+    let unused = |at: usize| at % 32 >= usize::from(lengths[at / 32]);
+    let equal = |a: usize, b: usize| {
+        lengths[a] != 0
+            && lengths[a] == lengths[b]
+            && octets[a * 32..a * 32 + 32] == octets[b * 32..b * 32 + 32]
+    };
+    lengths.iter().any(|&length| length > 32)
+        || (0..octets.len()).any(|at| unused(at) && octets[at] != 0)
+        || (0..lengths.len()).any(|a| (0..a).any(|b| equal(a, b)))
+}
+
+#[test]
+fn invalid_records_are_those_of_38() {
+    let mut random = Random::new(7);
+    let mut counts = [0; 2];
+    for _ in 0..20_000 {
+        let record = record(&mut random);
+        let invalid = record.session().is_none();
+        assert_eq!(invalid, is_invalid(&record.octets()), "{record:?}");
+        counts[usize::from(invalid)] += 1;
+        let mut changed = record.clone();
+        if invalid {
+            assert_eq!(changed.frame(0, b"", 7), Err(38));
+            assert_eq!(changed.frame(12, b"", 7), Err(38));
+            assert_eq!(changed.heart_beat(7), Err(38));
+            assert_eq!(changed.timed_out(7), Err(38));
+            assert_eq!(changed, record);
+        }
+    }
+    assert!(counts[0] > 5_000 && counts[1] > 3_000, "{:?}", counts);
+}
+
+#[test]
+fn records_are_read_as_written() {
+    let mut random = Random::new(8);
+    for _ in 0..3_000 {
+        let record = record(&mut random);
+        let octets = record.octets();
+        assert_eq!(octets.len(), 687);
+        assert_eq!(LENGTH, 687);
+        assert_eq!(Record::read(&mut Reader(&octets)), Some(record));
+    }
+}
+
+#[test]
+fn a_valid_record_is_that_of_its_session() {
+    let mut random = Random::new(9);
+    for _ in 0..3_000 {
+        let record = valid(&mut random);
+        let session = record.session().expect("a valid record");
+        assert_eq!(Record::of(&session), record);
+        assert_eq!(session.subscriptions.len(), 16);
+        assert_eq!(session.transactions.len(), 4);
+    }
+}
+
+/// "a fresh one holds 512 zero octets for the former, and 0 for its intervals and last-heard"
+#[test]
+fn a_fresh_session() {
+    let (made, record) = make(0x0001_0203, 3_600_000, ONLY_1_2);
+    assert_eq!(made, Ok(()));
+    let octets = record.octets();
+    assert_eq!(octets[..12], [0, 0, 1, 2, 3, 0, 54, 238, 128, 0, 0, 1]);
+    assert!(octets[12..].iter().all(|&octet| octet == 0));
+    assert_eq!(record.subscriptions.octets, [0; 512]);
+}
+
+/// "refused with 34 and gives a closed session whose other fields are 0"
+#[test]
+fn making_is_refused() {
+    let other: Vec<[bool; 3]> = (0..8)
+        .map(|bits| [0, 1, 2].map(|place| bits >> place & 1 == 1))
+        .filter(|&flags| flags != ONLY_1_2)
+        .collect();
+    assert_eq!(other.len(), 7);
+    let mut calls: Vec<_> = other.into_iter().map(|flags| (0, 0, flags)).collect();
+    calls.push((3_600_001, 0, ONLY_1_2));
+    calls.push((0, 3_600_001, ONLY_1_2));
+    calls.push((u32::MAX, u32::MAX, [true; 3]));
+    for (sends, wants, offered) in calls {
+        let (made, mut record) = make(sends, wants, offered);
+        assert_eq!(made, Err(34));
+        let octets = record.octets();
+        assert_eq!(octets[0], 2);
+        assert!(octets[1..].iter().all(|&octet| octet == 0));
+        assert_eq!(record.frame(16, b"", 7), Err(39));
+        assert_eq!(record.frame(12, b"", 7), Err(40));
+        assert_eq!(record.timed_out(7), Ok(false));
+    }
+}

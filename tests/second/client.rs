@@ -1,0 +1,154 @@
+//! Random frames of a client, for a session as it stands: such as the session accepts, and such as it
+//! refuses with a number that is asked for.
+
+pub mod right;
+pub mod values;
+pub mod wrong;
+
+use self::values::{any_value, id, near_id, text};
+use crate::block::Entry;
+use crate::item::{Command, COMMANDS};
+use crate::random::Random;
+use crate::session::frame::{naming, needed, opens, Frame, Kind};
+use crate::session::{Places, Session};
+
+/// The headers that a session looks at in some command.
+const KNOWN: [&[u8]; 7] = [
+    b"accept-version",
+    b"host",
+    b"heart-beat",
+    b"destination",
+    b"id",
+    b"transaction",
+    b"receipt",
+];
+
+/// Names that are almost those.
+const ALMOST: [&[u8]; 12] = [
+    b"i",
+    b"ID",
+    b"id ",
+    b"idd",
+    b"receipt-id",
+    b"receip",
+    b"Transaction",
+    b"transaction\0",
+    b"destinatio",
+    b"hos",
+    b"heart_beat",
+    b"version",
+];
+
+/// The command of a name.
+pub fn command(name: &[u8]) -> Command {
+    Command::named(name).expect("a command")
+}
+
+/// Some command that the test holds for.
+fn command_that(random: &mut Random, test: impl Fn(Command) -> bool) -> Command {
+    loop {
+        let command = Command(random.between(1, COMMANDS.len()));
+        if test(command) {
+            return command;
+        }
+    }
+}
+
+/// The headers that decide what a session does with the command, the receipt apart.
+fn deciding(command: Command) -> Vec<&'static [u8]> {
+    let mut names = needed(command).to_vec();
+    names.extend(naming(command).map(|naming| naming.header));
+    if opens(command) {
+        names.push(b"heart-beat");
+    }
+    names
+}
+
+/// A frame with the headers that its command needs, each with a value that is accepted; it names this
+/// id, if its command names one.
+fn frame(random: &mut Random, command: Command, id: Option<&[u8]>) -> Frame {
+    let value = |name: &&'static [u8]| match *name {
+        b"accept-version" => Entry::new(name, &values::versions(random)),
+        _ => Entry::new(name, &any_value(random, name)),
+    };
+    let mut entries: Vec<Entry> = needed(command).iter().map(value).collect();
+    if let Some((naming, id)) = naming(command).zip(id) {
+        entries.retain(|entry| entry.name != naming.header);
+        entries.push(Entry::new(naming.header, id));
+    }
+    Frame { command, entries }
+}
+
+/// The frame with a receipt and entries that do not matter, all in any order, and with later entries
+/// of names that it has.
+fn dressed(random: &mut Random, mut frame: Frame) -> Frame {
+    if random.once_in(3) {
+        let value = any_value(random, b"receipt");
+        frame.entries.push(Entry::new(b"receipt", &value));
+    }
+    for _ in 0..random.pick(&[0, 0, 0, 1, 2]) {
+        let stray = stray(random, frame.command);
+        frame.entries.push(stray);
+    }
+    shuffle(random, &mut frame.entries);
+    for index in (0..frame.entries.len()).rev() {
+        if random.once_in(8) {
+            let name = frame.entries[index].name.clone();
+            let value = any_value(random, &name);
+            let place = random.between(index + 1, frame.entries.len());
+            frame.entries.insert(place, Entry { name, value });
+        }
+    }
+    frame
+}
+
+/// An entry that does not matter for the command: of a name that matters for others, or almost so, or
+/// any.
+fn stray(random: &mut Random, command: Command) -> Entry {
+    let name = match random.below(3) {
+        0 => random.pick(&KNOWN).to_vec(),
+        1 => random.pick(&ALMOST).to_vec(),
+        _ => [b"x", &text(random)[..]].concat(),
+    };
+    if deciding(command).contains(&&name[..]) {
+        return Entry::new(b"stray", b"");
+    }
+    let value = any_value(random, &name);
+    Entry { name, value }
+}
+
+fn shuffle(random: &mut Random, entries: &mut [Entry]) {
+    for index in (1..entries.len()).rev() {
+        entries.swap(index, random.between(0, index));
+    }
+}
+
+fn is_live(places: &Places, id: &[u8]) -> bool {
+    places.iter().flatten().any(|live| live == id)
+}
+
+/// Some live id of a kind.
+fn live_id(random: &mut Random, places: &Places) -> Option<Vec<u8>> {
+    let live: Vec<&Vec<u8>> = places.iter().flatten().collect();
+    (!live.is_empty()).then(|| random.pick(&live).clone())
+}
+
+/// An id that is not live: any, or almost a live one, or a live one of the other kind.
+pub fn new_id(random: &mut Random, session: &Session, kind: Kind) -> Vec<u8> {
+    let places = session.places(kind);
+    let other = match kind {
+        Kind::Subscription => &session.transactions,
+        Kind::Transaction => &session.subscriptions,
+    };
+    loop {
+        let candidate = match random.below(4) {
+            0 => live_id(random, places).map(|live| near_id(random, &live)),
+            1 => live_id(random, other),
+            _ => Some(id(random)),
+        };
+        match candidate {
+            Some(id) if !is_live(places, &id) => return id,
+            _ => {}
+        }
+    }
+}

@@ -1,0 +1,136 @@
+//! Runs another program on random streams of clients and compares what it says of each item with what
+//! a session here answers.
+
+use crate::item::COMMANDS;
+use crate::listing::End;
+use crate::lives::{life, Life};
+use crate::program::{self, Ran};
+use crate::random::Random;
+use crate::replay::{self, Replay};
+use std::io::{self, Write};
+
+/// The refusals of a session that is made and gets frames.
+const NUMBERS: [usize; 11] = [31, 32, 33, 40, 41, 42, 43, 44, 45, 46, 47];
+
+/// How often each outcome came up in the streams compared; of accepted frames, first those without a
+/// receipt, then those with one.
+#[derive(Default)]
+struct Tally {
+    beats: [usize; 2],
+    accepted: [[usize; 2]; COMMANDS.len()],
+    refused: [[usize; NUMBERS.len()]; COMMANDS.len()],
+    ends: [usize; 3],
+}
+
+impl Tally {
+    fn count(&mut self, replay: &Replay) {
+        for step in &replay.steps {
+            let Some(command) = step.command else {
+                self.beats[usize::from(step.answer.is_err())] += 1;
+                continue;
+            };
+            let index = command.0 - 1;
+            match step.answer {
+                Ok(accepted) => self.accepted[index][usize::from(accepted.receipt)] += 1,
+                Err(number) => {
+                    let column = NUMBERS.iter().position(|&known| known == number);
+                    self.refused[index][column.expect("a refusal of a frame")] += 1;
+                }
+            }
+        }
+        let end = match replay.listing.end {
+            End::Refused { .. } => 0,
+            End::More => 1,
+            End::Nothing => 2,
+        };
+        self.ends[end] += 1;
+    }
+
+    fn print(&self) {
+        println!(
+            "beat accepted {}, refused 40 {}",
+            self.beats[0], self.beats[1]
+        );
+        for (index, [without, with]) in self.accepted.iter().enumerate() {
+            let name = String::from_utf8_lossy(COMMANDS[index]);
+            print!("frame {} {name} accepted {without}", index + 1);
+            print!(", with a receipt {with}, refused");
+            print_counts(
+                NUMBERS
+                    .iter()
+                    .zip(&self.refused[index])
+                    .filter(|(_, &count)| count > 0),
+            );
+        }
+        let mut all = [0; NUMBERS.len()];
+        for row in &self.refused {
+            (0..all.len()).for_each(|column| all[column] += row[column]);
+        }
+        print!("frames refused");
+        print_counts(NUMBERS.iter().zip(&all));
+        let [refused, more, end] = self.ends;
+        println!("stream refused {refused}, more {more}, end {end}");
+    }
+}
+
+/// Prints how often each of these numbers came up.
+fn print_counts<'a>(counts: impl Iterator<Item = (&'a usize, &'a usize)>) {
+    for (number, count) in counts {
+        print!(" {number}: {count}");
+    }
+    println!();
+}
+
+/// Compares that many streams of the seed. False at the first difference, which is printed.
+pub fn compare(program: &str, count: usize, seed: u64) -> io::Result<bool> {
+    let mut random = Random::new(seed);
+    let mut tally = Tally::default();
+    for number in 0..count {
+        let life = life(&mut random);
+        let (sends, wants) = life.offers.unwrap_or((0, 0));
+        let replay = replay::replay(&life.stream, sends, wants).expect("offers that are allowed");
+        let ours = replay::write(&replay);
+        let ran = program::run(program, &arguments(&life), &life.stream)?;
+        io::stderr().write_all(&ran.errors)?;
+        if ran.output != ours.as_bytes() || ran.status.is_none() {
+            let name = format!("second-difference-replay-{seed}-{number}");
+            report(&name, &life, &ours, &ran)?;
+            return Ok(false);
+        }
+        tally.count(&replay);
+    }
+    tally.print();
+    println!("second: {count} streams replayed and compared, {seed} seed");
+    Ok(true)
+}
+
+/// The arguments that the program gets: none, or the server's two numbers.
+fn arguments(life: &Life) -> Vec<String> {
+    match life.offers {
+        Some((sends, wants)) => vec![sends.to_string(), wants.to_string()],
+        None => Vec::new(),
+    }
+}
+
+/// Keeps the stream in a file and prints both outputs from the first line that differs.
+fn report(name: &str, life: &Life, ours: &str, ran: &Ran) -> io::Result<()> {
+    let path = program::keep(name, &life.stream)?;
+    println!("second: a difference, the stream is in {}", path.display());
+    println!("arguments: {:?}", arguments(life));
+    let theirs = String::from_utf8_lossy(&ran.output);
+    let (ours, theirs) = (lines(ours), lines(&theirs));
+    let alike = ours.iter().zip(&theirs).take_while(|(a, b)| a == b).count();
+    println!("the first {alike} lines are equal");
+    for (whose, lines) in [("second", ours), ("compared", theirs)] {
+        println!("the {whose} program's next lines:");
+        let next = lines[alike..].iter().take(5);
+        next.for_each(|line| println!("  {line:?}"));
+    }
+    program::print_signal(ran.status);
+    Ok(())
+}
+
+/// The lines with their LF.
+fn lines(text: &str) -> Vec<&str> {
+    text.split_inclusive('\n').collect()
+}

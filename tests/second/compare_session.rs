@@ -1,0 +1,197 @@
+//! Hands random calls of a session to another program, many at a time, and compares its answers and
+//! session records with those here.
+
+use crate::block;
+use crate::program;
+use crate::random::Random;
+use crate::session::record::{Record, LENGTH};
+use crate::session::MAX_ID;
+use crate::session_calls::sequence::{sequence, Step};
+use crate::session_calls::Call;
+use std::collections::BTreeMap;
+use std::io::{self, Write};
+
+/// How many calls one run of the program is given.
+const BATCH: usize = 400;
+
+/// The answers to each kind of call.
+const ANSWERS: [(&str, &[&str]); 5] = [
+    ("make", &["made", "refused 34"]),
+    ("set", &["set"]),
+    (
+        "frame",
+        &[
+            "accepted",
+            "accepted receipt",
+            "refused 31",
+            "refused 32",
+            "refused 33",
+            "refused 38",
+            "refused 39",
+            "refused 40",
+            "refused 41",
+            "refused 42",
+            "refused 43",
+            "refused 44",
+            "refused 45",
+            "refused 46",
+            "refused 47",
+        ],
+    ),
+    ("heart-beat", &["accepted", "refused 38", "refused 40"]),
+    ("timed out", &["yes", "no", "refused 38"]),
+];
+
+/// The parts of a record, with the octet that each begins at.
+const PARTS: [(usize, &str); 12] = [
+    (0, "phase"),
+    (1, "sends"),
+    (5, "wants"),
+    (9, "offered"),
+    (12, "shared"),
+    (15, "client to server"),
+    (19, "server to client"),
+    (23, "last-heard"),
+    (27, "subscription ids"),
+    (539, "lengths of subscription ids"),
+    (555, "transaction ids"),
+    (683, "lengths of transaction ids"),
+];
+
+/// How often each answer came up, of each kind of call.
+#[derive(Default)]
+struct Tally(BTreeMap<(&'static str, String), usize>);
+
+impl Tally {
+    fn count(&mut self, step: &Step) {
+        let key = (step.call.name(), step.reply.answer.clone());
+        *self.0.entry(key).or_default() += 1;
+    }
+
+    fn print(&self) {
+        for (kind, answers) in ANSWERS {
+            for answer in answers {
+                let count = self.0.get(&(kind, answer.to_string())).unwrap_or(&0);
+                println!("{kind}: {answer} {count}");
+            }
+        }
+    }
+}
+
+/// Compares that many calls of the seed. False at the first difference, which is printed.
+pub fn compare(program: &str, count: usize, seed: u64) -> io::Result<bool> {
+    let mut random = Random::new(seed);
+    let mut tally = Tally::default();
+    let mut done = 0;
+    while done < count {
+        let size = BATCH.min(count - done);
+        let steps = sequence(&mut random, size);
+        let input: Vec<u8> = steps.iter().flat_map(|step| step.call.octets()).collect();
+        let ran = program::run(program, &[], &input)?;
+        io::stderr().write_all(&ran.errors)?;
+        let (alike, rest) = compared(&steps, &ran.output);
+        if alike < size || !rest.is_empty() || ran.status.is_none() {
+            let index = alike.min(size - 1);
+            let name = format!("second-difference-session-{seed}-{}", done + index);
+            report(&name, &steps[..=index])?;
+            match steps.get(alike) {
+                Some(step) => print_both(step, rest),
+                None => program::print_difference("what stands behind the last reply", b"", rest),
+            }
+            program::print_signal(ran.status);
+            return Ok(false);
+        }
+        steps.iter().for_each(|step| tally.count(step));
+        done += size;
+    }
+    tally.print();
+    println!("second: {count} calls of a session compared, {seed} seed");
+    Ok(true)
+}
+
+/// How many calls from the first on have the same reply, and what the program wrote behind these.
+fn compared<'a>(steps: &[Step], output: &'a [u8]) -> (usize, &'a [u8]) {
+    let mut rest = output;
+    for (index, step) in steps.iter().enumerate() {
+        match rest.strip_prefix(&step.reply.octets()[..]) {
+            Some(behind) => rest = behind,
+            None => return (index, rest),
+        }
+    }
+    (steps.len(), rest)
+}
+
+/// Keeps the run's calls up to the last one of these in a file, and says what that one is.
+fn report(name: &str, steps: &[Step]) -> io::Result<()> {
+    let calls: Vec<u8> = steps.iter().flat_map(|step| step.call.octets()).collect();
+    let path = program::keep(name, &calls)?;
+    let step = &steps[steps.len() - 1];
+    println!(
+        "second: a difference at the last of {} calls, which are in {}",
+        steps.len(),
+        path.display()
+    );
+    print_record(&step.before);
+    print_call(&step.call);
+    Ok(())
+}
+
+fn print_record(record: &Record) {
+    println!("record before: phase {}, {:?}", record.phase, record.state);
+    let stores = [
+        ("subscription", &record.subscriptions),
+        ("transaction", &record.transactions),
+    ];
+    for (kind, store) in stores {
+        let places = store.octets.chunks(MAX_ID).zip(&store.lengths);
+        for (index, (octets, length)) in places.enumerate() {
+            if *length != 0 || octets.iter().any(|&octet| octet != 0) {
+                let octets = octets.escape_ascii();
+                println!("  {kind} place {index}, length {length}: \"{octets}\"");
+            }
+        }
+    }
+}
+
+fn print_call(call: &Call) {
+    let Call::Frame {
+        command,
+        time,
+        block,
+    } = call
+    else {
+        println!("call: {call:?}");
+        return;
+    };
+    let length = block.len();
+    println!("call: frame, command {command}, time {time}, header block of {length} octets");
+    let Some(entries) = block::read(block) else {
+        println!("  malformed: \"{}\"", front(block));
+        return;
+    };
+    for entry in entries.iter().take(20) {
+        println!("  \"{}\": \"{}\"", front(&entry.name), front(&entry.value));
+    }
+}
+
+/// The first octets of a text.
+fn front(text: &[u8]) -> String {
+    text[..text.len().min(100)].escape_ascii().to_string()
+}
+
+/// Prints both answers, and in what the records differ.
+fn print_both(step: &Step, theirs: &[u8]) {
+    let mut parts = theirs.splitn(2, |&octet| octet == b'\n');
+    let line = parts.next().unwrap_or_default().escape_ascii();
+    println!("answer: second program \"{}\"", step.reply.line());
+    println!("answer: compared program \"{line}\"");
+    let ours = [&step.reply.record.octets()[..], b"\n"].concat();
+    let theirs = parts.next().unwrap_or_default();
+    let theirs = &theirs[..theirs.len().min(LENGTH + 1)];
+    let differs = |&index: &usize| ours.get(index) != theirs.get(index);
+    if let Some(first) = (0..=LENGTH).find(differs) {
+        let part = PARTS.iter().rfind(|(start, _)| *start <= first);
+        let (_, name) = part.expect("a part");
+        program::print_difference(&format!("the record in its {name}"), &ours, theirs);
+    }
+}

@@ -1,0 +1,231 @@
+//! Random streams of a client's life: heart-beats and frames that are accepted for a good while, most
+//! often one that is not, and some behind it.
+
+use crate::block::Entry;
+use crate::client::right::{leaving, right, taking};
+use crate::client::wrong::wrong;
+use crate::decode::decode;
+use crate::encode;
+use crate::item::{Command, COLON, CR, LF, NUL};
+use crate::random::Random;
+use crate::session::frame::{Frame, Kind};
+use crate::session::opening::{MAX_INTERVAL, ONLY_1_2};
+use crate::session::record::make;
+use crate::session::{Phase, Session};
+use crate::streams::{body, damage, length_line, line_end};
+
+/// A stream, and the server's heart-beat numbers; without them they are 0.
+pub struct Life {
+    pub offers: Option<(u32, u32)>,
+    pub stream: Vec<u8>,
+}
+
+/// How a life goes on to its end: a refusal, DISCONNECT, or neither.
+#[derive(Clone, Copy, PartialEq, Eq)]
+enum Plan {
+    Refused(usize),
+    Leaves,
+    Stays,
+}
+
+const PLANS: [Plan; 15] = [
+    Plan::Refused(31),
+    Plan::Refused(32),
+    Plan::Refused(33),
+    Plan::Refused(41),
+    Plan::Refused(42),
+    Plan::Refused(42),
+    Plan::Refused(43),
+    Plan::Refused(43),
+    Plan::Refused(44),
+    Plan::Refused(45),
+    Plan::Refused(46),
+    Plan::Refused(46),
+    Plan::Refused(47),
+    Plan::Leaves,
+    Plan::Stays,
+];
+
+/// One random life.
+pub fn life(random: &mut Random) -> Life {
+    let offers = offers(random);
+    let mut client = Client::new(offers.unwrap_or((0, 0)));
+    let plan = random.pick(&PLANS);
+    client.beats(random);
+    if !ends_fresh(random, plan) {
+        client.right(random);
+        client.goes_on(random);
+    }
+    if random.once_in(5) || plan == Plan::Refused(47) {
+        client.fills(random);
+    }
+    if random.once_in(4) {
+        client.beats(random);
+    }
+    client.ends(random, plan);
+    client.comes_back(random);
+    if random.once_in(5) {
+        client.breaks_off(random);
+    }
+    let stream = client.stream;
+    Life { offers, stream }
+}
+
+/// The server's two numbers, or none.
+fn offers(random: &mut Random) -> Option<(u32, u32)> {
+    let any = random.below(MAX_INTERVAL as usize + 1) as u32;
+    let mut number = || random.pick(&[0, 1, 500, 999, 1_000, 1_001, 2_000, any, MAX_INTERVAL]);
+    let (sends, wants) = (number(), number());
+    (!random.once_in(4)).then_some((sends, wants))
+}
+
+/// Whether the plan is for a session that is still fresh.
+fn ends_fresh(random: &mut Random, plan: Plan) -> bool {
+    match plan {
+        Plan::Refused(31..=33) => true,
+        Plan::Refused(41..=43) => random.once_in(2),
+        _ => false,
+    }
+}
+
+/// A client that keeps its own session, so that it knows what is accepted.
+struct Client {
+    session: Session,
+    stream: Vec<u8>,
+}
+
+impl Client {
+    fn new((sends, wants): (u32, u32)) -> Client {
+        let (_, record) = make(sends, wants, ONLY_1_2);
+        Client {
+            session: record.session().expect("a session that was made"),
+            stream: Vec::new(),
+        }
+    }
+
+    /// Sends the frame. The session gets what is read of it.
+    fn send(&mut self, random: &mut Random, frame: &Frame) {
+        let image = image(random, frame);
+        let content = decode(&image).expect("a frame");
+        let (command, entries) = (content.command, content.entries);
+        let _ = self.session.frame(&Frame { command, entries }, 0);
+        self.stream.extend(image);
+    }
+
+    fn beats(&mut self, random: &mut Random) {
+        for _ in 0..random.pick(&[0, 1, 2]) {
+            line_end(random, &mut self.stream);
+        }
+    }
+
+    fn right(&mut self, random: &mut Random) {
+        let frame = right(random, &self.session);
+        self.send(random, &frame);
+    }
+
+    /// Sends what is accepted, for a good while.
+    fn goes_on(&mut self, random: &mut Random) {
+        for _ in 0..random.pick(&[0, 2, 5, 12, 30, 60]) {
+            if random.once_in(8) {
+                self.beats(random);
+            }
+            self.right(random);
+        }
+    }
+
+    /// Takes all places of a kind, if the session is open.
+    fn fills(&mut self, random: &mut Random) {
+        let kind = random.pick(&[Kind::Subscription, Kind::Transaction]);
+        while self.session.phase == Phase::Open {
+            let Some(frame) = taking(random, &self.session, kind) else {
+                return;
+            };
+            self.send(random, &frame);
+            if random.once_in(12) {
+                self.right(random);
+            }
+        }
+    }
+
+    /// Ends as planned, if the session has the ids for it.
+    fn ends(&mut self, random: &mut Random, plan: Plan) {
+        let frame = match plan {
+            Plan::Refused(number) => wrong(random, &self.session, number),
+            Plan::Leaves => Some(leaving(random)),
+            Plan::Stays => None,
+        };
+        if let Some(frame) = frame {
+            self.send(random, &frame);
+        }
+    }
+
+    /// Sends a few things more, as if the session were open, or fresh again.
+    fn comes_back(&mut self, random: &mut Random) {
+        for _ in 0..random.pick(&[0, 0, 1, 2, 3]) {
+            let mut session = self.session.clone();
+            session.phase = random.pick(&[Phase::Open, Phase::Open, Phase::Fresh]);
+            let number = random.pick(&[41, 43, 46]);
+            let frame = match random.below(4) {
+                0 => wrong(random, &session, number),
+                1 => Some(leaving(random)),
+                _ => Some(right(random, &session)),
+            };
+            self.beats(random);
+            if let Some(frame) = frame {
+                self.send(random, &frame);
+            }
+        }
+    }
+
+    /// Sends a frame that is cut off or damaged.
+    fn breaks_off(&mut self, random: &mut Random) {
+        let frame = right(random, &self.session);
+        let mut image = image(random, &frame);
+        if random.once_in(2) {
+            damage(random, &mut image);
+        } else {
+            let length = random.below(image.len());
+            image.truncate(length);
+        }
+        self.stream.extend(image);
+    }
+}
+
+/// The frame on the wire, with a body if the command may have one, with and without its length.
+fn image(random: &mut Random, frame: &Frame) -> Vec<u8> {
+    let command = frame.command;
+    let mut image = command.name().to_vec();
+    line_end(random, &mut image);
+    let length = random.between(0, 9).min(command.max_body());
+    let declared = random.once_in(if command.has_body() { 2 } else { 16 });
+    let place = random.between(0, frame.entries.len());
+    for (index, entry) in frame.entries.iter().enumerate() {
+        if declared && index == place {
+            length_line(random, length, &mut image);
+        }
+        image.extend(encode::line(command, &writable(command, entry)));
+        line_end(random, &mut image);
+    }
+    if declared && place == frame.entries.len() {
+        length_line(random, length, &mut image);
+    }
+    line_end(random, &mut image);
+    body(random, length, declared, &mut image);
+    image.push(NUL);
+    image
+}
+
+/// The entry as the command can have it: without escapes there is no 10, 13 or colon.
+fn writable(command: Command, entry: &Entry) -> Entry {
+    let text = |text: &[u8]| -> Vec<u8> {
+        let octet = |&octet: &u8| match octet {
+            LF | CR | COLON if !command.escapes() => b';',
+            octet => octet,
+        };
+        text.iter().map(octet).collect()
+    };
+    Entry {
+        name: text(&entry.name),
+        value: text(&entry.value),
+    }
+}

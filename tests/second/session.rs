@@ -1,0 +1,209 @@
+//! One client's session, document 01: ids are held whole, each in its place, and each refusal is one
+//! question, asked in the document's order.
+
+pub mod frame;
+pub mod opening;
+pub mod record;
+
+use self::frame::{is_servers, naming, needed, Frame, Kind, Naming, Use};
+use self::opening::{interval, passed, shared, Flags, NO_VERSION};
+
+/// The sizes.
+pub const SUBSCRIPTIONS: usize = 16;
+pub const TRANSACTIONS: usize = 4;
+pub const MAX_ID: usize = 32;
+
+#[derive(Clone, Copy, PartialEq, Eq, Debug)]
+pub enum Phase {
+    Fresh,
+    Open,
+    Closed,
+}
+
+/// The places of one kind of ids. A free place holds none.
+pub type Places = Vec<Option<Vec<u8>>>;
+
+/// What a session keeps besides its phase and ids. `sends` and `wants` are the server's first and
+/// second heart-beat number.
+#[derive(Clone, Copy, PartialEq, Eq, Default, Debug)]
+pub struct State {
+    pub sends: u32,
+    pub wants: u32,
+    pub offered: Flags,
+    pub shared: Flags,
+    pub client_to_server: u32,
+    pub server_to_client: u32,
+    pub last_heard: u32,
+}
+
+/// A valid session.
+#[derive(Clone, PartialEq, Eq, Debug)]
+pub struct Session {
+    pub phase: Phase,
+    pub state: State,
+    pub subscriptions: Places,
+    pub transactions: Places,
+}
+
+/// An accepted answer "says only that": whether a receipt is owed.
+#[derive(Clone, Copy, PartialEq, Eq, Debug)]
+pub struct Accepted {
+    pub receipt: bool,
+}
+
+/// A refusal is its number.
+pub type Answer = Result<Accepted, usize>;
+
+type Check = fn(&Session, &Frame) -> bool;
+
+/// The refusals from 40 on, in their order; "at CONNECT/STOMP 31, 32, 33 after 43".
+const CHECKS: [(usize, Check); 11] = [
+    (40, |session, _| session.phase == Phase::Closed),
+    (41, |_, frame| is_servers(frame.command)),
+    (42, out_of_phase),
+    (43, header_missing),
+    (31, |_, frame| frame.opens() && frame.versions().is_none()),
+    (32, no_version_shared),
+    (33, |_, frame| frame.opens() && frame.heart_beat().is_none()),
+    (44, wrong_length),
+    (45, already_live),
+    (46, not_live),
+    (47, all_places_live),
+];
+
+/// "42 not open, or a second CONNECT/STOMP"
+fn out_of_phase(session: &Session, frame: &Frame) -> bool {
+    if frame.opens() {
+        session.phase == Phase::Open
+    } else {
+        session.phase != Phase::Open
+    }
+}
+
+/// "43 header missing"
+fn header_missing(_: &Session, frame: &Frame) -> bool {
+    let missing = |name: &&[u8]| frame.first(name).is_none();
+    needed(frame.command).iter().any(missing)
+}
+
+/// "32 none shared"
+fn no_version_shared(session: &Session, frame: &Frame) -> bool {
+    let versions = frame.versions().unwrap_or(NO_VERSION);
+    frame.opens() && shared(session.state.offered, versions) == NO_VERSION
+}
+
+/// "44 the id that names a subscription or transaction is empty or over 32"
+fn wrong_length(_: &Session, frame: &Frame) -> bool {
+    frame
+        .id()
+        .is_some_and(|id| id.is_empty() || id.len() > MAX_ID)
+}
+
+/// "45 id already live"
+fn already_live(session: &Session, frame: &Frame) -> bool {
+    uses(frame, &[Use::Takes]) && session.is_live(frame)
+}
+
+/// "46 not live"
+fn not_live(session: &Session, frame: &Frame) -> bool {
+    uses(frame, &[Use::Frees, Use::Mentions]) && !session.is_live(frame)
+}
+
+/// "47 all places live"
+fn all_places_live(session: &Session, frame: &Frame) -> bool {
+    let full = |naming: Naming| session.places(naming.kind).iter().all(Option::is_some);
+    uses(frame, &[Use::Takes]) && naming(frame.command).is_some_and(full)
+}
+
+/// Whether the frame names an id for one of these uses.
+fn uses(frame: &Frame, wanted: &[Use]) -> bool {
+    let used = naming(frame.command).map(|naming| naming.used);
+    frame.id().is_some() && used.is_some_and(|used| wanted.contains(&used))
+}
+
+impl Session {
+    pub fn places(&self, kind: Kind) -> &Places {
+        match kind {
+            Kind::Subscription => &self.subscriptions,
+            Kind::Transaction => &self.transactions,
+        }
+    }
+
+    fn places_mut(&mut self, kind: Kind) -> &mut Places {
+        match kind {
+            Kind::Subscription => &mut self.subscriptions,
+            Kind::Transaction => &mut self.transactions,
+        }
+    }
+
+    /// Whether the id that the frame names is live.
+    fn is_live(&self, frame: &Frame) -> bool {
+        let live = |naming: Naming| {
+            let mut ids = self.places(naming.kind).iter().flatten();
+            ids.any(|id| Some(&id[..]) == frame.id())
+        };
+        naming(frame.command).is_some_and(live)
+    }
+
+    /// Answers a frame of a known command with a well-formed header block. A refusal "closes it and
+    /// changes nothing else".
+    pub fn frame(&mut self, frame: &Frame, time: u32) -> Answer {
+        if let Some((number, _)) = CHECKS.iter().find(|(_, fits)| fits(self, frame)) {
+            self.phase = Phase::Closed;
+            return Err(*number);
+        }
+        self.open(frame);
+        self.take_or_free(frame);
+        if frame.command.name() == b"DISCONNECT" {
+            self.phase = Phase::Closed;
+        }
+        self.state.last_heard = time;
+        let receipt = frame.first(b"receipt").is_some() && !frame.opens();
+        Ok(Accepted { receipt })
+    }
+
+    /// What an accepted CONNECT or STOMP changes, and nothing for any other frame.
+    fn open(&mut self, frame: &Frame) {
+        if !frame.opens() {
+            return;
+        }
+        let versions = frame.versions().expect("a well-formed accept-version");
+        let (first, second) = frame.heart_beat().expect("a well-formed heart-beat");
+        let state = &mut self.state;
+        state.shared = shared(state.offered, versions);
+        state.client_to_server = interval(first, state.wants);
+        state.server_to_client = interval(state.sends, second);
+        self.phase = Phase::Open;
+    }
+
+    /// "A new id takes the first free place"; UNSUBSCRIBE, COMMIT and ABORT free one.
+    fn take_or_free(&mut self, frame: &Frame) {
+        let Some((Naming { kind, used, .. }, id)) = naming(frame.command).zip(frame.id()) else {
+            return;
+        };
+        let (there, left) = match used {
+            Use::Takes => (None, Some(id.to_vec())),
+            Use::Frees => (Some(id.to_vec()), None),
+            Use::Mentions => return,
+        };
+        let place = self.places(kind).iter().position(|place| *place == there);
+        self.places_mut(kind)[place.expect("a place")] = left;
+    }
+
+    /// Answers a heart-beat, the document's beat.
+    pub fn heart_beat(&mut self, time: u32) -> Answer {
+        if self.phase == Phase::Closed {
+            return Err(40);
+        }
+        self.state.last_heard = time;
+        Ok(Accepted { receipt: false })
+    }
+
+    /// Whether the client has timed out: "the session is open, the client-to-server interval is not 0
+    /// and more than twice that interval has passed since last-heard".
+    pub fn timed_out(&self, now: u32) -> bool {
+        let twice = 2 * u64::from(self.state.client_to_server);
+        let since = passed(self.state.last_heard, now);
+        self.phase == Phase::Open && twice != 0 && since > twice
+    }
+}

@@ -1,0 +1,187 @@
+//! The calls that the program `session_calls` reads, and what it writes of each: the answer, and the
+//! session record behind the call.
+
+pub mod blocks;
+pub mod records;
+pub mod sequence;
+
+use crate::reader::Reader;
+use crate::replay::written;
+use crate::session::opening::{Flags, ONLY_1_2};
+use crate::session::record::{make, Record};
+
+/// No header block of a call is longer.
+pub const MAX_BLOCK: usize = 65_536;
+
+/// A call: the session record is the one that the call before it left.
+#[derive(Clone, PartialEq, Eq, Debug)]
+pub enum Call {
+    Make {
+        sends: u32,
+        wants: u32,
+        offered: Flags,
+    },
+    Frame {
+        command: u32,
+        time: u32,
+        block: Vec<u8>,
+    },
+    HeartBeat {
+        time: u32,
+    },
+    TimedOut {
+        time: u32,
+    },
+    Set(Box<Record>),
+}
+
+impl Call {
+    pub fn name(&self) -> &'static str {
+        match self {
+            Call::Make { .. } => "make",
+            Call::Frame { .. } => "frame",
+            Call::HeartBeat { .. } => "heart-beat",
+            Call::TimedOut { .. } => "timed out",
+            Call::Set(_) => "set",
+        }
+    }
+
+    /// The call as the program reads it.
+    pub fn octets(&self) -> Vec<u8> {
+        match self {
+            Call::Make {
+                sends,
+                wants,
+                offered,
+            } => {
+                let numbers = [sends.to_be_bytes(), wants.to_be_bytes()].concat();
+                [&[0], &numbers[..], &offered.map(u8::from)].concat()
+            }
+            Call::Frame {
+                command,
+                time,
+                block,
+            } => {
+                let numbers = [*command, *time, block.len() as u32].map(u32::to_be_bytes);
+                [&[1], &numbers.concat()[..], block].concat()
+            }
+            Call::HeartBeat { time } => [&[2], &time.to_be_bytes()[..]].concat(),
+            Call::TimedOut { time } => [&[3], &time.to_be_bytes()[..]].concat(),
+            Call::Set(record) => [&[4], &record.octets()[..]].concat(),
+        }
+    }
+
+    /// The next call, if it is whole.
+    fn read(reader: &mut Reader) -> Option<Call> {
+        Some(match reader.octet()? {
+            0 => Call::Make {
+                sends: reader.number()?,
+                wants: reader.number()?,
+                offered: reader.flags()?,
+            },
+            1 => Call::Frame {
+                command: reader.number()?,
+                time: reader.number()?,
+                block: {
+                    let length = reader.number()? as usize;
+                    reader.octets(length)?.to_vec()
+                },
+            },
+            2 => Call::HeartBeat {
+                time: reader.number()?,
+            },
+            3 => Call::TimedOut {
+                time: reader.number()?,
+            },
+            4 => Call::Set(Box::new(Record::read(reader)?)),
+            _ => return None,
+        })
+    }
+}
+
+/// The record before the first call.
+pub fn first_record() -> Record {
+    make(0, 0, ONLY_1_2).1
+}
+
+/// The answer to a call, and the record behind it.
+#[derive(Clone, PartialEq, Eq, Debug)]
+pub struct Reply {
+    pub answer: String,
+    pub record: Record,
+}
+
+impl Reply {
+    /// The reply to a call of a session with this record.
+    pub fn of(before: &Record, call: &Call) -> Reply {
+        let mut record = before.clone();
+        let answer = answer(&mut record, call);
+        Reply { answer, record }
+    }
+
+    /// The answer's line, without its LF: the answer, and the highest version shared.
+    pub fn line(&self) -> String {
+        let version = self.record.version().unwrap_or("none");
+        format!("{} version {version}", self.answer)
+    }
+
+    /// As the program writes it.
+    pub fn octets(&self) -> Vec<u8> {
+        let line = self.line();
+        [line.as_bytes(), b"\n", &self.record.octets(), b"\n"].concat()
+    }
+}
+
+fn answer(record: &mut Record, call: &Call) -> String {
+    match call {
+        Call::Make {
+            sends,
+            wants,
+            offered,
+        } => {
+            let made = make(*sends, *wants, *offered);
+            *record = made.1;
+            match made.0 {
+                Ok(()) => "made".to_string(),
+                Err(number) => format!("refused {number}"),
+            }
+        }
+        Call::Frame {
+            command,
+            time,
+            block,
+        } => written(record.frame(*command, block, *time)),
+        Call::HeartBeat { time } => written(record.heart_beat(*time)),
+        Call::TimedOut { time } => match record.timed_out(*time) {
+            Ok(true) => "yes".to_string(),
+            Ok(false) => "no".to_string(),
+            Err(number) => format!("refused {number}"),
+        },
+        Call::Set(other) => {
+            record.clone_from(other);
+            "set".to_string()
+        }
+    }
+}
+
+/// The calls of an input, if all of them are whole.
+pub fn read(input: &[u8]) -> Option<Vec<Call>> {
+    let mut reader = Reader(input);
+    let mut calls = Vec::new();
+    while !reader.0.is_empty() {
+        calls.push(Call::read(&mut reader)?);
+    }
+    Some(calls)
+}
+
+/// The replies to these calls, made one after another.
+pub fn replies(calls: &[Call]) -> Vec<Reply> {
+    let mut record = first_record();
+    let mut replies = Vec::new();
+    for call in calls {
+        let reply = Reply::of(&record, call);
+        record.clone_from(&reply.record);
+        replies.push(reply);
+    }
+    replies
+}
