@@ -10,8 +10,7 @@
 --     refuses-.., accepts                        which answer the checks settle on
 --     Writes, writes                             what holds where the answer is a length
 --     stays                                      where it is none, the target is as before
-use mathlib.Core.Path.{_≡_, refl, sym, _∙_, ap, ap₂, subst}
-use mathlib.Core.Logic.{_≢_}
+use mathlib.Core.Path.{_≡_, refl, sym, _∙_, ap, ap₂}
 use mathlib.Core.Bool.{Bool, true, false, cond, _&&_, _||_, not}
 use mathlib.Core.Option.{Option, none, some}
 use mathlib.Core.List.{List, [], _∷_, _++_, map, append-assoc, append-nil}
@@ -21,9 +20,9 @@ use lib.ListN.{length, take, drop, getD, length-append, List·getD-eq-default}
 use lib.Seq.{take-add, take-at, drop-at, drop-drop}
 use lib.Dec.{eqb, leb, ltb, eqb·suc-zero}
 use borrow.Author.Tests.{lt-ltb, le-ltb, leb-true, leb-false, eqb-true, eqb-false, ltb-true, ltb-false}
-use Rattle.headers.specs.Rows.{empty, same, any, every, All, is-octet}
+use Rattle.headers.specs.Rows.{empty, every, is-octet}
 use Rattle.headers.specs.Numbers.{decimal, is-amount, amount, shortest}
-use Rattle.headers.specs.Block.{Entry, entry-before, entries}
+use Rattle.headers.specs.Block.{Entry, Block, entry-before, entries}
 use Rattle.headers.specs.Lines.{entry-of, raw-line, written-line, can-write, content-length}
 use Rattle.headers.specs.Answers.{Answer, accepted, refused, settle, left-in, find-answer, find-from, found-says, has-entries, is-block, entry-answer, entry-says}
 use Rattle.headers.specs.Escapes.{writable}
@@ -32,13 +31,14 @@ use Rattle.headers.specs.declared.text.Field.the-variants.{Name as in-name, Val
 use Rattle.headers.specs.declared.block.Found.{Found}
 use Rattle.headers.specs.declared.block.Lengths.{Lengths}
 use Rattle.headers.specs.declared.block.EntryAt.{EntryAt}
-use Rattle.headers.proofs.Rows.{refuted, same-eq, same-self, and-right, or-false-left, or-false-right, empty-eqb}
-use Rattle.headers.proofs.Blocks.{Placed, placed, place-behind, placed-name, entries-next, is-block-next, told-end, told-malformed, is-block-of, entries-block, Finds, find-finds}
+use Rattle.headers.proofs.Rows.{and-right, or-false-left, or-false-right, empty-eqb}
+use Rattle.headers.proofs.Blocks.{Placed, placed, place-behind, placed-name, entries-next, is-block-next, told-end, told-malformed, is-block-of, entries-block}
+use Rattle.headers.proofs.FirstValues.{find-absent, find-value, find-accepts, any-absent, any-value}
 use Rattle.headers.proofs.Settling.{written-long, divided}
 use Rattle.frames.specs.Grammar.{Command, number, v1-2, style, most, lines-max, line}
 use Rattle.frames.specs.Open.{all}
 use Rattle.frames.specs.Scanning.{word-of, style-of, most-of, number-of}
-use Rattle.frames.specs.Encoding.{Call, command-of, is-length, first-length, adds-length, length-entry, added-entry, written-entries, written-lines, frame-image, says-length, first-unwritable, settle-frame, encode-by, encode-answer, encode-image, encode-index, index-by, Encoding, image-length, refusal, indexed}
+use Rattle.frames.specs.Encoding.{Call, command-of, first-length, adds-length, length-entry, added-entry, written-entries, written-lines, frame-image, says-length, first-unwritable, settle-frame, encode-by, encode-answer, encode-image, encode-index, index-by, Encoding, image-length, refusal, indexed}
 use Rattle.frames.specs.Writing.{listed, value-at, Told, Sums, length-octets, added-octets, image-of, lengths-of}
 use Rattle.frames.specs.Answers.{encoded-says}
 use Rattle.frames.specs.declared.encode.Declared.{Declared}
@@ -96,19 +96,6 @@ listed-end xs EntryAt.Malformed e h other =
 
 -- ## What looking content-length up tells
 
-other-length : (d : Entry) → d .name ≢ content-length → is-length d ≡ false
-other-length d h = refuted (is-length d) (λ t. h (same-eq (d .name) content-length t))
-
--- the first entry of the name, behind entries of other names; and where there is none
-first-found : (ps es : List Entry) (e : Entry) → All (λ d. d .name ≢ content-length) ps → e .name ≡ content-length
-    → (first-length (ps ++ (e ∷ es)) ≡ some (e .value)) × (any is-length (ps ++ (e ∷ es)) ≡ true)
-first-found [] es e others named = rw (ap (λ n. same n content-length) named ∙ same-self content-length) (refl, refl)
-first-found (d ∷ ps) es e (o, os) named = rw (other-length d o) (first-found ps es e os named)
-
-first-absent : (es : List Entry) → All (λ d. d .name ≢ content-length) es → (first-length es ≡ none) × (any is-length es ≡ false)
-first-absent [] others = (refl, refl)
-first-absent (d ∷ es) (o, os) = rw (other-length d o) (first-absent es os)
-
 -- what each answer is told as
 abbrev pub declared-of : Found → Declared
 declared-of (Found.Value p) = record { valid = true; present = true; start = p .start; end = p .start + p .len }
@@ -116,20 +103,20 @@ declared-of Found.Absent = record { valid = true; present = false; start = 0; en
 declared-of Found.Malformed = record { valid = false; present = false; start = 0; end = 0 }
 
 -- so of a block of the entries es
-told-in : (block : List ℕ) (es : List Entry) → entries block ≡ some es → (r : Found) → Finds block content-length es (found-says r) → Told block (declared-of r)
-told-in block es e (Found.Value p) f =
-    let (v, a) = first-found (f .passed) (f .left) (f .entry) (f .others) (f .named) in
+told-in : (block : List ℕ) (es : List Entry) → Block block es → entries block ≡ some es → (r : Found) → found-says r ≡ find-answer block content-length → Told block (declared-of r)
+told-in block es b e (Found.Value p) q =
+    let (v, fits) = find-value content-length block es b (p .start) (p .len) (sym q) in
     let n : p .start + p .len - p .start ≡ p .len = omega arith in
     record {
       validity = sym (is-block-of block (some es) e);
-      presence = λ t. rw (e, f .split) (sym a);
-      inside = (omega arith, f .inside);
-      first = λ t. rw (e, f .split, n, v) (ap some (f .there));
+      presence = λ t. rw e (sym (any-value content-length es (take (p .len) (drop (p .start) block)) v));
+      inside = (omega arith, fits);
+      first = λ t. rw (e, n) (sym v);
     }
-told-in block es e Found.Absent f =
-    let (v, a) = first-absent es f in
-    record { validity = sym (is-block-of block (some es) e); presence = λ t. rw e (sym a); inside = (omega arith, omega arith); first = λ t. rw e (sym v) }
-told-in block es e Found.Malformed f = absurd f
+told-in block es b e Found.Absent q =
+    let v = find-absent content-length block es b (sym q) in
+    record { validity = sym (is-block-of block (some es) e); presence = λ t. rw e (sym (any-absent content-length es v)); inside = (omega arith, omega arith); first = λ t. rw e (sym v) }
+told-in block es b e Found.Malformed q = absurd (find-accepts content-length block es b 22 (sym q))
 
 told-not : (block : List ℕ) → entries block ≡ none → (r : Found) → found-says r ≡ refused 22 → Told block (declared-of r)
 told-not block e (Found.Value p) q = let z : _≡_ {A = ℕ} 0 1 = cc in absurd (omega arith)
@@ -148,7 +135,7 @@ told-of block o r q = by (entries block) refl q
   where
     by : (p : Option (List Entry)) → entries block ≡ p → found-says r ≡ find-from content-length 0 p → Told block (declared-of r)
     by none e w = told-not block e r w
-    by (some es) e w = told-in block es e r (subst (Finds block content-length es) (sym q) (find-finds block content-length es (entries-block block es o e)))
+    by (some es) e w = told-in block es (entries-block block es o e) e r q
 
 -- the line that is added, from what is told
 pub adds-told : (block : List ℕ) (d : Declared) → Told block d → is-block block ≡ true → (body : List ℕ)

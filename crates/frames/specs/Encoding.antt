@@ -7,7 +7,7 @@ use lib.ListN.{length, getD}
 use lib.Dec.{eqb, ltb}
 use Rattle.headers.specs.Rows.{empty, same, any, every}
 use Rattle.headers.specs.Numbers.{decimal, is-amount, shortest}
-use Rattle.headers.specs.Block.{Entry, entries}
+use Rattle.headers.specs.Block.{Entry, entries, first-value}
 use Rattle.headers.specs.Lines.{entry-of, written-line, can-write, content-length}
 use Rattle.headers.specs.Answers.{Answer, accepted, refused, Check, settle}
 use Rattle.headers.specs.declared.text.Style.{Style}
@@ -29,8 +29,7 @@ abbrev pub is-length : Entry → Bool
 is-length e = same (e .name) content-length
 
 abbrev pub first-length : List Entry → Option (List ℕ)
-first-length [] = none
-first-length (e ∷ es) = cond (is-length e) (some (e .value)) (first-length es)
+first-length es = first-value content-length es
 
 -- "If the body is not empty and no entry is named content-length": whether a length line is added
 abbrev pub adds-length : List Entry → List ℕ → Bool

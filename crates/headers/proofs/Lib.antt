@@ -7,3 +7,4 @@ pub mod Finding
 pub mod Put
 pub mod Settling
 pub mod Answers
+pub mod FirstValues

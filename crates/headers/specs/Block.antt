@@ -90,3 +90,8 @@ unfoldable pub spans : List ℕ → ℕ → List Entry → List Span
 spans name i [] = []
 spans name i (e ∷ es) =
     cond (same (e .name) name) (value-span i e ∷ spans name (i + length (entry-record e)) es) (spans name (i + length (entry-record e)) es)
+
+-- The first value of a name among entries.
+abbrev pub first-value : List ℕ → List Entry → Option (List ℕ)
+first-value name [] = none
+first-value name (e ∷ es) = cond (same (e .name) name) (some (e .value)) (first-value name es)
