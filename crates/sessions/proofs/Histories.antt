@@ -1,0 +1,146 @@
+-- The ids that are live after a history of calls are those that were entered and not freed since. Assumes nothing.
+--     live-next                             one call
+--     live-history, made-history            a history
+use mathlib.Core.Path.{_≡_, refl, sym, _∙_, ap, ap₂}
+use mathlib.Core.Logic.{_≢_}
+use mathlib.Core.Bool.{Bool, true, false, cond, _&&_, _||_}
+use mathlib.Core.Option.{Option, none, some}
+use mathlib.Core.List.{List, [], _∷_}
+use Prim.Native.Nat.{ℕ}
+use lib.Dec.{eqb}
+use borrow.Author.Tests.{eqb-true}
+use Rattle.headers.specs.Rows.{same}
+use Rattle.headers.specs.Block.{Entry, entries}
+use Rattle.headers.specs.Answers.{Answer, accepted, refused, settle}
+use Rattle.headers.proofs.Rows.{cond-case}
+use Rattle.frames.specs.Grammar.{CONNECT, DISCONNECT, STOMP}
+use Rattle.frames.specs.Writing.{listed}
+use Rattle.sessions.specs.Stores.{ids, live, used, use-checks}
+use Rattle.sessions.specs.Values.{Beats}
+use Rattle.sessions.specs.Headers.{is, opens, naming}
+use Rattle.sessions.specs.Sessions.{id-max, ids-of, with-ids, closed, heard, is-valid, Sized}
+use Rattle.sessions.specs.Calls.{left-by, making-answer, made-by, made, shared-by, client-versions, client-beats, opened-by, usage-of, named-id, frame-answer, naming-effect, effect, frame-session, beat-answer, beat-session}
+use Rattle.sessions.specs.Histories.{Call, frame, heart-beat, answer-to, next, after, same-kind, by-use, named-as, live-by, live-after}
+use Rattle.sessions.specs.declared.store.Use.{Use}
+use Rattle.sessions.specs.declared.command.Kind.{Kind}
+use Rattle.sessions.specs.declared.command.Kind.the-variants.{Subscriptions, Transactions}
+use Rattle.sessions.specs.declared.session.Session.{Session}
+use Rattle.sessions.proofs.Rows.{or-either}
+use Rattle.sessions.proofs.Checks.{Passed, frame-passed, naming-settles, left-case}
+use Rattle.sessions.proofs.Stores.{are-short, ids-laid, used-short, use-short, used-live, zeros-ids, none-live}
+use Rattle.sessions.proofs.Keeping.{SameStores, Held, held-short, held-distinct, held-next, held, made-sized, made-valid}
+
+-- sessions with the same stores have the same ids
+ids-same : (k : Kind) (r s : Session) → SameStores r s → ids-of k r ≡ ids-of k s
+ids-same Subscriptions r s (a, b, c, d) = ap₂ (ids id-max) a b
+ids-same Transactions r s (a, b, c, d) = ap₂ (ids id-max) c d
+
+-- the ids of a kind, laid out, are the session's
+ids-with : (k : Kind) (s : Session) (is : List (List ℕ)) → are-short id-max is ≡ true → ids-of k (with-ids k s is) ≡ is
+ids-with Subscriptions s is h = ids-laid id-max is h
+ids-with Transactions s is h = ids-laid id-max is h
+
+-- neither the opening frame nor DISCONNECT names an id
+opening-names : (n : ℕ) (es : List Entry) → opens n ≡ true → named-id n es ≡ none
+opening-names n es h = or-either (is CONNECT n) (is STOMP n) h (λ e. ap (λ m. named-id m es) (eqb-true n 5 e)) (λ e. ap (λ m. named-id m es) (eqb-true n 13 e))
+
+closing-names : (n : ℕ) (es : List Entry) → is DISCONNECT n ≡ true → named-id n es ≡ none
+closing-names n es h = ap (λ m. named-id m es) (eqb-true n 7 h)
+
+-- ---- one call
+
+-- whether an id is live after an accepted frame that names o
+abbrev named-live : Session → Kind → List ℕ → ℕ → Option (List ℕ) → Bool
+named-live s k id n o = cond (named-as k id n o) (by-use (naming n .usage) (live id (ids-of k s))) (live id (ids-of k s))
+
+module _ (s : Session) (h : Held s) (k : Kind) (id : List ℕ) (some-id : id ≢ []) where
+  -- an id x of a kind used
+  live-used : (j : Kind) (u : Use) (x : List ℕ) → settle (use-checks id-max u x (ids-of j s)) [] ≡ accepted []
+      → live id (ids-of k (with-ids j s (used u x (ids-of j s)))) ≡ cond (same-kind k j && same x id) (by-use u (live id (ids-of k s))) (live id (ids-of k s))
+  live-used j u x e = by k j e
+    where
+      here : (i : Kind) → settle (use-checks id-max u x (ids-of i s)) [] ≡ accepted []
+          → live id (ids-of i (with-ids i s (used u x (ids-of i s)))) ≡ cond (same x id) (by-use u (live id (ids-of i s))) (live id (ids-of i s))
+      here i e =
+          ap (live id) (ids-with i s (used u x (ids-of i s)) (used-short id-max u x (ids-of i s) (use-short id-max u x (ids-of i s) [] [] e) (held-short s h i)))
+          ∙ used-live id-max u x (ids-of i s) [] [] e (held-distinct s h i) id some-id
+
+      by : (i j : Kind) → settle (use-checks id-max u x (ids-of j s)) [] ≡ accepted []
+          → live id (ids-of i (with-ids j s (used u x (ids-of j s)))) ≡ cond (same-kind i j && same x id) (by-use u (live id (ids-of i s))) (live id (ids-of i s))
+      by Subscriptions Subscriptions e = here Subscriptions e
+      by Subscriptions Transactions e = refl
+      by Transactions Subscriptions e = refl
+      by Transactions Transactions e = here Transactions e
+
+  live-naming : (n : ℕ) (es : List Entry) → Passed s n es → (o : Option (List ℕ)) → named-id n es ≡ o
+      → live id (ids-of k (naming-effect s n o)) ≡ named-live s k id n o
+  live-naming n es p none e = refl
+  live-naming n es p (some x) e = live-used (naming n .kind) (usage-of n) x (naming-settles s n es x (p .named) e)
+
+  live-effect : (n : ℕ) (es : List Entry) → Passed s n es → live id (ids-of k (effect s n es)) ≡ named-live s k id n (named-id n es)
+  live-effect n es p =
+      cond-case (λ r. live id (ids-of k r) ≡ named-live s k id n (named-id n es)) (opens n)
+      (λ o. ap (live id) (ids-opened (shared-by s (client-versions es)) (client-beats es)) ∙ sym (ap (named-live s k id n) (opening-names n es o)))
+      (λ o. cond-case (λ r. live id (ids-of k r) ≡ named-live s k id n (named-id n es)) (is DISCONNECT n)
+      (λ d. ap (live id) (ids-same k (closed s) s (refl, refl, refl, refl)) ∙ sym (ap (named-live s k id n) (closing-names n es d)))
+      (λ d. live-naming n es p (named-id n es) refl))
+    where
+      ids-opened : (shared : List Bool) (o : Option Beats) → ids-of k (opened-by s shared o) ≡ ids-of k s
+      ids-opened shared none = refl
+      ids-opened shared (some b) = ids-same k (opened-by s shared (some b)) s (refl, refl, refl, refl)
+
+  live-frame : (n : ℕ) (block : List ℕ) (time : ℕ)
+      → live id (ids-of k (frame-session s n block time)) ≡ live-by k id (live id (ids-of k s)) (frame-answer s n block) (frame n block time)
+  unfolding frame-session
+  live-frame n block time = by (frame-answer s n block) refl
+    where
+      es : List Entry
+      es = listed (entries block)
+
+      by : (A : Answer) → frame-answer s n block ≡ A
+          → live id (ids-of k (left-by A s (heard (effect s n es) time))) ≡ live-by k id (live id (ids-of k s)) A (frame n block time)
+      by (accepted v) e =
+          ap (live id) (ids-same k (heard (effect s n es) time) (effect s n es) (refl, refl, refl, refl)) ∙ live-effect n es (frame-passed s n block v e)
+      by (refused j) e =
+          cond-case (λ r. live id (ids-of k r) ≡ live id (ids-of k s)) (eqb j 38 || eqb j 39)
+          (λ f. refl) (λ f. ap (live id) (ids-same k (closed s) s (refl, refl, refl, refl)))
+
+  live-beat : (time : ℕ) → live id (ids-of k (beat-session s time)) ≡ live id (ids-of k s)
+  unfolding beat-session
+  live-beat time =
+      left-case (λ r. live id (ids-of k r) ≡ live id (ids-of k s)) (beat-answer s) s (heard s time) refl
+      (ap (live id) (ids-same k (closed s) s (refl, refl, refl, refl)))
+      (λ v e. ap (live id) (ids-same k (heard s time) s (refl, refl, refl, refl)))
+
+  pub live-next : (c : Call) → live id (ids-of k (next s c)) ≡ live-by k id (live id (ids-of k s)) (answer-to s c) c
+  live-next (frame n block time) = live-frame n block time
+  live-next (heart-beat time) = live-beat time
+
+-- ---- a history
+
+held-history : (k : Kind) (id : List ℕ) → id ≢ [] → (s : Session) → Held s → (cs : List Call)
+    → live id (ids-of k (after s cs)) ≡ live-after k id (live id (ids-of k s)) s cs
+held-history k id n s h [] = refl
+held-history k id n s h (c ∷ cs) =
+    held-history k id n (next s c) (held-next s c h) cs ∙ ap (λ b. live-after k id b (next s c) cs) (live-next s h k id n c)
+
+pub live-history : (k : Kind) (id : List ℕ) → id ≢ [] → (s : Session) → Sized s → is-valid s ≡ true → (cs : List Call)
+    → live id (ids-of k (after s cs)) ≡ live-after k id (live id (ids-of k s)) s cs
+live-history k id n s z v cs = held-history k id n s (held s z v) cs
+
+-- no id is live in a session that was made
+pub made-none : (k : Kind) (id : List ℕ) → id ≢ [] → (sends wants : ℕ) (offered : List Bool) → live id (ids-of k (made sends wants offered)) ≡ false
+unfolding made
+made-none k id n sends wants offered = by (making-answer sends wants offered) k
+  where
+    by : (A : Answer) (j : Kind) → live id (ids-of j (made-by A sends wants offered)) ≡ false
+    by (accepted v) Subscriptions = ap (live id) (zeros-ids id-max 16) ∙ none-live 16 id n
+    by (accepted v) Transactions = ap (live id) (zeros-ids id-max 4) ∙ none-live 4 id n
+    by (refused j) Subscriptions = ap (live id) (zeros-ids id-max 16) ∙ none-live 16 id n
+    by (refused j) Transactions = ap (live id) (zeros-ids id-max 4) ∙ none-live 4 id n
+
+pub made-history : (k : Kind) (id : List ℕ) → id ≢ [] → (sends wants : ℕ) (offered : List Bool) (cs : List Call)
+    → live id (ids-of k (after (made sends wants offered) cs)) ≡ live-after k id false (made sends wants offered) cs
+made-history k id n sends wants offered cs =
+    live-history k id n (made sends wants offered) (made-sized sends wants offered) (made-valid sends wants offered) cs
+    ∙ ap (λ b. live-after k id b (made sends wants offered) cs) (made-none k id n sends wants offered)

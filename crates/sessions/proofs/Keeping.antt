@@ -1,0 +1,338 @@
+-- A session stays a valid record: made, and after each call and each history of calls. Assumes nothing.
+--     valid-record, record-valid            the test of a record, taken apart
+--     Held, held-..                         a valid session with the sizes of its arrays; each change, call and history keeps that
+--     frame-.., beat-.., ..-after           the same, said of Sized and is-valid
+--     made-..                               and of a session that was made
+use mathlib.Core.Path.{_≡_, refl, sym, _∙_, ap, ap₂}
+use mathlib.Core.Bool.{Bool, true, false, cond, _&&_, _||_, not}
+use mathlib.Core.Option.{Option, none, some}
+use mathlib.Core.List.{List, [], _∷_}
+use Prim.Native.Nat.{ℕ, _*_, _≤_}
+use native.Mathlib.Omega.{arith}
+use lib.ListN.{length, replicate, length-map, length-replicate}
+use lib.Dec.{eqb, leb, ltb}
+use borrow.Author.Tests.{leb-true, le-leb, eqb-true, not-false, ltb-false}
+use Rattle.headers.specs.Rows.{All}
+use Rattle.headers.specs.Numbers.{amount}
+use Rattle.headers.specs.Block.{Entry, entries}
+use Rattle.headers.specs.Answers.{Answer, accepted, refused, settle}
+use Rattle.headers.proofs.Rows.{cond-case, and-left, and-right, or-false-left, or-false-right}
+use Rattle.headers.proofs.Numerals.{amount-record}
+use Rattle.frames.specs.Grammar.{DISCONNECT}
+use Rattle.frames.specs.Writing.{listed}
+use Rattle.sessions.specs.Stores.{distinct, valid-store, used, use-checks}
+use Rattle.sessions.specs.Places.{Fits}
+use Rattle.sessions.specs.Values.{Beats, beat-max, both, beats-in, beats, split}
+use Rattle.sessions.specs.Opening.{only-1-2, interval}
+use Rattle.sessions.specs.Headers.{value-of, is, opens, naming}
+use Rattle.sessions.specs.Sessions.{id-max, fresh-phase, open-phase, closed-phase, in-phase, fresh, ids-of, with-stores, with-ids, with-phase, closed, heard, right-flags, small-numbers, valid-numbers, valid-ids, is-valid, Sized}
+use Rattle.sessions.specs.Calls.{making-checks, making-answer, made-by, made, shared-by, beats-of, client-versions, client-beats, opened-by, usage-of, named-id, naming-checks, frame-answer, naming-effect, effect, frame-session, beat-answer, beat-session}
+use Rattle.sessions.specs.Histories.{Call, frame, heart-beat, next, after}
+use Rattle.sessions.specs.declared.store.Use.{Use}
+use Rattle.sessions.specs.declared.command.Header.the-variants.{HeartBeat}
+use Rattle.sessions.specs.declared.command.Kind.{Kind}
+use Rattle.sessions.specs.declared.command.Kind.the-variants.{Subscriptions, Transactions}
+use Rattle.sessions.specs.declared.session.Session.{Session}
+use Rattle.sessions.proofs.Checks.{Passes, all-pass, Passed, frame-passed, naming-settles, left-case}
+use Rattle.sessions.proofs.Stores.{length-ids, valid-fits, are-short, ids-short, length-laid, laid-valid, valid-distinct, used-length, used-short, used-distinct, use-short, zeros-valid}
+
+-- ---- a valid record
+
+pub record Valid (s : Session) : Type 0 where
+  pub known : s .phase ≤ closed-phase
+  pub offers : (s .sends ≤ beat-max) × (s .wants ≤ beat-max)
+  pub intervals : (s .inbound ≤ beat-max) × (s .outbound ≤ beat-max)
+  pub flags : right-flags s ≡ true
+  pub subscriptions : valid-store id-max (s .subs) (s .«sub_lens») ≡ true
+  pub transactions : valid-store id-max (s .txs) (s .«tx_lens») ≡ true
+
+-- both of two tests
+pair : (a b : Bool) → a && b ≡ true → (a ≡ true) × (b ≡ true)
+pair a b h = (and-left a b h, and-right a b h)
+
+pub valid-record : (s : Session) → is-valid s ≡ true → Valid s
+unfolding is-valid
+valid-record s h =
+    let (numbers, stores) = pair (valid-numbers s) (valid-ids s) h in
+    let (phase, others) = pair (leb (s .phase) closed-phase) _ numbers in
+    let (small, flags) = pair (small-numbers s) _ others in
+    let (sends, small₁) = pair (leb (s .sends) beat-max) _ small in
+    let (wants, small₂) = pair (leb (s .wants) beat-max) _ small₁ in
+    let (inbound, outbound) = pair (leb (s .inbound) beat-max) _ small₂ in
+    let (subscriptions, transactions) = pair (valid-store id-max (s .subs) (s .«sub_lens»)) _ stores in
+    record {
+      known = leb-true (s .phase) closed-phase phase;
+      offers = (leb-true (s .sends) beat-max sends, leb-true (s .wants) beat-max wants);
+      intervals = (leb-true (s .inbound) beat-max inbound, leb-true (s .outbound) beat-max outbound);
+      flags = flags;
+      subscriptions = subscriptions;
+      transactions = transactions;
+    }
+
+pub record-valid : (s : Session) → Valid s → is-valid s ≡ true
+unfolding is-valid
+record-valid s v = ap₂ (_&&_) (ap₂ (_&&_) (le-leb (s .phase) closed-phase (v .known)) (ap₂ (_&&_) small (v .flags))) (ap₂ (_&&_) (v .subscriptions) (v .transactions))
+  where
+    small : small-numbers s ≡ true
+    small =
+        ap₂ (_&&_) (le-leb (s .sends) beat-max (v .offers .0))
+        (ap₂ (_&&_) (le-leb (s .wants) beat-max (v .offers .1))
+        (ap₂ (_&&_) (le-leb (s .inbound) beat-max (v .intervals .0)) (le-leb (s .outbound) beat-max (v .intervals .1))))
+
+-- ---- the opening's intervals are small
+
+abbrev OfSome : {A : Type 0} → (A → Type 0) → Option A → Type 0
+OfSome P none = Unit {0}
+OfSome P (some x) = P x
+
+abbrev Small : Beats → Type 0
+Small b = (b .sends ≤ beat-max) × (b .wants ≤ beat-max)
+
+amount-small : (v : List ℕ) → OfSome (_≤ beat-max) (amount beat-max v)
+amount-small v = by (amount beat-max v) refl
+  where
+    by : (o : Option ℕ) → amount beat-max v ≡ o → OfSome (_≤ beat-max) o
+    by none e = tt
+    by (some n) e = let (a, is) = amount-record beat-max n v e in omega (arith, a .small)
+
+both-small : (o p : Option ℕ) → OfSome (_≤ beat-max) o → OfSome (_≤ beat-max) p → OfSome Small (both o p)
+both-small none p h k = tt
+both-small (some a) none h k = tt
+both-small (some a) (some b) h k = (h, k)
+
+in-small : (ps : List (List ℕ)) → OfSome Small (beats-in ps)
+in-small [] = tt
+in-small (a ∷ []) = tt
+in-small (a ∷ b ∷ []) = both-small (amount beat-max a) (amount beat-max b) (amount-small a) (amount-small b)
+in-small (a ∷ b ∷ c ∷ more) = tt
+
+of-small : (o : Option (List ℕ)) → OfSome Small (beats-of o)
+unfolding beats
+of-small none = (omega arith, omega arith)
+of-small (some v) = in-small (split 44 v)
+
+interval-small : (a b m : ℕ) → a ≤ m → b ≤ m → interval a b ≤ m
+interval-small a b m h k = cond-case (_≤ m) (eqb a 0 || eqb b 0) (λ e. omega arith) (λ e. omega arith)
+
+-- ---- the ids of a kind
+
+abbrev pub places : Kind → ℕ
+places Subscriptions = 16
+places Transactions = 4
+
+-- two sessions with the same stores
+abbrev pub SameStores : Session → Session → Type 0
+SameStores r s = (r .subs ≡ s .subs) × (r .«sub_lens» ≡ s .«sub_lens») × (r .txs ≡ s .txs) × (r .«tx_lens» ≡ s .«tx_lens»)
+
+-- a session whose arrays have their sizes, and that is valid
+pub record Held (s : Session) : Type 0 where
+  pub sized : Sized s
+  pub valid : Valid s
+
+-- its ids
+module _ (s : Session) (h : Held s) where
+  subscriptions-fit : Fits id-max 16 (s .subs) (s .«sub_lens»)
+  subscriptions-fit = valid-fits id-max (s .subs) (s .«sub_lens») (h .valid .subscriptions) 16 (h .sized .sub-lens-long) (h .sized .subs-long)
+
+  transactions-fit : Fits id-max 4 (s .txs) (s .«tx_lens»)
+  transactions-fit = valid-fits id-max (s .txs) (s .«tx_lens») (h .valid .transactions) 4 (h .sized .tx-lens-long) (h .sized .txs-long)
+
+  pub held-long : (k : Kind) → length (ids-of k s) ≡ places k
+  held-long Subscriptions = length-ids id-max (s .subs) (s .«sub_lens») ∙ h .sized .sub-lens-long
+  held-long Transactions = length-ids id-max (s .txs) (s .«tx_lens») ∙ h .sized .tx-lens-long
+
+  pub held-short : (k : Kind) → are-short id-max (ids-of k s) ≡ true
+  held-short Subscriptions = ids-short id-max 16 (s .subs) (s .«sub_lens») subscriptions-fit
+  held-short Transactions = ids-short id-max 4 (s .txs) (s .«tx_lens») transactions-fit
+
+  pub held-distinct : (k : Kind) → distinct (ids-of k s) ≡ true
+  held-distinct Subscriptions = valid-distinct id-max (s .subs) (s .«sub_lens») (h .valid .subscriptions)
+  held-distinct Transactions = valid-distinct id-max (s .txs) (s .«tx_lens») (h .valid .transactions)
+
+  -- a session with the same stores
+  held-by : (r : Session) → SameStores r s → r .phase ≤ closed-phase → (r .sends ≤ beat-max) × (r .wants ≤ beat-max)
+      → (r .inbound ≤ beat-max) × (r .outbound ≤ beat-max) → right-flags r ≡ true → Held r
+  held-by r (a, b, c, d) known offers intervals flags =
+      record {
+        sized = record {
+          subs-long = ap length a ∙ h .sized .subs-long;
+          sub-lens-long = ap length b ∙ h .sized .sub-lens-long;
+          txs-long = ap length c ∙ h .sized .txs-long;
+          tx-lens-long = ap length d ∙ h .sized .tx-lens-long;
+        };
+        valid = record {
+          known = known;
+          offers = offers;
+          intervals = intervals;
+          flags = flags;
+          subscriptions = ap₂ (valid-store id-max) a b ∙ h .valid .subscriptions;
+          transactions = ap₂ (valid-store id-max) c d ∙ h .valid .transactions;
+        };
+      }
+
+  -- ---- each change keeps them
+
+  held-closed : Held (closed s)
+  held-closed = held-by (closed s) (refl, refl, refl, refl) (omega arith) (h .valid .offers) (h .valid .intervals) refl
+
+  held-heard : (time : ℕ) → Held (heard s time)
+  held-heard time = held-by (heard s time) (refl, refl, refl, refl) (h .valid .known) (h .valid .offers) (h .valid .intervals) (h .valid .flags)
+
+  -- a fresh one offers 1.2 alone
+  fresh-flags : in-phase fresh-phase s ≡ true → only-1-2 (s .offered) ≡ true
+  fresh-flags f = sym (ap (λ p. eqb p closed-phase || only-1-2 (s .offered)) (eqb-true (s .phase) fresh-phase f)) ∙ h .valid .flags
+
+  held-opened : in-phase fresh-phase s ≡ true → (shared : List Bool) (o : Option Beats) → OfSome Small o → Held (opened-by s shared o)
+  held-opened f shared none small = h
+  held-opened f shared (some b) small =
+      held-by (opened-by s shared (some b)) (refl, refl, refl, refl) (omega arith) (h .valid .offers) (
+        interval-small (b .sends) (s .wants) beat-max (small .0) (h .valid .offers .1),
+        interval-small (s .sends) (b .wants) beat-max (h .valid .offers .0) (small .1),
+      )
+      (fresh-flags f)
+
+  -- with other stores
+  stored : {subs sub-lens txs tx-lens : List ℕ} → valid-store id-max subs sub-lens ≡ true → valid-store id-max txs tx-lens ≡ true
+      → Valid (with-stores s subs sub-lens txs tx-lens)
+  stored a b =
+      record {
+        known = h .valid .known;
+        offers = h .valid .offers;
+        intervals = h .valid .intervals;
+        flags = h .valid .flags;
+        subscriptions = a;
+        transactions = b;
+      }
+
+  held-with : (k : Kind) (is : List (List ℕ)) → length is ≡ places k → are-short id-max is ≡ true → distinct is ≡ true → Held (with-ids k s is)
+  held-with Subscriptions is l m d =
+      record {
+        sized = record {
+          subs-long = length-laid id-max is m ∙ ap (_* id-max) l;
+          sub-lens-long = length-map is length ∙ l;
+          txs-long = h .sized .txs-long;
+          tx-lens-long = h .sized .tx-lens-long;
+        };
+        valid = stored (laid-valid id-max is m d) (h .valid .transactions);
+      }
+  held-with Transactions is l m d =
+      record {
+        sized = record {
+          subs-long = h .sized .subs-long;
+          sub-lens-long = h .sized .sub-lens-long;
+          txs-long = length-laid id-max is m ∙ ap (_* id-max) l;
+          tx-lens-long = length-map is length ∙ l;
+        };
+        valid = stored (h .valid .subscriptions) (laid-valid id-max is m d);
+      }
+
+  held-used : (k : Kind) (u : Use) (id : List ℕ) → settle (use-checks id-max u id (ids-of k s)) [] ≡ accepted [] → Held (with-ids k s (used u id (ids-of k s)))
+  held-used k u id e =
+      held-with k (used u id (ids-of k s))
+      (used-length u id (ids-of k s) ∙ held-long k)
+      (used-short id-max u id (ids-of k s) (use-short id-max u id (ids-of k s) [] [] e) (held-short k))
+      (used-distinct id-max u id (ids-of k s) [] [] e (held-distinct k))
+
+  held-naming : (n : ℕ) (es : List Entry) → All Passes (naming-checks s n es) → Held (naming-effect s n (named-id n es))
+  held-naming n es p = by (named-id n es) refl
+    where
+      by : (o : Option (List ℕ)) → named-id n es ≡ o → Held (naming-effect s n o)
+      by none e = h
+      by (some id) e = held-used (naming n .kind) (usage-of n) id (naming-settles s n es id p e)
+
+  held-effect : (n : ℕ) (es : List Entry) → Passed s n es → Held (effect s n es)
+  held-effect n es p =
+      cond-case Held (opens n)
+      (λ o. held-opened (not-false (in-phase fresh-phase s) (sym (ap (λ t. cond t (not (in-phase fresh-phase s)) (not (in-phase open-phase s))) o) ∙ p .in-turn))
+      (shared-by s (client-versions es)) (client-beats es) (of-small (value-of HeartBeat es)))
+      (λ o. cond-case Held (is DISCONNECT n) (λ d. held-closed) (λ d. held-naming n es (p .named)))
+
+pub held-frame : (s : Session) (n : ℕ) (block : List ℕ) (time : ℕ) → Held s → Held (frame-session s n block time)
+unfolding frame-session
+held-frame s n block time h =
+    left-case Held (frame-answer s n block) s (heard (effect s n (listed (entries block))) time) h (held-closed s h)
+    (λ v e. held-heard (effect s n (listed (entries block))) (held-effect s h n (listed (entries block)) (frame-passed s n block v e)) time)
+
+pub held-beat : (s : Session) (time : ℕ) → Held s → Held (beat-session s time)
+unfolding beat-session
+held-beat s time h = left-case Held (beat-answer s) s (heard s time) h (held-closed s h) (λ v e. held-heard s h time)
+
+pub held-next : (s : Session) (c : Call) → Held s → Held (next s c)
+held-next s (frame n block time) h = held-frame s n block time h
+held-next s (heart-beat time) h = held-beat s time h
+
+pub held-after : (s : Session) (cs : List Call) → Held s → Held (after s cs)
+held-after s [] h = h
+held-after s (c ∷ cs) h = held-after (next s c) cs (held-next s c h)
+
+-- ---- a session that is made
+
+held-fresh : (sends wants : ℕ) (offered : List Bool) (phase : ℕ) → sends ≤ beat-max → wants ≤ beat-max → phase ≤ closed-phase
+    → eqb phase closed-phase || only-1-2 offered ≡ true → Held (with-phase (fresh sends wants offered) phase)
+held-fresh sends wants offered phase a b known flags =
+    record {
+      sized = record {
+        subs-long = length-replicate {A = ℕ} 512 0;
+        sub-lens-long = length-replicate {A = ℕ} 16 0;
+        txs-long = length-replicate {A = ℕ} 128 0;
+        tx-lens-long = length-replicate {A = ℕ} 4 0;
+      };
+      valid = record {
+        known = known;
+        offers = (a, b);
+        intervals = (omega arith, omega arith);
+        flags = flags;
+        subscriptions = zeros-valid id-max 16;
+        transactions = zeros-valid id-max 4;
+      };
+    }
+
+pub held-made : (sends wants : ℕ) (offered : List Bool) → Held (made sends wants offered)
+unfolding made making-answer
+held-made sends wants offered = by (making-answer sends wants offered) refl
+  where
+    by : (A : Answer) → settle (making-checks sends wants offered) [] ≡ A → Held (made-by A sends wants offered)
+    by (accepted v) e =
+        let small : ltb beat-max sends || (ltb beat-max wants || not (only-1-2 offered)) ≡ false = all-pass (making-checks sends wants offered) [] v e .0 in
+        let rest = or-false-right (ltb beat-max sends) (ltb beat-max wants || not (only-1-2 offered)) small in
+        held-fresh sends wants offered fresh-phase
+        (ltb-false beat-max sends (or-false-left (ltb beat-max sends) (ltb beat-max wants || not (only-1-2 offered)) small))
+        (ltb-false beat-max wants (or-false-left (ltb beat-max wants) (not (only-1-2 offered)) rest))
+        (omega arith)
+        (not-false (only-1-2 offered) (or-false-right (ltb beat-max wants) (not (only-1-2 offered)) rest))
+    by (refused k) e = held-fresh 0 0 (replicate 3 false) closed-phase (omega arith) (omega arith) (omega arith) refl
+
+-- ---- validity is kept
+
+module _ (s : Session) (sized : Sized s) (valid : is-valid s ≡ true) where
+  pub held : Held s
+  held = record { sized = sized; valid = valid-record s valid }
+
+  pub frame-sized : (n : ℕ) (block : List ℕ) (time : ℕ) → Sized (frame-session s n block time)
+  frame-sized n block time = held-frame s n block time held .sized
+
+  pub frame-valid : (n : ℕ) (block : List ℕ) (time : ℕ) → is-valid (frame-session s n block time) ≡ true
+  frame-valid n block time = record-valid (frame-session s n block time) (held-frame s n block time held .valid)
+
+  pub beat-sized : (time : ℕ) → Sized (beat-session s time)
+  beat-sized time = held-beat s time held .sized
+
+  pub beat-valid : (time : ℕ) → is-valid (beat-session s time) ≡ true
+  beat-valid time = record-valid (beat-session s time) (held-beat s time held .valid)
+
+  pub sized-after : (cs : List Call) → Sized (after s cs)
+  sized-after cs = held-after s cs held .sized
+
+  pub valid-after : (cs : List Call) → is-valid (after s cs) ≡ true
+  valid-after cs = record-valid (after s cs) (held-after s cs held .valid)
+
+-- a session that was made, whether refused or not, and after any history
+module _ (sends wants : ℕ) (offered : List Bool) where
+  pub made-sized : Sized (made sends wants offered)
+  made-sized = held-made sends wants offered .sized
+
+  pub made-valid : is-valid (made sends wants offered) ≡ true
+  made-valid = record-valid (made sends wants offered) (held-made sends wants offered .valid)
+
+  pub made-after : (cs : List Call) → is-valid (after (made sends wants offered) cs) ≡ true
+  made-after = valid-after (made sends wants offered) made-sized made-valid

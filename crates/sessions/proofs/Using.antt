@@ -1,0 +1,130 @@
+-- Ids used: what a session becomes where an id is refused, kept, entered or freed, over the kind of id. Assumes nothing.
+use mathlib.Core.Path.{_≡_, refl, sym, ap, ap₂, _∙_}
+use mathlib.Core.Bool.{Bool, true, false, cond, _&&_, _||_}
+use mathlib.Core.List.{List, [], _∷_}
+use Prim.Native.Nat.{ℕ, _+_, _-_, _*_, _≤_, _<_, min}
+use native.Mathlib.Omega.{arith}
+use native.Mathlib.Nat.{le-refl, sub-zero}
+use lib.Dec.{eqb, leb, ltb}
+use lib.ListN.{length, take, drop, set, length-take}
+use borrow.Author.Tests.{ltb-false, leb-true}
+use Rattle.headers.specs.Rows.{empty}
+use Rattle.headers.specs.Answers.{accepted, refused, Check, settle}
+use Rattle.headers.proofs.Rows.{and-left, and-right, or-false-right}
+use Rattle.sessions.specs.Stores.{ids, valid-store, used, bad-length, use-checks}
+use Rattle.sessions.specs.Sessions.{subscriptions-max, transactions-max, id-max, ids-of, with-stores, with-ids, heard, valid-numbers, valid-ids, is-valid, Sized}
+use Rattle.sessions.specs.Places.{Fits, stored, Settles}
+use Rattle.sessions.specs.Steps.{closed-by, accepted-by, subscription-put, transaction-put, count-of, put-of, GivesUse}
+use Rattle.sessions.specs.declared.store.Use.{Use}
+use Rattle.sessions.specs.declared.store.Use.the-variants.{Nothing, Need, Enter, Free}
+use Rattle.sessions.specs.declared.store.Settled.{Settled}
+use Rattle.sessions.specs.declared.command.Kind.{Kind}
+use Rattle.sessions.specs.declared.command.Kind.the-variants.{Subscriptions, Transactions}
+use Rattle.sessions.specs.declared.session.Session.{Session}
+use Rattle.sessions.specs.declared.session.Outcome.{Outcome}
+use Rattle.sessions.proofs.Stores.{length-ids, lengths-ids, laid-ids, put-laid, valid-fits, valid-clean}
+use Rattle.sessions.proofs.Checks.{all-pass, all-accepted}
+use Rattle.sessions.proofs.Steps.{gives-refused, gives-accepted, settle-refused, settle-closes}
+
+-- the store of a kind, and its lengths
+abbrev pub store-of : Kind → Session → List ℕ
+store-of Subscriptions s = s .subs
+store-of Transactions s = s .txs
+
+abbrev pub lens-of : Kind → Session → List ℕ
+lens-of Subscriptions s = s .«sub_lens»
+lens-of Transactions s = s .«tx_lens»
+
+module _ (s : Session) (sized : Sized s) (valid : is-valid s ≡ true) where
+  valid-of : (k : Kind) → valid-store id-max (store-of k s) (lens-of k s) ≡ true
+  unfolding is-valid
+  valid-of Subscriptions =
+      and-left (valid-store id-max (s .subs) (s .«sub_lens»)) (valid-store id-max (s .txs) (s .«tx_lens»)) (and-right (valid-numbers s) (valid-ids s) valid)
+  valid-of Transactions =
+      and-right (valid-store id-max (s .subs) (s .«sub_lens»)) (valid-store id-max (s .txs) (s .«tx_lens»)) (and-right (valid-numbers s) (valid-ids s) valid)
+
+  pub fits-of : (k : Kind) → Fits id-max (count-of k) (store-of k s) (lens-of k s)
+  fits-of Subscriptions = valid-fits id-max (s .subs) (s .«sub_lens») (valid-of Subscriptions) subscriptions-max (sized .sub-lens-long) (sized .subs-long)
+  fits-of Transactions = valid-fits id-max (s .txs) (s .«tx_lens») (valid-of Transactions) transactions-max (sized .tx-lens-long) (sized .txs-long)
+
+  pub count-ids : (k : Kind) → length (ids-of k s) ≡ count-of k
+  count-ids Subscriptions = length-ids id-max (s .subs) (s .«sub_lens») ∙ sized .sub-lens-long
+  count-ids Transactions = length-ids id-max (s .txs) (s .«tx_lens») ∙ sized .tx-lens-long
+
+  -- the ids of a session laid out again are the session
+  pub same-ids : (k : Kind) → with-ids k s (ids-of k s) ≡ s
+  same-ids Subscriptions =
+      let f = fits-of Subscriptions in
+      ap₂ (λ x y. with-stores s x y (s .txs) (s .«tx_lens»)) (laid-ids id-max subscriptions-max (s .subs) (s .«sub_lens») f (valid-clean id-max (s .subs) (s .«sub_lens») (valid-of Subscriptions)))
+      (lengths-ids id-max subscriptions-max (s .subs) (s .«sub_lens») f)
+  same-ids Transactions =
+      let f = fits-of Transactions in
+      ap₂ (λ x y. with-stores s (s .subs) (s .«sub_lens») x y) (laid-ids id-max transactions-max (s .txs) (s .«tx_lens») f (valid-clean id-max (s .txs) (s .«tx_lens») (valid-of Transactions)))
+      (lengths-ids id-max transactions-max (s .txs) (s .«tx_lens») f)
+
+  -- with another id in one place they are the session with that id put there
+  pub put-ids : (k : Kind) (i : ℕ) (id : List ℕ) → i < count-of k → length id ≤ id-max → put-of k s i id ≡ with-ids k s (set (ids-of k s) i id)
+  put-ids Subscriptions i id h l =
+      let (a, b) = put-laid id-max subscriptions-max (s .subs) (s .«sub_lens») (fits-of Subscriptions) (valid-clean id-max (s .subs) (s .«sub_lens») (valid-of Subscriptions)) i h id l in
+      ap₂ (λ x y. with-stores s x y (s .txs) (s .«tx_lens»)) a b
+  put-ids Transactions i id h l =
+      let (a, b) = put-laid id-max transactions-max (s .txs) (s .«tx_lens») (fits-of Transactions) (valid-clean id-max (s .txs) (s .«tx_lens») (valid-of Transactions)) i h id l in
+      ap₂ (λ x y. with-stores s (s .subs) (s .«sub_lens») x y) a b
+
+-- ---- what a use of an id gives
+
+pub stored-small : (u : Use) (n : ℕ) → stored u n ≤ n
+stored-small Enter n = le-refl n
+stored-small Free n = omega arith
+stored-small Need n = omega arith
+stored-small Nothing n = omega arith
+
+-- an id that is stored fits its place
+pub stored-fits : (w : ℕ) (u : Use) (id : List ℕ) (is : List (List ℕ)) → settle (use-checks w u id is) [] ≡ accepted [] → length (take (stored u (length id)) id) ≤ w
+stored-fits w u id is e =
+    let l : length id ≤ w = ltb-false w (length id) (or-false-right (empty id) (ltb w (length id)) (all-pass (use-checks w u id is) [] [] e .0)) in
+    omega (arith, length-take (stored u (length id)) id, stored-small u (length id))
+
+-- the part of an id that is stored, as a part of a slice
+pub stored-part : (u : Use) (id : List ℕ) (n : ℕ) → n ≡ stored u (length id) → take (n - 0) (drop 0 id) ≡ take (stored u (length id)) id
+stored-part u id n e = rw (sub-zero, e)
+
+module _ (k : Kind) (s : Session) (u : Use) (id : List ℕ) (receipt : Bool) (time : ℕ) (r : Outcome) where
+  pub use-refused : (n : ℕ) → Settles id-max u id (ids-of k s) (Settled.Refused n) → r ≡ closed-by s n → GivesUse k s u id receipt time r
+  use-refused n e q =
+      gives-refused (use-checks id-max u id (ids-of k s)) n (settle-refused (use-checks id-max u id (ids-of k s)) [] _ n e)
+      (settle-closes (use-checks id-max u id (ids-of k s)) [] n refl e) q
+
+  module _ (sized : Sized s) (valid : is-valid s ≡ true) where
+    pub use-kept : Settles id-max u id (ids-of k s) Settled.Kept → r ≡ accepted-by s receipt time → GivesUse k s u id receipt time r
+    use-kept e q =
+        let same : with-ids k s (used u id (ids-of k s)) ≡ s = ap (with-ids k s) (e .1) ∙ same-ids s sized valid k in
+        rw same (gives-accepted (use-checks id-max u id (ids-of k s)) receipt s s time r (all-accepted (use-checks id-max u id (ids-of k s)) _ (all-pass (use-checks id-max u id (ids-of k s)) [] [] (e .0))) q)
+
+    pub use-put : (i : ℕ) (part : List ℕ) → Settles id-max u id (ids-of k s) (Settled.Put i) → part ≡ take (stored u (length id)) id
+        → r ≡ accepted-by (put-of k s i part) receipt time → GivesUse k s u id receipt time r
+    use-put i part (e, h, f) p q =
+        let put : put-of k s i part ≡ with-ids k s (used u id (ids-of k s)) =
+        ap (put-of k s i) p ∙ put-ids s sized valid k i (take (stored u (length id)) id) (omega (arith, h, count-ids s sized valid k)) (stored-fits id-max u id (ids-of k s) e) ∙ ap (with-ids k s) (sym f) in
+        gives-accepted (use-checks id-max u id (ids-of k s)) receipt s (with-ids k s (used u id (ids-of k s))) time r
+        (all-accepted (use-checks id-max u id (ids-of k s)) _ (all-pass (use-checks id-max u id (ids-of k s)) [] [] e)) (q ∙ ap (λ z. accepted-by z receipt time) put)
+
+    -- what putting it asks
+    pub put-asked : (i n : ℕ) → Settles id-max u id (ids-of k s) (Settled.Put i) → n ≡ stored u (length id) → (i < count-of k) × (length (take (n - 0) (drop 0 id)) ≤ id-max)
+    put-asked i n (e, h, f) p = (omega (arith, h, count-ids s sized valid k), rw (stored-part u id n p) (stored-fits id-max u id (ids-of k s) e))
+
+-- a session with an id put in a place, as it is stored
+pub subscription-stored : (s : Session) (i : ℕ) (id store : List ℕ) (m : ℕ) → store ≡ subscription-put s i id .subs → m ≡ length id
+    → with-stores s store (set (s .«sub_lens») i m) (s .txs) (s .«tx_lens») ≡ subscription-put s i id
+subscription-stored s i id store m e l = rw (e, l)
+
+pub transaction-stored : (s : Session) (i : ℕ) (id store : List ℕ) (m : ℕ) → store ≡ transaction-put s i id .txs → m ≡ length id
+    → with-stores s (s .subs) (s .«sub_lens») store (set (s .«tx_lens») i m) ≡ transaction-put s i id
+transaction-stored s i id store m e l = rw (e, l)
+
+-- the interval of a valid session is small
+pub small-inbound : (s : Session) → is-valid s ≡ true → s .inbound ≤ 3600000
+unfolding is-valid
+small-inbound s v =
+    let small = and-left _ _ (and-right (leb (s .phase) 2) _ (and-left (valid-numbers s) (valid-ids s) v)) in
+    leb-true _ _ (and-left _ _ (and-right (leb (s .wants) 3600000) _ (and-right (leb (s .sends) 3600000) _ small)))

@@ -1,0 +1,137 @@
+-- `locate::find` meets its contract: each header's name is looked up.
+use borrow.Author.Needs.{needs}
+use Rattle.sessions.proofs.locate.find.Statement.{statement}
+use Rattle.sessions.proofs.locate.find.Tie as tie
+
+enum-told : tie.Need-enum-told
+enum-told c = search needs
+
+slice-aggregate-find : tie.Need-slice-aggregate-find
+slice-aggregate-find c = search needs
+
+find-requires : tie.Need-find-requires
+find-requires c κs = search needs
+
+enum-told-2 : tie.Need-enum-told-2
+enum-told-2 c = search needs
+
+slice-aggregate-find-2 : tie.Need-slice-aggregate-find-2
+slice-aggregate-find-2 c = search needs
+
+find-requires-2 : tie.Need-find-requires-2
+find-requires-2 c κs = search needs
+
+enum-told-3 : tie.Need-enum-told-3
+enum-told-3 c = search needs
+
+slice-aggregate-find-3 : tie.Need-slice-aggregate-find-3
+slice-aggregate-find-3 c = search needs
+
+find-requires-3 : tie.Need-find-requires-3
+find-requires-3 c κs = search needs
+
+enum-told-4 : tie.Need-enum-told-4
+enum-told-4 c = search needs
+
+slice-aggregate-find-4 : tie.Need-slice-aggregate-find-4
+slice-aggregate-find-4 c = search needs
+
+find-requires-4 : tie.Need-find-requires-4
+find-requires-4 c κs = search needs
+
+enum-told-5 : tie.Need-enum-told-5
+enum-told-5 c = search needs
+
+slice-aggregate-find-5 : tie.Need-slice-aggregate-find-5
+slice-aggregate-find-5 c = search needs
+
+find-requires-5 : tie.Need-find-requires-5
+find-requires-5 c κs = search needs
+
+enum-told-6 : tie.Need-enum-told-6
+enum-told-6 c = search needs
+
+slice-aggregate-find-6 : tie.Need-slice-aggregate-find-6
+slice-aggregate-find-6 c = search needs
+
+find-requires-6 : tie.Need-find-requires-6
+find-requires-6 c κs = search needs
+
+enum-told-7 : tie.Need-enum-told-7
+enum-told-7 c = search needs
+
+slice-aggregate-find-7 : tie.Need-slice-aggregate-find-7
+slice-aggregate-find-7 c = search needs
+
+find-requires-7 : tie.Need-find-requires-7
+find-requires-7 c κs = search needs
+
+enum-told-8 : tie.Need-enum-told-8
+enum-told-8 c = search needs
+
+slice-aggregate-find-8 : tie.Need-slice-aggregate-find-8
+slice-aggregate-find-8 c = search needs
+
+find-requires-8 : tie.Need-find-requires-8
+find-requires-8 c κs = search needs
+
+returns : tie.Need-returns
+returns c = rw (c .before .before .enum-told .given .1) (c .find .ensures)
+
+returns-2 : tie.Need-returns-2
+returns-2 c = rw (c .before .before .enum-told2 .given .1) (c .find2 .ensures)
+
+returns-3 : tie.Need-returns-3
+returns-3 c = rw (c .before .before .enum-told3 .given .1) (c .find3 .ensures)
+
+returns-4 : tie.Need-returns-4
+returns-4 c = rw (c .before .before .enum-told4 .given .1) (c .find4 .ensures)
+
+returns-5 : tie.Need-returns-5
+returns-5 c = rw (c .before .before .enum-told5 .given .1) (c .find5 .ensures)
+
+returns-6 : tie.Need-returns-6
+returns-6 c = rw (c .before .before .enum-told6 .given .1) (c .find6 .ensures)
+
+returns-7 : tie.Need-returns-7
+returns-7 c = rw (c .before .before .enum-told7 .given .1) (c .find7 .ensures)
+
+returns-8 : tie.Need-returns-8
+returns-8 c = rw (c .before .before .enum-told8 .given .1) (c .find8 .ensures)
+
+pub find-spec : {M : Type 1} → statement M
+find-spec =
+    tie.close
+    (tie.spec
+    enum-told
+    slice-aggregate-find
+    find-requires
+    enum-told-2
+    slice-aggregate-find-2
+    find-requires-2
+    enum-told-3
+    slice-aggregate-find-3
+    find-requires-3
+    enum-told-4
+    slice-aggregate-find-4
+    find-requires-4
+    enum-told-5
+    slice-aggregate-find-5
+    find-requires-5
+    enum-told-6
+    slice-aggregate-find-6
+    find-requires-6
+    enum-told-7
+    slice-aggregate-find-7
+    find-requires-7
+    enum-told-8
+    slice-aggregate-find-8
+    find-requires-8
+    returns
+    returns-2
+    returns-3
+    returns-4
+    returns-5
+    returns-6
+    returns-7
+    returns-8)

@@ -1,0 +1,45 @@
+-- `store::put` meets its contract: the place, filled, comes back into the store.
+use borrow.Author.Needs.{needs}
+use Prim.Native.Nat.{_*_}
+use Rattle.sessions.proofs.Filling.{put-placed}
+use Rattle.sessions.proofs.store.put.Statement.{statement}
+use Rattle.sessions.proofs.store.put.Tie as tie
+
+mul-at : tie.Need-mul-at
+mul-at c = search needs
+
+add-end : tie.Need-add-end
+add-end c = search needs
+
+sub-fill : tie.Need-sub-fill
+sub-fill c = search needs
+
+part-fill-start : tie.Need-part-fill-start
+part-fill-start c = search needs
+
+part-fill-end : tie.Need-part-fill-end
+part-fill-end c = search needs
+
+fill-requires : tie.Need-fill-requires
+fill-requires c κs = search needs
+
+same-length : tie.Need-same-length
+same-length c = search needs
+
+returns : tie.Need-returns
+returns c =
+    let s = c .before .before .before .before .before .before in
+    put-placed (s .args .width) (s .args .index * s .args .width) (s .args .store .now) (c .before .before .fill .last .0) (s .args .id .now) (s .pre .0) (c .before .before .fill .ensures)
+
+pub put-spec : {M : Type 1} → statement M
+put-spec =
+    tie.close
+    (tie.spec
+    mul-at
+    add-end
+    sub-fill
+    part-fill-start
+    part-fill-end
+    fill-requires
+    same-length
+    returns)

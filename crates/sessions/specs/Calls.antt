@@ -1,0 +1,185 @@
+-- What each call of a session answers, and the session that it leaves (document 01, "One client's session"): the checks as one
+-- list in their order, and the effect of what is accepted. Assumes nothing.
+use mathlib.Core.Bool.{Bool, true, false, cond, _&&_, _||_, not}
+use mathlib.Core.Option.{Option, none, some}
+use mathlib.Core.List.{List, [], _∷_}
+use Prim.Native.Nat.{ℕ}
+use lib.ListN.{replicate}
+use lib.Dec.{eqb, ltb}
+use Rattle.headers.specs.Rows.{empty, any}
+use Rattle.headers.specs.Block.{Entry, entries}
+use Rattle.headers.specs.Answers.{Answer, accepted, refused, Check, settle, is-block}
+use Rattle.frames.specs.Grammar.{DISCONNECT}
+use Rattle.frames.specs.Writing.{listed}
+use Rattle.sessions.specs.Stores.{live, used, enters, wants-live, bad-length, use-checks}
+use Rattle.sessions.specs.Values.{Beats, versions, beats, beat-max}
+use Rattle.sessions.specs.Opening.{shared-flags, none-shared, only-1-2, interval, overdue}
+use Rattle.sessions.specs.Headers.{value-of, has, is-some, lacks, is, unknown, from-server, opens, needed, names, naming}
+use Rattle.sessions.specs.Sessions.{id-max, fresh-phase, open-phase, closed-phase, in-phase, fresh, ids-of, with-ids, closed, opened, heard, is-valid}
+use Rattle.sessions.specs.Answers.{bit}
+use Rattle.sessions.specs.declared.store.Use.{Use}
+use Rattle.sessions.specs.declared.store.Use.the-variants.{Nothing, Need, Enter, Free}
+use Rattle.sessions.specs.declared.command.Header.the-variants.{AcceptVersion, HeartBeat, Receipt}
+use Rattle.sessions.specs.declared.session.Session.{Session}
+
+-- "38 and 39 leave the session unchanged; every other number closes it and changes nothing else."
+abbrev pub left-by : Answer → Session → Session → Session
+left-by (accepted values) before after = after
+left-by (refused k) before after = cond (eqb k 38 || eqb k 39) before (closed before)
+
+-- Making a session: "with offers above 3,600,000, or with version marks other than 1.2 alone, is refused with 34 and gives a closed
+-- session whose other fields are 0".
+abbrev pub making-checks : ℕ → ℕ → List Bool → List Check
+making-checks sends wants offered =
+    record { fails = ltb beat-max sends || (ltb beat-max wants || not (only-1-2 offered)); number = 34 } ∷ []
+
+unfoldable pub making-answer : ℕ → ℕ → List Bool → Answer
+making-answer sends wants offered = settle (making-checks sends wants offered) []
+
+abbrev pub made-by : Answer → ℕ → ℕ → List Bool → Session
+made-by (accepted values) sends wants offered = fresh sends wants offered
+made-by (refused k) sends wants offered = closed (fresh 0 0 (replicate 3 false))
+
+unfoldable pub made : ℕ → ℕ → List Bool → Session
+made sends wants offered = made-by (making-answer sends wants offered) sends wants offered
+
+-- ---- the opening frame
+
+-- the versions that the client has, none where its accept-version is malformed or missing
+abbrev pub versions-of : Option (List ℕ) → Option (List Bool)
+versions-of none = none
+versions-of (some v) = versions v
+
+-- those that both sides have
+abbrev pub shared-by : Session → Option (List Bool) → List Bool
+shared-by s none = replicate 3 false
+shared-by s (some client) = shared-flags client (s .offered)
+
+-- the client's heart-beats: "absent means 0,0"
+abbrev pub beats-of : Option (List ℕ) → Option Beats
+beats-of none = some (record { sends = 0; wants = 0 })
+beats-of (some v) = beats v
+
+abbrev pub client-versions : List Entry → Option (List Bool)
+client-versions es = versions-of (value-of AcceptVersion es)
+
+abbrev pub client-beats : List Entry → Option Beats
+client-beats es = beats-of (value-of HeartBeat es)
+
+-- "Client to server: 0 if the client's first or the server's second is 0, else the larger. Server to client: the server's first and
+-- the client's second likewise."
+abbrev pub opened-by : Session → List Bool → Option Beats → Session
+opened-by s shared none = s
+opened-by s shared (some b) = opened s shared (interval (b .sends) (s .wants)) (interval (s .sends) (b .wants))
+
+abbrev pub opening : Session → List Entry → Session
+opening s es = opened-by s (shared-by s (client-versions es)) (client-beats es)
+
+-- ---- the id that a frame names, if it names one
+
+abbrev pub named-by : Use → Option (List ℕ) → Option (List ℕ)
+named-by Nothing o = none
+named-by Need o = o
+named-by Enter o = o
+named-by Free o = o
+
+abbrev pub usage-of : ℕ → Use
+usage-of n = naming n .usage
+
+abbrev pub named-id : ℕ → List Entry → Option (List ℕ)
+named-id n es = named-by (usage-of n) (value-of (names (naming n .kind)) es)
+
+-- the ids of the kind that it names
+abbrev pub named-ids : Session → ℕ → List (List ℕ)
+named-ids s n = ids-of (naming n .kind) s
+
+-- a test of the id, which no id passes
+abbrev pub of-id : Option (List ℕ) → (List ℕ → Bool) → Bool
+of-id none f = false
+of-id (some id) f = f id
+
+-- ---- a frame
+
+-- "42 not open, or a second CONNECT/STOMP"
+abbrev pub out-of-phase : Session → ℕ → Bool
+out-of-phase s n = cond (opens n) (not (in-phase fresh-phase s)) (not (in-phase open-phase s))
+
+-- "44 the id that names a subscription or transaction is empty or over 32; 45 id already live; 46 not live; 47 all places live"
+abbrev pub naming-checks : Session → ℕ → List Entry → List Check
+naming-checks s n es =
+    record { fails = of-id (named-id n es) (bad-length id-max); number = 44 } ∷
+    record { fails = enters (usage-of n) && of-id (named-id n es) (λ id. live id (named-ids s n)); number = 45 } ∷
+    record { fails = wants-live (usage-of n) && of-id (named-id n es) (λ id. not (live id (named-ids s n))); number = 46 } ∷
+    record { fails = enters (usage-of n) && of-id (named-id n es) (λ id. not (any empty (named-ids s n))); number = 47 } ∷
+    []
+
+-- "43 header missing"
+abbrev pub lacks-needed : ℕ → List Entry → Bool
+lacks-needed n es = lacks (needed n .first) es || lacks (needed n .second) es
+
+-- "Checks in order: 38 unsound session record; 39 unknown command or malformed sheet; 40 closed; 41 a server's command; 42 not open,
+-- or a second CONNECT/STOMP; 43 header missing; 44 the id that names a subscription or transaction is empty or over 32; 45 id
+-- already live; 46 not live; 47 all places live; at CONNECT/STOMP 31, 32, 33 after 43": 31 accept-version malformed, 32 no version
+-- shared, 33 heart-beat malformed. An unsound record is an invalid one, the sheet the header block.
+abbrev pub entry-checks : Session → ℕ → List Entry → List Check
+entry-checks s n es =
+    record { fails = lacks-needed n es; number = 43 } ∷
+    record { fails = opens n && not (is-some (client-versions es)); number = 31 } ∷
+    record { fails = opens n && none-shared (shared-by s (client-versions es)); number = 32 } ∷
+    record { fails = opens n && not (is-some (client-beats es)); number = 33 } ∷
+    naming-checks s n es
+
+abbrev pub frame-checks : Session → ℕ → List ℕ → List Check
+frame-checks s n block =
+    record { fails = not (is-valid s); number = 38 } ∷
+    record { fails = unknown n || not (is-block block); number = 39 } ∷
+    record { fails = in-phase closed-phase s; number = 40 } ∷
+    record { fails = from-server n; number = 41 } ∷
+    record { fails = out-of-phase s n; number = 42 } ∷
+    entry-checks s n (listed (entries block))
+
+-- "A receipt is owed exactly if the frame is accepted, the header is there and the command is neither CONNECT nor STOMP"
+abbrev pub owes-receipt : ℕ → List Entry → Bool
+owes-receipt n es = not (opens n) && has Receipt es
+
+unfoldable pub frame-answer : Session → ℕ → List ℕ → Answer
+frame-answer s n block = settle (frame-checks s n block) (bit (owes-receipt n (listed (entries block))) ∷ [])
+
+-- the session with the id entered or freed
+abbrev pub naming-effect : Session → ℕ → Option (List ℕ) → Session
+naming-effect s n none = s
+naming-effect s n (some id) = with-ids (naming n .kind) s (used (usage-of n) id (named-ids s n))
+
+-- CONNECT and STOMP open; "DISCONNECT closes, accepted"; the others enter an id, free one, or change none
+abbrev pub effect : Session → ℕ → List Entry → Session
+effect s n es =
+    cond (opens n) (opening s es)
+    (cond (is DISCONNECT n) (closed s)
+    (naming-effect s n (named-id n es)))
+
+-- "Accepted frames and beats set last-heard."
+unfoldable pub frame-session : Session → ℕ → List ℕ → ℕ → Session
+frame-session s n block time = left-by (frame-answer s n block) s (heard (effect s n (listed (entries block))) time)
+
+-- ---- a heart-beat: "A beat gets 38 or 40 likewise."
+
+abbrev pub beat-checks : Session → List Check
+beat-checks s =
+    record { fails = not (is-valid s); number = 38 } ∷
+    record { fails = in-phase closed-phase s; number = 40 } ∷
+    []
+
+unfoldable pub beat-answer : Session → Answer
+beat-answer s = settle (beat-checks s) (0 ∷ [])
+
+unfoldable pub beat-session : Session → ℕ → Session
+beat-session s time = left-by (beat-answer s) s (heard s time)
+
+-- ---- "The peer is dead exactly if the session is open, the client-to-server interval is not 0 and more than twice that interval has
+-- passed since last-heard. Asked of an unsound record, the answer is 38." Dead is timed out here.
+
+abbrev pub is-timed-out : Session → ℕ → Bool
+is-timed-out s time = in-phase open-phase s && overdue (s .inbound) time (s .«last_heard»)
+
+unfoldable pub timed-out-answer : Session → ℕ → Answer
+timed-out-answer s time = settle (record { fails = not (is-valid s); number = 38 } ∷ []) (bit (is-timed-out s time) ∷ [])

@@ -1,0 +1,108 @@
+-- Which commands and headers a session looks at (document 01, "One client's session"). Commands go by their numbers. Assumes nothing.
+use mathlib.Core.Bool.{Bool, true, false, cond, _&&_, _||_, not}
+use mathlib.Core.Option.{Option, none, some}
+use mathlib.Core.List.{List, [], _∷_}
+use Prim.Native.Nat.{ℕ}
+use lib.Dec.{eqb, ltb}
+use Rattle.headers.specs.Block.{Entry, first-value}
+use Rattle.frames.specs.Grammar.{Command, number, ABORT, ACK, BEGIN, COMMIT, CONNECT, CONNECTED, DISCONNECT, ERROR, MESSAGE, NACK, RECEIPT, SEND, STOMP, SUBSCRIBE, UNSUBSCRIBE}
+use Rattle.sessions.specs.declared.store.Use.{Use}
+use Rattle.sessions.specs.declared.store.Use.the-variants.{Nothing, Need, Enter, Free}
+use Rattle.sessions.specs.declared.command.Header.{Header}
+use Rattle.sessions.specs.declared.command.Header.the-variants.{Absent, AcceptVersion, HeartBeat, Host, Destination, Id, Transaction, Receipt}
+use Rattle.sessions.specs.declared.command.Kind.{Kind}
+use Rattle.sessions.specs.declared.command.Kind.the-variants.{Subscriptions, Transactions}
+use Rattle.sessions.specs.declared.command.Needed.{Needed}
+use Rattle.sessions.specs.declared.command.Naming.{Naming}
+
+-- the names of the headers; Absent stands for none
+abbrev pub name-of : Header → List ℕ
+name-of Absent = []
+name-of AcceptVersion = 97 ∷ 99 ∷ 99 ∷ 101 ∷ 112 ∷ 116 ∷ 45 ∷ 118 ∷ 101 ∷ 114 ∷ 115 ∷ 105 ∷ 111 ∷ 110 ∷ []
+name-of HeartBeat = 104 ∷ 101 ∷ 97 ∷ 114 ∷ 116 ∷ 45 ∷ 98 ∷ 101 ∷ 97 ∷ 116 ∷ []
+name-of Host = 104 ∷ 111 ∷ 115 ∷ 116 ∷ []
+name-of Destination = 100 ∷ 101 ∷ 115 ∷ 116 ∷ 105 ∷ 110 ∷ 97 ∷ 116 ∷ 105 ∷ 111 ∷ 110 ∷ []
+name-of Id = 105 ∷ 100 ∷ []
+name-of Transaction = 116 ∷ 114 ∷ 97 ∷ 110 ∷ 115 ∷ 97 ∷ 99 ∷ 116 ∷ 105 ∷ 111 ∷ 110 ∷ []
+name-of Receipt = 114 ∷ 101 ∷ 99 ∷ 101 ∷ 105 ∷ 112 ∷ 116 ∷ []
+
+-- the first value of a header
+abbrev pub value-of : Header → List Entry → Option (List ℕ)
+value-of h es = first-value (name-of h) es
+
+abbrev pub is-some : {A : Type 0} → Option A → Bool
+is-some none = false
+is-some (some x) = true
+
+abbrev pub has : Header → List Entry → Bool
+has h es = is-some (value-of h es)
+
+-- a needed header is missing; of none, it never is
+abbrev pub lacks : Header → List Entry → Bool
+lacks Absent es = false
+lacks AcceptVersion es = not (has AcceptVersion es)
+lacks HeartBeat es = not (has HeartBeat es)
+lacks Host es = not (has Host es)
+lacks Destination es = not (has Destination es)
+lacks Id es = not (has Id es)
+lacks Transaction es = not (has Transaction es)
+lacks Receipt es = not (has Receipt es)
+
+-- the command of a number
+abbrev pub is : Command → ℕ → Bool
+is c n = eqb n (number c)
+
+-- "unknown command"
+abbrev pub unknown : ℕ → Bool
+unknown n = eqb n 0 || ltb 15 n
+
+-- "a server's command"
+abbrev pub from-server : ℕ → Bool
+from-server n = is CONNECTED n || (is ERROR n || (is MESSAGE n || is RECEIPT n))
+
+-- CONNECT and STOMP open a session.
+abbrev pub opens : ℕ → Bool
+opens n = is CONNECT n || is STOMP n
+
+abbrev pub one : Header → Needed
+one h = record { first = h; second = Absent }
+
+abbrev pub two : Header → Header → Needed
+two h k = record { first = h; second = k }
+
+-- "Needed headers, checked in this order: CONNECT and STOMP accept-version, host; SEND destination; SUBSCRIBE destination, id;
+-- UNSUBSCRIBE, ACK, NACK id; BEGIN, COMMIT, ABORT transaction."
+abbrev pub needed : ℕ → Needed
+needed n =
+    cond (opens n) (two AcceptVersion Host)
+    (cond (is SEND n) (one Destination)
+    (cond (is SUBSCRIBE n) (two Destination Id)
+    (cond (is UNSUBSCRIBE n || (is ACK n || is NACK n)) (one Id)
+    (cond (is BEGIN n || (is COMMIT n || is ABORT n)) (one Transaction)
+    (one Absent)))))
+
+-- The header that names an id of a kind.
+abbrev pub names : Kind → Header
+names Subscriptions = Id
+names Transactions = Transaction
+
+-- a use is of an id
+abbrev pub names-id : Use → Bool
+names-id Nothing = false
+names-id Need = true
+names-id Enter = true
+names-id Free = true
+
+abbrev pub naming-of : Kind → Use → Naming
+naming-of k u = record { kind = k; usage = u }
+
+-- What a frame does with which id: SUBSCRIBE and BEGIN enter one, UNSUBSCRIBE, COMMIT and ABORT free one; "SEND, ACK and NACK may
+-- carry transaction, which must be open". "The id of ACK and NACK is only required."
+abbrev pub naming : ℕ → Naming
+naming n =
+    cond (is SUBSCRIBE n) (naming-of Subscriptions Enter)
+    (cond (is UNSUBSCRIBE n) (naming-of Subscriptions Free)
+    (cond (is BEGIN n) (naming-of Transactions Enter)
+    (cond (is COMMIT n || is ABORT n) (naming-of Transactions Free)
+    (cond (is SEND n || (is ACK n || is NACK n)) (naming-of Transactions Need)
+    (naming-of Transactions Nothing)))))

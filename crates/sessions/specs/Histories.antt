@@ -1,0 +1,74 @@
+-- Histories of calls on one session, and what closes one. Assumes nothing.
+use mathlib.Core.Path.{_≡_}
+use mathlib.Core.Logic.{_≢_}
+use mathlib.Core.Bool.{Bool, true, false, cond, _&&_}
+use mathlib.Core.Option.{Option, none, some}
+use mathlib.Core.List.{List, [], _∷_}
+use Prim.Native.Nat.{ℕ}
+use Rattle.headers.specs.Rows.{same}
+use Rattle.headers.specs.Block.{entries}
+use Rattle.headers.specs.Answers.{Answer, accepted, refused}
+use Rattle.frames.specs.Grammar.{number, DISCONNECT}
+use Rattle.frames.specs.Writing.{listed}
+use Rattle.sessions.specs.Headers.{naming}
+use Rattle.sessions.specs.Calls.{frame-answer, frame-session, beat-answer, beat-session, named-id}
+use Rattle.sessions.specs.declared.store.Use.{Use}
+use Rattle.sessions.specs.declared.store.Use.the-variants.{Nothing, Need, Enter, Free}
+use Rattle.sessions.specs.declared.command.Kind.{Kind}
+use Rattle.sessions.specs.declared.command.Kind.the-variants.{Subscriptions, Transactions}
+use Rattle.sessions.specs.declared.session.Session.{Session}
+
+-- a call: a frame's command number, header block and time; or a heart-beat's time
+pub data Call : Type 0 where
+  frame : (command : ℕ) (block : List ℕ) (time : ℕ) → Call
+  heart-beat : (time : ℕ) → Call
+
+abbrev pub answer-to : Session → Call → Answer
+answer-to s (frame n block time) = frame-answer s n block
+answer-to s (heart-beat time) = beat-answer s
+
+abbrev pub next : Session → Call → Session
+next s (frame n block time) = frame-session s n block time
+next s (heart-beat time) = beat-session s time
+
+-- the session after calls, the first of them first
+abbrev pub after : Session → List Call → Session
+after s [] = s
+after s (c ∷ cs) = after (next s c) cs
+
+-- What an accepted call does with an id of a kind: enters it (yes), frees it (no), or leaves it as it was.
+abbrev pub same-kind : Kind → Kind → Bool
+same-kind Subscriptions Subscriptions = true
+same-kind Subscriptions Transactions = false
+same-kind Transactions Subscriptions = false
+same-kind Transactions Transactions = true
+
+abbrev pub by-use : Use → Bool → Bool
+by-use Enter before = true
+by-use Free before = false
+by-use Need before = before
+by-use Nothing before = before
+
+abbrev pub named-as : Kind → List ℕ → ℕ → Option (List ℕ) → Bool
+named-as k id n none = false
+named-as k id n (some x) = same-kind k (naming n .kind) && same x id
+
+abbrev pub is-accepted : Answer → Bool
+is-accepted (accepted values) = true
+is-accepted (refused number) = false
+
+abbrev pub live-by : Kind → List ℕ → Bool → Answer → Call → Bool
+live-by k id before a (frame n block time) =
+    cond (is-accepted a && named-as k id n (named-id n (listed (entries block)))) (by-use (naming n .usage) before) before
+live-by k id before a (heart-beat time) = before
+
+-- whether an id is live after calls, told from the calls and their answers alone: it was entered, and not freed since
+abbrev pub live-after : Kind → List ℕ → Bool → Session → List Call → Bool
+live-after k id before s [] = before
+live-after k id before s (c ∷ cs) = live-after k id (live-by k id before (answer-to s c) c) (next s c) cs
+
+-- What closes a session: "38 and 39 leave the session unchanged; every other number closes it"; "DISCONNECT closes, accepted".
+pub data Closes (s : Session) : Call → Type 0 where
+  by-number : {c : Call} (k : ℕ) → answer-to s c ≡ refused k → k ≢ 38 → k ≢ 39 → Closes s c
+  by-disconnect : (block : List ℕ) (time : ℕ) (values : List ℕ) → frame-answer s (number DISCONNECT) block ≡ accepted values
+      → Closes s (frame (number DISCONNECT) block time)

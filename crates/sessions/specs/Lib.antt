@@ -1,0 +1,11 @@
+pub mod Stores
+pub mod Values
+pub mod Opening
+pub mod Headers
+pub mod Sessions
+pub mod Answers
+pub mod Calls
+pub mod Histories
+pub mod Places
+pub mod Reads
+pub mod Steps

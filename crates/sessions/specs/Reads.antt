@@ -1,0 +1,35 @@
+-- What the readers of header values and blocks give, in the code's types. Assumes nothing.
+use mathlib.Core.Path.{_≡_}
+use mathlib.Core.Bool.{Bool, cond, _||_}
+use mathlib.Core.Option.{Option, none, some}
+use mathlib.Core.List.{List, [], _∷_}
+use Prim.Native.Nat.{ℕ, _-_, _≤_}
+use lib.ListN.{length, take, drop}
+use Rattle.headers.specs.Rows.{same}
+use Rattle.headers.specs.Block.{entries}
+use Rattle.frames.specs.Writing.{listed}
+use Rattle.sessions.specs.Values.{version, Beats}
+use Rattle.sessions.specs.Opening.{flag}
+use Rattle.sessions.specs.Headers.{value-of}
+use Rattle.sessions.specs.declared.value.VersionsRead.{VersionsRead}
+use Rattle.sessions.specs.declared.value.BeatsRead.{BeatsRead}
+use Rattle.sessions.specs.declared.locate.Located.{Located}
+use Rattle.sessions.specs.declared.command.Header.{Header}
+
+-- flags with an item counted
+abbrev pub counted : List Bool → List ℕ → List Bool
+counted fs p = (flag fs 0 || same p (version 48)) ∷ (flag fs 1 || same p (version 49)) ∷ (flag fs 2 || same p (version 50)) ∷ []
+
+abbrev pub versions-say : VersionsRead → Option (List Bool)
+versions-say r = cond (r .valid) (some (r .flags)) none
+
+abbrev pub beats-say : BeatsRead → Option Beats
+beats-say r = cond (r .valid) (some (record { sends = r .sends; wants = r .wants })) none
+
+-- where a header's first value stands
+abbrev pub value-at : List ℕ → Located → List ℕ
+value-at block r = take (r .end - r .start) (drop (r .start) block)
+
+pub record Locates (block : List ℕ) (h : Header) (r : Located) : Type 0 where
+  pub inside : (r .start ≤ r .end) × (r .end ≤ length block)
+  pub first : cond (r .present) (some (value-at block r)) none ≡ value-of h (listed (entries block))

@@ -1,0 +1,154 @@
+-- One client's session (document 01, "One client's session"): its record, what makes it valid, and its ids as lists. Assumes nothing.
+use mathlib.Core.Bool.{Bool, true, false, cond, _&&_, _||_, not}
+use mathlib.Core.Path.{_≡_}
+use mathlib.Core.List.{List}
+use Prim.Native.Nat.{ℕ}
+use lib.ListN.{length, replicate}
+use lib.Dec.{eqb, leb}
+use Rattle.sessions.specs.Stores.{ids, laid, lengths, valid-store}
+use Rattle.sessions.specs.Values.{beat-max}
+use Rattle.sessions.specs.Opening.{only-1-2}
+use Rattle.sessions.specs.declared.command.Kind.{Kind}
+use Rattle.sessions.specs.declared.command.Kind.the-variants.{Subscriptions, Transactions}
+use Rattle.sessions.specs.declared.session.Session.{Session}
+
+-- "A session keeps 16 subscription ids and 4 transaction ids of 1 to 32 octets"
+abbrev pub subscriptions-max : ℕ
+subscriptions-max = 16
+
+abbrev pub transactions-max : ℕ
+transactions-max = 4
+
+abbrev pub id-max : ℕ
+id-max = 32
+
+-- "Phases fresh, open, closed", in this order from 0
+abbrev pub fresh-phase : ℕ
+fresh-phase = 0
+
+abbrev pub open-phase : ℕ
+open-phase = 1
+
+abbrev pub closed-phase : ℕ
+closed-phase = 2
+
+abbrev pub in-phase : ℕ → Session → Bool
+in-phase p s = eqb (s .phase) p
+
+-- "a fresh one holds 512 zero octets for the former, and 0 for its intervals and last-heard"
+abbrev pub fresh : ℕ → ℕ → List Bool → Session
+fresh sends wants offered = record {
+  sends = sends;
+  wants = wants;
+  inbound = 0;
+  outbound = 0;
+  «last_heard» = 0;
+  subs = replicate 512 0;
+  txs = replicate 128 0;
+  «sub_lens» = replicate 16 0;
+  «tx_lens» = replicate 4 0;
+  offered = offered;
+  shared = replicate 3 false;
+  phase = fresh-phase;
+}
+
+-- The view of a session: its ids of a kind as a list, [] for a free place; and the session with other ids, laid out.
+abbrev pub ids-of : Kind → Session → List (List ℕ)
+ids-of Subscriptions s = ids id-max (s .subs) (s .«sub_lens»)
+ids-of Transactions s = ids id-max (s .txs) (s .«tx_lens»)
+
+abbrev pub with-stores : Session → List ℕ → List ℕ → List ℕ → List ℕ → Session
+with-stores s subs sub-lens txs tx-lens = record {
+  sends = s .sends;
+  wants = s .wants;
+  inbound = s .inbound;
+  outbound = s .outbound;
+  «last_heard» = s .«last_heard»;
+  subs = subs;
+  txs = txs;
+  «sub_lens» = sub-lens;
+  «tx_lens» = tx-lens;
+  offered = s .offered;
+  shared = s .shared;
+  phase = s .phase;
+}
+
+abbrev pub with-ids : Kind → Session → List (List ℕ) → Session
+with-ids Subscriptions s is = with-stores s (laid id-max is) (lengths is) (s .txs) (s .«tx_lens»)
+with-ids Transactions s is = with-stores s (s .subs) (s .«sub_lens») (laid id-max is) (lengths is)
+
+-- the session in a phase; with what the opening came to; heard from at a time
+abbrev pub with-phase : Session → ℕ → Session
+with-phase s p = record {
+  sends = s .sends;
+  wants = s .wants;
+  inbound = s .inbound;
+  outbound = s .outbound;
+  «last_heard» = s .«last_heard»;
+  subs = s .subs;
+  txs = s .txs;
+  «sub_lens» = s .«sub_lens»;
+  «tx_lens» = s .«tx_lens»;
+  offered = s .offered;
+  shared = s .shared;
+  phase = p;
+}
+
+abbrev pub closed : Session → Session
+closed s = with-phase s closed-phase
+
+abbrev pub opened : Session → List Bool → ℕ → ℕ → Session
+opened s shared inbound outbound = record {
+  sends = s .sends;
+  wants = s .wants;
+  inbound = inbound;
+  outbound = outbound;
+  «last_heard» = s .«last_heard»;
+  subs = s .subs;
+  txs = s .txs;
+  «sub_lens» = s .«sub_lens»;
+  «tx_lens» = s .«tx_lens»;
+  offered = s .offered;
+  shared = shared;
+  phase = open-phase;
+}
+
+abbrev pub heard : Session → ℕ → Session
+heard s time = record {
+  sends = s .sends;
+  wants = s .wants;
+  inbound = s .inbound;
+  outbound = s .outbound;
+  «last_heard» = time;
+  subs = s .subs;
+  txs = s .txs;
+  «sub_lens» = s .«sub_lens»;
+  «tx_lens» = s .«tx_lens»;
+  offered = s .offered;
+  shared = s .shared;
+  phase = s .phase;
+}
+
+-- Not "38 unsound session record (unknown phase, length over 32, two equal live ids of one kind, non-zero unused octets, offer or
+-- interval over the limit, marks that making refuses unless closed)": a valid record. The marks are the offered version flags.
+abbrev pub small-numbers : Session → Bool
+small-numbers s = leb (s .sends) beat-max && (leb (s .wants) beat-max && (leb (s .inbound) beat-max && leb (s .outbound) beat-max))
+
+abbrev pub right-flags : Session → Bool
+right-flags s = in-phase closed-phase s || only-1-2 (s .offered)
+
+abbrev pub valid-numbers : Session → Bool
+valid-numbers s = leb (s .phase) closed-phase && (small-numbers s && right-flags s)
+
+abbrev pub valid-ids : Session → Bool
+valid-ids s = valid-store id-max (s .subs) (s .«sub_lens») && valid-store id-max (s .txs) (s .«tx_lens»)
+
+unfoldable pub is-valid : Session → Bool
+is-valid s = valid-numbers s && valid-ids s
+
+-- the sizes that the arrays of every record have
+pub record Sized (s : Session) : Type 0 where
+  pub subs-long : length (s .subs) ≡ 512
+  pub sub-lens-long : length (s .«sub_lens») ≡ 16
+  pub txs-long : length (s .txs) ≡ 128
+  pub tx-lens-long : length (s .«tx_lens») ≡ 4

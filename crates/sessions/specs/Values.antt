@@ -1,0 +1,76 @@
+-- Header values with parts (document 01, "Opening a connection"). Assumes nothing.
+use mathlib.Core.Bool.{Bool, false, cond, _&&_, not}
+use mathlib.Core.Option.{Option, none, some}
+use mathlib.Core.List.{List, [], _∷_}
+use Prim.Native.Nat.{ℕ}
+use lib.Dec.{eqb}
+use Rattle.headers.specs.Rows.{empty, every, any, same}
+use Rattle.headers.specs.Numbers.{is-digit, amount}
+use Rattle.frames.specs.Scanning.{span}
+
+-- the parts of a row that octets c stand between: one more than there are such octets
+abbrev pub onto : ℕ → List (List ℕ) → List (List ℕ)
+onto x [] = (x ∷ []) ∷ []
+onto x (p ∷ ps) = (x ∷ p) ∷ ps
+
+unfoldable pub split : ℕ → List ℕ → List (List ℕ)
+split c [] = [] ∷ []
+split c (x ∷ xs) = cond (eqb x c) ([] ∷ split c xs) (onto x (split c xs))
+
+-- how many octets stand before the first c
+abbrev pub before : ℕ → List ℕ → ℕ
+before c xs = span (λ x. not (eqb x c)) xs
+
+-- "items of digits, a point, digits (no part empty), joined by commas"
+abbrev pub some-digits : List ℕ → Bool
+some-digits p = not (empty p) && every is-digit p
+
+abbrev pub two-numbers : List (List ℕ) → Bool
+two-numbers [] = false
+two-numbers (a ∷ []) = false
+two-numbers (a ∷ b ∷ []) = some-digits a && some-digits b
+two-numbers (a ∷ b ∷ c ∷ more) = false
+
+unfoldable pub is-item : List ℕ → Bool
+is-item p = two-numbers (split 46 p)
+
+-- "An item counts only if it is exactly 1.0, 1.1 or 1.2; order and repeats don't matter." The minor number's digit is d.
+abbrev pub version : ℕ → List ℕ
+version d = 49 ∷ 46 ∷ d ∷ []
+
+abbrev pub counts : ℕ → List (List ℕ) → Bool
+counts d items = any (λ p. same p (version d)) items
+
+-- flags for 1.0, 1.1 and 1.2
+abbrev pub flags-of : List (List ℕ) → List Bool
+flags-of items = counts 48 items ∷ counts 49 items ∷ counts 50 items ∷ []
+
+-- the versions of an accept-version value, none where it is malformed
+abbrev pub versions-in : List (List ℕ) → Option (List Bool)
+versions-in items = cond (every is-item items) (some (flags-of items)) none
+
+unfoldable pub versions : List ℕ → Option (List Bool)
+versions v = versions-in (split 44 v)
+
+-- "two numbers, digits only, a comma between, each at most 3,600,000"
+abbrev pub beat-max : ℕ
+beat-max = 3600000
+
+-- what a side says of its heart-beats: the first number, how often it can send; the second, how often it wants to hear
+pub record Beats : Type 0 where
+  pub sends : ℕ
+  pub wants : ℕ
+
+abbrev pub both : Option ℕ → Option ℕ → Option Beats
+both (some a) (some b) = some (record { sends = a; wants = b })
+both (some a) none = none
+both none b = none
+
+abbrev pub beats-in : List (List ℕ) → Option Beats
+beats-in [] = none
+beats-in (a ∷ []) = none
+beats-in (a ∷ b ∷ []) = both (amount beat-max a) (amount beat-max b)
+beats-in (a ∷ b ∷ c ∷ more) = none
+
+unfoldable pub beats : List ℕ → Option Beats
+beats v = beats-in (split 44 v)

@@ -1,0 +1,166 @@
+// Which headers a command needs, what it does with an id, and in which phase it may come.
+ghost use mathlib.Core.Path.{_≡_};
+ghost use Rattle.sessions.specs.Headers.{from-server, opens as opens-by, one as one-header, needed as needed-names, names, naming-of, naming as naming-by, names-id};
+ghost use Rattle.sessions.specs.Steps.{phase-number};
+use crate::session::Session;
+use crate::store::Use;
+
+// The headers that a session looks at, and none of them.
+pub(crate) enum Header {
+    Absent,
+    AcceptVersion,
+    HeartBeat,
+    Host,
+    Destination,
+    Id,
+    Transaction,
+    Receipt,
+}
+
+// The kinds of ids.
+pub(crate) enum Kind {
+    Subscriptions,
+    Transactions,
+}
+
+// The headers that a command needs, in their order.
+pub(crate) struct Needed {
+    pub first: Header,
+    pub second: Header,
+}
+
+// What a command does with an id of which kind.
+pub(crate) struct Naming {
+    pub kind: Kind,
+    pub usage: Use,
+}
+
+// Whether only a server sends the command.
+pub(crate) fn is_from_server(command: u32) -> bool
+    ensures { λ r. ⌜ r ≡ from-server command ⌝ }
+{
+    (command == 6) | ((command == 8) | ((command == 9) | (command == 11)))
+}
+
+// Whether the command opens a session.
+pub(crate) fn opens(command: u32) -> bool
+    ensures { λ r. ⌜ r ≡ opens-by command ⌝ }
+{
+    (command == 5) | (command == 13)
+}
+
+pub(crate) fn needed_by(command: u32) -> Needed
+    ensures { λ r. ⌜ r ≡ needed-names command ⌝ }
+{
+    if (command == 5) | (command == 13) {
+        return Needed {
+            first: Header::AcceptVersion,
+            second: Header::Host,
+        };
+    }
+    if command == 12 {
+        return one(Header::Destination);
+    }
+    if command == 14 {
+        return Needed {
+            first: Header::Destination,
+            second: Header::Id,
+        };
+    }
+    if (command == 15) | ((command == 2) | (command == 10)) {
+        return one(Header::Id);
+    }
+    if (command == 3) | ((command == 4) | (command == 1)) {
+        return one(Header::Transaction);
+    }
+    one(Header::Absent)
+}
+
+fn one(h: Header) -> Needed
+    ensures { λ r. ⌜ r ≡ one-header h ⌝ }
+{
+    Needed {
+        first: h,
+        second: Header::Absent,
+    }
+}
+
+pub(crate) fn naming_of(command: u32) -> Naming
+    ensures { λ r. ⌜ r ≡ naming-by command ⌝ }
+{
+    if command == 14 {
+        return Naming {
+            kind: Kind::Subscriptions,
+            usage: Use::Enter,
+        };
+    }
+    if command == 15 {
+        return Naming {
+            kind: Kind::Subscriptions,
+            usage: Use::Free,
+        };
+    }
+    if command == 3 {
+        return transaction(Use::Enter);
+    }
+    if (command == 4) | (command == 1) {
+        return transaction(Use::Free);
+    }
+    if (command == 12) | ((command == 2) | (command == 10)) {
+        return transaction(Use::Need);
+    }
+    transaction(Use::Nothing)
+}
+
+fn transaction(usage: Use) -> Naming
+    ensures { λ r. ⌜ r ≡ naming-of Kind.Transactions usage ⌝ }
+{
+    Naming {
+        kind: Kind::Transactions,
+        usage,
+    }
+}
+
+// The header that names an id of a kind.
+pub(crate) fn header_of(kind: Kind) -> Header
+    ensures { λ r. ⌜ r ≡ names kind ⌝ }
+{
+    match kind {
+        Kind::Subscriptions => Header::Id,
+        Kind::Transactions => Header::Transaction,
+    }
+}
+
+// Whether a use is of an id at all.
+pub(crate) fn names_id(usage: Use) -> bool
+    ensures { λ r. ⌜ r ≡ names-id usage ⌝ }
+{
+    match usage {
+        Use::Nothing => false,
+        Use::Need => true,
+        Use::Enter => true,
+        Use::Free => true,
+    }
+}
+
+// The number of what is out of its phase: 40 closed, 41 a server's command, 42 not open, or a second opening; or 0.
+pub(crate) fn phase_refusal(phase: u8, command: u32) -> u32
+    ensures { λ r. ⌜ r ≡ phase-number phase command ⌝ }
+{
+    if phase == Session::CLOSED {
+        return 40;
+    }
+    if is_from_server(command) {
+        return 41;
+    }
+    if opens(command) {
+        if phase == Session::FRESH {
+            return 0;
+        }
+        return 42;
+    }
+    if phase == Session::OPEN {
+        return 0;
+    }
+    42
+}

@@ -1,0 +1,7 @@
+// Sessions: versions, heart-beats, the clock, and one client's session.
+mod store; // ids in a flat store
+mod value; // header values with parts: accept-version and heart-beat
+mod clock; // time passed
+mod command; // which headers a command needs, what it does with an id, and in which phase it may come
+mod locate; // where a header's first value stands
+pub mod session; // the session as a value

@@ -1,0 +1,408 @@
+// One client's session, as a value.
+ghost use mathlib.Core.Path.{_≡_};
+ghost use mathlib.Core.Bool.{true};
+ghost use Prim.Native.Nat.{_≤_, _<_};
+ghost use lib.ListN.{length};
+ghost use Rattle.headers.specs.Block.{entries};
+ghost use Rattle.headers.specs.Answers.{is-block};
+ghost use Rattle.frames.specs.Writing.{listed};
+ghost use Rattle.sessions.specs.Opening.{highest, interval};
+ghost use Rattle.sessions.specs.Sessions.{fresh, ids-of, closed, opened, valid-numbers, valid-ids, is-valid};
+ghost use Rattle.sessions.specs.Answers.{answer-says, making-says, timed-out-says};
+ghost use Rattle.sessions.specs.Calls.{making-answer, made, frame-answer, frame-session, beat-answer, beat-session, timed-out-answer};
+ghost use Rattle.sessions.specs.Places.{Settles};
+ghost use Rattle.sessions.specs.Steps.{kept-by, closed-by, accepted-by, subscription-put, transaction-put, count-of, put-of, GivesUse, GivesOpening, GivesNaming, GivesEntries};
+use crate::command::Header;
+use crate::command::Kind;
+use crate::command::Naming;
+use crate::store::Settled;
+use crate::store::Use;
+use crate::value::BEAT_MAX;
+use crate::value::BeatsRead;
+
+// The record of a session. The phase is 0 fresh, 1 open, 2 closed. The server's offers: it can send heart-beats every so many
+// milliseconds, and wants to hear one every so many. Inbound is the interval from client to server. Versions are flags for 1.0, 1.1
+// and 1.2.
+pub struct Session {
+    pub sends: u32,
+    pub wants: u32,
+    pub inbound: u32,
+    pub outbound: u32,
+    pub last_heard: u32,
+    pub subs: [u8; Session::SUBSCRIPTIONS * Session::ID],
+    pub txs: [u8; Session::TRANSACTIONS * Session::ID],
+    pub sub_lens: [u8; Session::SUBSCRIPTIONS],
+    pub tx_lens: [u8; Session::TRANSACTIONS],
+    pub offered: [bool; 3],
+    pub shared: [bool; 3],
+    pub phase: u8,
+}
+
+// What an accepted answer says: whether a receipt is owed.
+pub struct Acceptance {
+    pub receipt: bool,
+}
+
+// The answer to a frame or a heart-beat: accepted, or refused with a number.
+pub enum SessionAnswer {
+    Accepted(Acceptance),
+    Refused(u32),
+}
+
+// A session after a call, and the answer.
+pub struct Outcome {
+    pub session: Session,
+    pub answer: SessionAnswer,
+}
+
+// The answer to making a session: made, or refused (34).
+pub enum MakingAnswer {
+    Made,
+    Refused,
+}
+
+// A session that was made, or a closed one.
+pub struct Making {
+    pub session: Session,
+    pub answer: MakingAnswer,
+}
+
+// Whether the peer is timed out; of an invalid record (38) nobody can say.
+pub enum TimedOut {
+    Yes,
+    No,
+    Invalid,
+}
+
+impl Session {
+    pub const SUBSCRIPTIONS: usize = 16;
+
+    pub const TRANSACTIONS: usize = 4;
+
+    pub const ID: usize = 32;
+
+    pub const FRESH: u8 = 0;
+
+    pub const OPEN: u8 = 1;
+
+    pub const CLOSED: u8 = 2;
+
+    // A fresh session.
+    fn fresh(sends: u32, wants: u32, offered: [bool; 3]) -> Session
+        ensures { λ r. ⌜ r ≡ fresh sends wants offered ⌝ }
+    {
+        Session {
+            sends,
+            wants,
+            inbound: 0,
+            outbound: 0,
+            last_heard: 0,
+            subs: [0; 512],
+            txs: [0; Session::TRANSACTIONS * Session::ID],
+            sub_lens: [0; Session::SUBSCRIPTIONS],
+            tx_lens: [0; Session::TRANSACTIONS],
+            offered,
+            shared: [false; 3],
+            phase: Session::FRESH,
+        }
+    }
+
+    // The session closed; nothing else changes.
+    fn closed(mut self) -> Session
+        ensures { λ r. ⌜ r ≡ closed self ⌝ }
+    {
+        self.phase = Session::CLOSED;
+        self
+    }
+
+    // A session with the server's offers and the versions it has: fresh, or refused (34) and closed.
+    pub fn new(sends: u32, wants: u32, offered: [bool; 3]) -> Making
+        ensures { λ r. ⌜ (making-says (r .answer) ≡ making-answer sends wants offered) × (r .session ≡ made sends wants offered) ⌝ }
+    {
+        if (BEAT_MAX < sends) | ((BEAT_MAX < wants) | !crate::value::is_only_1_2(offered)) {
+            return Making {
+                session: Session::fresh(0, 0, [false; 3]).closed(),
+                answer: MakingAnswer::Refused,
+            };
+        }
+        Making {
+            session: Session::fresh(sends, wants, offered),
+            answer: MakingAnswer::Made,
+        }
+    }
+
+    // Refused, the session as it was.
+    fn kept(self, number: u32) -> Outcome
+        ensures { λ r. ⌜ r ≡ kept-by self number ⌝ }
+    {
+        Outcome {
+            session: self,
+            answer: SessionAnswer::Refused(number),
+        }
+    }
+
+    // Refused, the session closed.
+    fn refused(self, number: u32) -> Outcome
+        ensures { λ r. ⌜ r ≡ closed-by self number ⌝ }
+    {
+        Outcome {
+            session: self.closed(),
+            answer: SessionAnswer::Refused(number),
+        }
+    }
+
+    // Accepted, and heard from at this time.
+    fn accepted(mut self, receipt: bool, time: u32) -> Outcome
+        ensures { λ r. ⌜ r ≡ accepted-by self receipt time ⌝ }
+    {
+        self.last_heard = time;
+        Outcome {
+            session: self,
+            answer: SessionAnswer::Accepted(Acceptance { receipt }),
+        }
+    }
+
+    // Whether phase, offers, intervals and offered versions are those of a valid record.
+    fn has_valid_numbers(self) -> bool
+        ensures { λ r. ⌜ r ≡ valid-numbers self ⌝ }
+    {
+        let offered = self.offered;
+        let intervals = (self.inbound <= BEAT_MAX) & (self.outbound <= BEAT_MAX);
+        let small = (self.sends <= BEAT_MAX) & ((self.wants <= BEAT_MAX) & intervals);
+        let flags = (self.phase == Session::CLOSED) | crate::value::is_only_1_2(offered);
+        (self.phase <= Session::CLOSED) & (small & flags)
+    }
+
+    // Whether the stores of ids are.
+    fn has_valid_ids(self) -> bool
+        ensures { λ r. ⌜ r ≡ valid-ids self ⌝ }
+    {
+        let subs = self.subs;
+        let sub_lens = self.sub_lens;
+        if !crate::store::is_valid(&subs, &sub_lens, Session::SUBSCRIPTIONS, Session::ID) {
+            return false;
+        }
+        let txs = self.txs;
+        let tx_lens = self.tx_lens;
+        crate::store::is_valid(&txs, &tx_lens, Session::TRANSACTIONS, Session::ID)
+    }
+
+    // Whether the record is valid (not 38).
+    pub fn is_valid(self) -> bool
+        ensures { λ r. ⌜ r ≡ is-valid self ⌝ }
+    {
+        if !self.has_valid_numbers() {
+            return false;
+        }
+        self.has_valid_ids()
+    }
+
+    // The highest version that both sides have, times ten, or 0 where there is none.
+    pub fn highest_shared(self) -> u32
+        ensures { λ r. ⌜ r ≡ highest (self .shared) ⌝ }
+    {
+        let shared = self.shared;
+        if shared[2] {
+            return 12;
+        }
+        if shared[1] {
+            return 11;
+        }
+        if shared[0] { 10 } else { 0 }
+    }
+
+    // A heart-beat.
+    pub fn heart_beat(self, time: u32) -> Outcome
+        ensures { λ r. ⌜ (answer-says (r .answer) ≡ beat-answer self) × (r .session ≡ beat-session self time) ⌝ }
+    {
+        if !self.is_valid() {
+            return self.kept(38);
+        }
+        if self.phase == Session::CLOSED {
+            return self.refused(40);
+        }
+        self.accepted(false, time)
+    }
+
+    // Whether the peer is timed out.
+    pub fn timed_out(self, time: u32) -> TimedOut
+        ensures { λ r. ⌜ timed-out-says r ≡ timed-out-answer self time ⌝ }
+    {
+        if !self.is_valid() {
+            return TimedOut::Invalid;
+        }
+        if self.phase != Session::OPEN {
+            return TimedOut::No;
+        }
+        if self.inbound == 0 {
+            return TimedOut::No;
+        }
+        if self.inbound * 2 < crate::clock::passed_since(time, self.last_heard) {
+            return TimedOut::Yes;
+        }
+        TimedOut::No
+    }
+
+    // The session open, with what both sides came to.
+    fn opened(mut self, shared: [bool; 3], client: BeatsRead) -> Session
+        ensures { λ r. ⌜ r ≡ opened self shared (interval (client .sends) (self .wants)) (interval (self .sends) (client .wants)) ⌝ }
+    {
+        self.inbound = crate::value::interval(client.sends, self.wants);
+        self.outbound = crate::value::interval(self.sends, client.wants);
+        self.shared = shared;
+        self.phase = Session::OPEN;
+        self
+    }
+
+    // The opening frame, with every header that it needs.
+    fn open(self, block: &[u8], time: u32) -> Outcome
+        requires { ⌜ is-block (now block) ≡ true ⌝ }
+        ensures { λ r. ⌜ GivesOpening self (listed (entries (now (block .entry)))) time r ⌝ }
+    {
+        let client = crate::locate::client_versions(block);
+        if !client.valid {
+            return self.refused(31);
+        }
+        let flags = client.flags;
+        let offered = self.offered;
+        let shared = crate::value::share(flags, offered);
+        if crate::value::is_none_shared(shared) {
+            return self.refused(32);
+        }
+        let beats = crate::locate::client_beats(block);
+        if !beats.valid {
+            return self.refused(33);
+        }
+        self.opened(shared, beats).accepted(false, time)
+    }
+
+    // The session with an id in a place of the subscriptions.
+    fn with_subscription(mut self, index: usize, id: &[u8]) -> Session
+        requires { ⌜ (index < 16) × (length (now id) ≤ 32) ⌝ }
+        ensures { λ r. ⌜ r ≡ subscription-put self index (now (id .entry)) ⌝ }
+    {
+        let mut subs = self.subs;
+        crate::store::put(&mut subs, index, Session::ID, id);
+        self.subs = subs;
+        self.sub_lens[index] = (id.len() % 256) as u8;
+        self
+    }
+
+    // The same of the transactions.
+    fn with_transaction(mut self, index: usize, id: &[u8]) -> Session
+        requires { ⌜ (index < 4) × (length (now id) ≤ 32) ⌝ }
+        ensures { λ r. ⌜ r ≡ transaction-put self index (now (id .entry)) ⌝ }
+    {
+        let mut txs = self.txs;
+        crate::store::put(&mut txs, index, Session::ID, id);
+        self.txs = txs;
+        self.tx_lens[index] = (id.len() % 256) as u8;
+        self
+    }
+
+    // The same by the kind of id.
+    fn with_id(self, kind: Kind, index: usize, id: &[u8]) -> Session
+        requires { ⌜ (index < count-of kind) × (length (now id) ≤ 32) ⌝ }
+        ensures { λ r. ⌜ r ≡ put-of kind self index (now (id .entry)) ⌝ }
+    {
+        match kind {
+            Kind::Subscriptions => self.with_subscription(index, id),
+            Kind::Transactions => self.with_transaction(index, id),
+        }
+    }
+
+    // What becomes of a use of an id of a kind.
+    fn settle(self, kind: Kind, id: &[u8], usage: Use) -> Settled
+        requires { ⌜ is-valid self ≡ true ⌝ }
+        ensures { λ r. ⌜ Settles 32 usage (now (id .entry)) (ids-of kind self) r ⌝ }
+    {
+        match kind {
+            Kind::Subscriptions => {
+                let subs = self.subs;
+                let lens = self.sub_lens;
+                crate::store::settle(&subs, &lens, Session::SUBSCRIPTIONS, Session::ID, id, usage)
+            }
+            Kind::Transactions => {
+                let txs = self.txs;
+                let lens = self.tx_lens;
+                crate::store::settle(&txs, &lens, Session::TRANSACTIONS, Session::ID, id, usage)
+            }
+        }
+    }
+
+    // A frame that names an id.
+    fn use_id(self, naming: Naming, id: &[u8], receipt: bool, time: u32) -> Outcome
+        requires { ⌜ is-valid self ≡ true ⌝ }
+        ensures { λ r. ⌜ GivesUse (naming .kind) self (naming .usage) (now (id .entry)) receipt time r ⌝ }
+    {
+        let kind = naming.kind;
+        let usage = naming.usage;
+        match self.settle(kind, id, usage) {
+            Settled::Refused(n) => self.refused(n),
+            Settled::Kept => self.accepted(receipt, time),
+            Settled::Put(k) => {
+                let n = crate::store::stored_length(usage, id.len());
+                self.with_id(kind, k, &id[0..n]).accepted(receipt, time)
+            }
+        }
+    }
+
+    // A frame that may name an id.
+    fn look_up_id(self, command: u32, block: &[u8], receipt: bool, time: u32) -> Outcome
+        requires { ⌜ (is-valid self ≡ true) × (is-block (now block) ≡ true) ⌝ }
+        ensures { λ r. ⌜ GivesNaming self command (listed (entries (now (block .entry)))) receipt time r ⌝ }
+    {
+        let naming = crate::command::naming_of(command);
+        let usage = naming.usage;
+        if !crate::command::names_id(usage) {
+            return self.accepted(receipt, time);
+        }
+        let kind = naming.kind;
+        let l = crate::locate::locate(block, crate::command::header_of(kind));
+        if !l.present {
+            return self.accepted(receipt, time);
+        }
+        let start = l.start;
+        let end = l.end;
+        self.use_id(naming, &block[start..end], receipt, time)
+    }
+
+    // A frame of a known command in its phase, with a well-formed block, of a valid session.
+    fn act(self, command: u32, block: &[u8], time: u32) -> Outcome
+        requires { ⌜ (is-valid self ≡ true) × (is-block (now block) ≡ true) ⌝ }
+        ensures { λ r. ⌜ GivesEntries self command (listed (entries (now (block .entry)))) time r ⌝ }
+    {
+        if crate::locate::lacks_needed(command, block) {
+            return self.refused(43);
+        }
+        if crate::command::opens(command) {
+            return self.open(block, time);
+        }
+        let receipt = crate::locate::has(block, Header::Receipt);
+        if command == 7 {
+            return self.closed().accepted(receipt, time);
+        }
+        self.look_up_id(command, block, receipt, time)
+    }
+
+    // A frame: its command's number, its header block and when it came.
+    pub fn frame(self, command: u32, block: &[u8], time: u32) -> Outcome
+        ensures { λ r. ⌜
+            (answer-says (r .answer) ≡ frame-answer self command (now (block .entry)))
+            × (r .session ≡ frame-session self command (now (block .entry)) time)
+            ⌝ }
+    {
+        if !self.is_valid() {
+            return self.kept(38);
+        }
+        let unknown = (command == 0) | (15 < command);
+        if unknown | !headers::is_valid(block) {
+            return self.kept(39);
+        }
+        let number = crate::command::phase_refusal(self.phase, command);
+        if number != 0 {
+            return self.refused(number);
+        }
+        self.act(command, block, time)
+    }
+}

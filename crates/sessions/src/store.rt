@@ -1,0 +1,266 @@
+// Ids in a flat store: a place has width octets, the first of which, as many as its length says, are its id. A place of length 0 is
+// free. The functions are told the number of places and their width, and know nothing of a session.
+ghost use mathlib.Core.Path.{_≡_};
+ghost use Prim.Native.Nat.{_+_, _*_, _≤_, _<_};
+ghost use lib.Dec.{eqb};
+ghost use lib.ListN.{length, getD};
+ghost use Rattle.headers.specs.Rows.{same};
+ghost use Rattle.sessions.specs.Stores.{ids, padded, short, is-zero, clean, distinct, valid-store, first-from};
+ghost use Rattle.sessions.specs.Places.{Fits, search-says, is-at, when-needed, when-freed, when-entered, stored, put-in, Settles};
+
+// Where a search ended: the number of a place.
+pub(crate) enum Search {
+    At(usize),
+    Nowhere,
+}
+
+// What a call makes of an id: nothing; it needs it live; it enters it; it frees it.
+pub(crate) enum Use {
+    Nothing,
+    Need,
+    Enter,
+    Free,
+}
+
+// What becomes of that: refused with a number; nothing to store; or the place that gets the id, or is emptied.
+pub(crate) enum Settled {
+    Refused(u32),
+    Kept,
+    Put(usize),
+}
+
+// Whether each octet is 0.
+fn is_zero(s: &[u8]) -> bool
+    ensures { λ r. ⌜ r ≡ is-zero (now (s .entry)) ⌝ }
+{
+    let mut i = 0usize;
+    while i < s.len() {
+        if s[i] != 0 {
+            return false;
+        }
+        i += 1;
+    }
+    true
+}
+
+fn wide(x: u8) -> usize
+    ensures { λ r. ⌜ (r ≡ x) × (r < 256) ⌝ }
+{
+    x as usize
+}
+
+// Whether no length is above the width.
+fn is_short(lens: &[u8], width: usize) -> bool
+    ensures { λ r. ⌜ r ≡ short width (now (lens .entry)) ⌝ }
+{
+    let mut k = 0usize;
+    while k < lens.len() {
+        if width < wide(lens[k]) {
+            return false;
+        }
+        k += 1;
+    }
+    true
+}
+
+// Whether the octets of each place behind its id are 0.
+fn is_clean(store: &[u8], lens: &[u8], count: usize, width: usize) -> bool
+    requires { ⌜ Fits width count (now store) (now lens) ⌝ }
+    ensures { λ r. ⌜ r ≡ clean width (now (store .entry)) (now (lens .entry)) ⌝ }
+{
+    let mut k = 0usize;
+    let mut at = 0usize;
+    while k < count {
+        let from = at + wide(lens[k]);
+        let next = at + width;
+        if !is_zero(&store[from..next]) {
+            return false;
+        }
+        at = next;
+        k += 1;
+    }
+    true
+}
+
+// The first place that holds the id.
+fn find(store: &[u8], lens: &[u8], count: usize, width: usize, id: &[u8]) -> Search
+    requires { ⌜ Fits width count (now store) (now lens) ⌝ }
+    ensures { λ r. ⌜ search-says r ≡ first-from (λ x. same x (now (id .entry))) 0 (ids width (now (store .entry)) (now (lens .entry))) ⌝ }
+{
+    let mut k = 0usize;
+    let mut at = 0usize;
+    while k < count {
+        let end = at + wide(lens[k]);
+        if headers::equal(&store[at..end], id) {
+            return Search::At(k);
+        }
+        at = at + width;
+        k += 1;
+    }
+    Search::Nowhere
+}
+
+// The first free place.
+fn find_free(lens: &[u8]) -> Search
+    ensures { λ r. ⌜ search-says r ≡ first-from (λ l. eqb l 0) 0 (now (lens .entry)) ⌝ }
+{
+    let mut k = 0usize;
+    while k < lens.len() {
+        if lens[k] == 0 {
+            return Search::At(k);
+        }
+        k += 1;
+    }
+    Search::Nowhere
+}
+
+fn is_found(s: Search) -> bool
+    ensures { λ r. ⌜ r ≡ is-at s ⌝ }
+{
+    match s {
+        Search::At(k) => true,
+        Search::Nowhere => false,
+    }
+}
+
+// Whether no two places hold the same id, free ones not counted.
+fn is_distinct(store: &[u8], lens: &[u8], count: usize, width: usize) -> bool
+    requires { ⌜ Fits width count (now store) (now lens) ⌝ }
+    ensures { λ r. ⌜ r ≡ distinct (ids width (now (store .entry)) (now (lens .entry))) ⌝ }
+{
+    let mut k = 0usize;
+    let mut at = 0usize;
+    while k < count {
+        let len = wide(lens[k]);
+        let end = at + len;
+        let next = at + width;
+        k += 1;
+        if len != 0 {
+            if is_found(find(
+                &store[next..],
+                &lens[k..],
+                count - k,
+                width,
+                &store[at..end],
+            )) {
+                return false;
+            }
+        }
+        at = next;
+    }
+    true
+}
+
+// Whether the store is valid: no length above the width, no octet but 0 behind an id, no live id twice.
+pub(crate) fn is_valid(store: &[u8], lens: &[u8], count: usize, width: usize) -> bool
+    requires { ⌜ (length (now lens) ≡ count) × (length (now store) ≡ count * width) ⌝ }
+    ensures { λ r. ⌜ r ≡ valid-store width (now (store .entry)) (now (lens .entry)) ⌝ }
+{
+    if !is_short(lens, width) {
+        return false;
+    }
+    if !is_clean(store, lens, count, width) {
+        return false;
+    }
+    is_distinct(store, lens, count, width)
+}
+
+// What becomes of an id that must be live, by where it was found.
+fn needed(found: Search) -> Settled
+    ensures { λ r. ⌜ r ≡ when-needed found ⌝ }
+{
+    match found {
+        Search::At(k) => Settled::Kept,
+        Search::Nowhere => Settled::Refused(46),
+    }
+}
+
+// Of one that is freed.
+fn freed(found: Search) -> Settled
+    ensures { λ r. ⌜ r ≡ when-freed found ⌝ }
+{
+    match found {
+        Search::At(k) => Settled::Put(k),
+        Search::Nowhere => Settled::Refused(46),
+    }
+}
+
+// Of one that is entered, by the first free place too.
+fn entered(found: Search, free: Search) -> Settled
+    ensures { λ r. ⌜ r ≡ when-entered found free ⌝ }
+{
+    match found {
+        Search::At(k) => Settled::Refused(45),
+        Search::Nowhere => match free {
+            Search::At(k) => Settled::Put(k),
+            Search::Nowhere => Settled::Refused(47),
+        },
+    }
+}
+
+// What becomes of a use of an id: the checks in order, and the place that changes.
+pub(crate) fn settle(
+    store: &[u8],
+    lens: &[u8],
+    count: usize,
+    width: usize,
+    id: &[u8],
+    usage: Use,
+) -> Settled
+    requires { ⌜ Fits width count (now store) (now lens) ⌝ }
+    ensures { λ r. ⌜ Settles width usage (now (id .entry)) (ids width (now (store .entry)) (now (lens .entry))) r ⌝ }
+{
+    if id.len() == 0 {
+        return Settled::Refused(44);
+    }
+    if width < id.len() {
+        return Settled::Refused(44);
+    }
+    match usage {
+        Use::Nothing => Settled::Kept,
+        Use::Need => needed(find(store, lens, count, width, id)),
+        Use::Enter => entered(find(store, lens, count, width, id), find_free(lens)),
+        Use::Free => freed(find(store, lens, count, width, id)),
+    }
+}
+
+// How many octets of an id its place gets.
+pub(crate) fn stored_length(usage: Use, len: usize) -> usize
+    ensures { λ r. ⌜ r ≡ stored usage len ⌝ }
+{
+    match usage {
+        Use::Enter => len,
+        Use::Free => 0,
+        Use::Need => 0,
+        Use::Nothing => 0,
+    }
+}
+
+// An octet of an id, or 0 behind it.
+fn octet_at(id: &[u8], i: usize) -> u8
+    ensures { λ r. ⌜ r ≡ getD (now (id .entry)) i 0 ⌝ }
+{
+    if i < id.len() { id[i] } else { 0 }
+}
+
+// An id in a place, and 0 behind it.
+fn fill(place: &mut [u8], id: &[u8])
+    requires { ⌜ length (now id) ≤ length (now place) ⌝ }
+    ensures { λ _. ⌜ now (place .exit) ≡ padded (length (now (place .entry))) (now (id .entry)) ⌝ }
+{
+    let mut i = 0usize;
+    while i < place.len() {
+        place[i] = octet_at(id, i);
+        i += 1;
+    }
+}
+
+// The same in a place of a store.
+pub(crate) fn put(store: &mut [u8], index: usize, width: usize, id: &[u8])
+    requires { ⌜ (index * width + width ≤ length (now store)) × (length (now id) ≤ width) ⌝ }
+    ensures { λ _. ⌜ now (store .exit) ≡ put-in width (now (store .entry)) index (now (id .entry)) ⌝ }
+{
+    let at = index * width;
+    let end = at + width;
+    fill(&mut store[at..end], id);
+}
