@@ -5,3 +5,4 @@ mod clock; // time passed
 mod command; // which headers a command needs, what it does with an id, and in which phase it may come
 mod locate; // where a header's first value stands
 pub mod session; // the session as a value
+pub mod in_place; // the same calls on a session where it lies
