@@ -1,4 +1,5 @@
-// Streams, for programs: listed, a line for each item, or rewritten.
+// Streams, for programs: listed, a line for each item, rewritten, or replayed with a session.
 pub mod line; // one line of a listing
 pub mod stream; // a whole stream, listed
 pub mod rewrite; // a whole stream, decoded and encoded again
+pub mod replay; // a whole stream, given to a session

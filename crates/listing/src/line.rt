@@ -11,7 +11,7 @@ use frames::parse::Parsed;
 use headers::DecimalWritten;
 
 // A number and an octet behind it, at the front of d.
-fn put_number(d: &mut [u8], n: u64, behind: u8) -> usize
+pub(crate) fn put_number(d: &mut [u8], n: u64, behind: u8) -> usize
     requires { ⌜ 21 ≤ length (now d) ⌝ }
     ensures { λ r. ⌜ (r ≡ length (shortest n ++ (behind ∷ []))) × (r ≤ 21) × (now (d .exit) ≡ (shortest n ++ (behind ∷ [])) ++ drop r (now (d .entry))) ⌝ }
 {
@@ -46,7 +46,7 @@ fn put_numbers(d: &mut [u8], ns: &[u64]) -> usize
 }
 
 // A word at the front of d.
-fn put_word(d: &mut [u8], w: &[u8]) -> usize
+pub(crate) fn put_word(d: &mut [u8], w: &[u8]) -> usize
     requires { ⌜ length (now w) ≤ length (now d) ⌝ }
     ensures { λ r. ⌜ (r ≡ length (now (w .entry))) × (now (d .exit) ≡ now (w .entry) ++ drop r (now (d .entry))) ⌝ }
 {

@@ -174,7 +174,13 @@ pub(crate) fn reply_to(buf: &[u8], lo: usize, hi: usize) -> Parsed
 }
 
 // The line of a reply behind the lines laid out: its length.
-fn lay(out: &mut [u8], used: usize, start: u64, reply: Parsed, nothing_left: bool) -> usize
+pub(crate) fn lay(
+    out: &mut [u8],
+    used: usize,
+    start: u64,
+    reply: Parsed,
+    nothing_left: bool,
+) -> usize
     requires { ⌜ used ≤ length (now out) ⌝ }
     ensures { λ r. ⌜ (used + r ≤ length (now (out .entry))) × (length (now (out .exit)) ≡ length (now (out .entry))) ⌝ }
 {

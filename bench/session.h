@@ -1,0 +1,37 @@
+/* A session by hand, to compare the proved one with. It is altered where it lies. */
+#ifndef SESSION_H
+#define SESSION_H
+
+#include <stdbool.h>
+#include <stddef.h>
+#include <stdint.h>
+
+enum { SUBSCRIPTIONS = 16, TRANSACTIONS = 4, ID_OCTETS = 32 };
+enum phase { FRESH, OPEN, CLOSED };
+
+/* Places of ids: the first octets of a place, as many as its length, are its id; 0 is a free place. */
+struct session {
+    uint8_t phase;
+    uint32_t sends;
+    uint32_t wants;
+    bool offered[3];
+    bool shared[3];
+    uint32_t inbound;
+    uint32_t outbound;
+    uint32_t last_heard;
+    uint8_t subscriptions[SUBSCRIPTIONS * ID_OCTETS];
+    uint8_t subscription_lengths[SUBSCRIPTIONS];
+    uint8_t transactions[TRANSACTIONS * ID_OCTETS];
+    uint8_t transaction_lengths[TRANSACTIONS];
+};
+
+/* The answers, besides the numbers of the refusals: accepted, or yes or no. */
+enum { ACCEPTED = 0, ACCEPTED_RECEIPT = 1, NO = 0, YES = 1 };
+
+unsigned session_make(struct session *s, uint32_t sends, uint32_t wants, const bool offered[3]);
+unsigned session_frame(struct session *s, uint32_t command, const uint8_t *block, size_t length,
+                       uint32_t time);
+unsigned session_heart_beat(struct session *s, uint32_t time);
+unsigned session_timed_out(const struct session *s, uint32_t time);
+
+#endif

@@ -1,0 +1,251 @@
+// The replay of a client's stream: its items drive one session, and each gets a line with the session's answer.
+ghost use mathlib.Core.Path.{_≡_};
+ghost use Prim.Native.Nat.{_+_, _≤_};
+ghost use lib.ListN.{length};
+ghost use Rattle.listing.specs.Streams.{Room};
+use crate::line::put_number;
+use crate::line::put_word;
+use crate::stream::Progress;
+use frames::decode::Decoded;
+use frames::parse::Item;
+use frames::parse::Parsed;
+use sessions::session::MakingAnswer;
+use sessions::session::Outcome;
+use sessions::session::Session;
+use sessions::session::SessionAnswer;
+
+// How far a stream is replayed, and the session by then.
+struct Replaying {
+    progress: Progress,
+    session: Session,
+}
+
+// How a replay ended: the last line is written; no session was made (34); or reading or writing failed.
+pub enum Replayed {
+    Whole,
+    Unmade,
+    Failed,
+}
+
+// A frame that the session was not given.
+fn not_given(session: Session, number: u32) -> Outcome {
+    Outcome {
+        session,
+        answer: SessionAnswer::Refused(number),
+    }
+}
+
+// A frame given to the session, with the n octets of its header block.
+fn give_frame(session: Session, command: u32, block: &[u8], n: usize) -> Outcome {
+    if block.len() < n {
+        return not_given(session, 21);
+    }
+    session.frame(command, &block[0..n], 0)
+}
+
+// An item given to the session. A frame that was parsed can always be decoded, where the block is large enough.
+fn give(session: Session, item: Item, octets: &[u8], block: &mut [u8]) -> Outcome {
+    if item.kind == 1 {
+        return session.heart_beat(0);
+    }
+    match frames::decode::decode(octets, block) {
+        Decoded::Length(n) => give_frame(session, item.command, block, n),
+        Decoded::NotFrame => not_given(session, 20),
+        Decoded::TooShort => not_given(session, 21),
+        Decoded::TooLong => not_given(session, 23),
+    }
+}
+
+// Whether an item is a frame that opens a session.
+fn is_opening(item: Item) -> bool {
+    (item.kind == 2) & ((item.command == 5) | (item.command == 13))
+}
+
+// The start of an item, and what it is, at the front of d.
+fn put_start(d: &mut [u8], start: u64, item: Item) -> usize
+    requires { ⌜ 48 ≤ length (now d) ⌝ }
+    ensures { λ r. ⌜ (r ≤ 48) × (length (now (d .exit)) ≡ length (now (d .entry))) ⌝ }
+{
+    let mut k = put_number(d, start, 32);
+    if item.kind == 1 {
+        return k + put_word(&mut d[k..], b"beat ");
+    }
+    k += put_word(&mut d[k..], b"frame ");
+    k + put_number(&mut d[k..], item.command as u64, 32)
+}
+
+// A word and a number behind it.
+fn put_word_number(d: &mut [u8], word: &[u8], n: u64, behind: u8) -> usize
+    requires { ⌜ length (now word) + 21 ≤ length (now d) ⌝ }
+    ensures { λ r. ⌜ (r ≤ length (now (word .entry)) + 21) × (length (now (d .exit)) ≡ length (now (d .entry))) ⌝ }
+{
+    let k = put_word(d, word);
+    k + put_number(&mut d[k..], n, behind)
+}
+
+// The highest shared version.
+fn put_version(d: &mut [u8], version: u32) -> usize
+    requires { ⌜ 51 ≤ length (now d) ⌝ }
+    ensures { λ r. ⌜ (r ≤ 51) × (length (now (d .exit)) ≡ length (now (d .entry))) ⌝ }
+{
+    let k = put_word_number(d, b" version ", (version / 10) as u64, 46);
+    k + put_number(&mut d[k..], (version % 10) as u64, 32)
+}
+
+// What an opening came to.
+fn put_opened(d: &mut [u8], session: Session) -> usize
+    requires { ⌜ 107 ≤ length (now d) ⌝ }
+    ensures { λ r. ⌜ (r ≤ 107) × (length (now (d .exit)) ≡ length (now (d .entry))) ⌝ }
+{
+    let mut k = put_version(d, session.highest_shared());
+    k += put_word_number(&mut d[k..], b"client ", session.inbound as u64, 32);
+    k + put_word_number(&mut d[k..], b"server ", session.outbound as u64, 10)
+}
+
+// That a receipt is owed, or nothing.
+fn put_receipt(d: &mut [u8], receipt: bool) -> usize
+    requires { ⌜ 8 ≤ length (now d) ⌝ }
+    ensures { λ r. ⌜ (r ≤ 8) × (length (now (d .exit)) ≡ length (now (d .entry))) ⌝ }
+{
+    if receipt {
+        return put_word(d, b" receipt");
+    }
+    0
+}
+
+// That an item was accepted, to the line's end.
+fn put_accepted(d: &mut [u8], receipt: bool, opening: bool, session: Session) -> usize
+    requires { ⌜ 123 ≤ length (now d) ⌝ }
+    ensures { λ r. ⌜ (r ≤ 123) × (length (now (d .exit)) ≡ length (now (d .entry))) ⌝ }
+{
+    let mut k = put_word(d, b"accepted");
+    k += put_receipt(&mut d[k..], receipt);
+    if opening {
+        return k + put_opened(&mut d[k..], session);
+    }
+    k + put_word(&mut d[k..], b"\n")
+}
+
+// The session's answer, to the line's end.
+fn put_answer(d: &mut [u8], answer: SessionAnswer, opening: bool, session: Session) -> usize
+    requires { ⌜ 123 ≤ length (now d) ⌝ }
+    ensures { λ r. ⌜ (r ≤ 123) × (length (now (d .exit)) ≡ length (now (d .entry))) ⌝ }
+{
+    match answer {
+        SessionAnswer::Accepted(a) => put_accepted(d, a.receipt, opening, session),
+        SessionAnswer::Refused(n) => put_word_number(d, b"refused ", n as u64, 10),
+    }
+}
+
+// The line of an item.
+fn put_turn(d: &mut [u8], start: u64, item: Item, outcome: Outcome) -> usize
+    requires { ⌜ 171 ≤ length (now d) ⌝ }
+    ensures { λ r. ⌜ (r ≤ 171) × (length (now (d .exit)) ≡ length (now (d .entry))) ⌝ }
+{
+    let answer = outcome.answer;
+    let session = outcome.session;
+    let k = put_start(d, start, item);
+    k + put_answer(&mut d[k..], answer, is_opening(item), session)
+}
+
+// One item more.
+fn replay_item(buf: &[u8], block: &mut [u8], out: &mut [u8], at: Replaying, item: Item) -> Replaying
+    requires { ⌜
+        (at .progress .lo + item .len ≤ at .progress .hi) × (at .progress .hi ≤ length (now buf))
+        × (at .progress .used + 192 ≤ length (now out))
+        ⌝ }
+    ensures { λ r. ⌜
+        Room (length (now (buf .entry))) (length (now (out .entry))) (r .progress)
+        × (length (now (out .exit)) ≡ length (now (out .entry))) × (length (now (block .exit)) ≡ length (now (block .entry)))
+        ⌝ }
+{
+    let p = at.progress;
+    let session = at.session;
+    let lo = p.lo;
+    let end = lo + item.len;
+    let outcome = give(session, item, &buf[lo..end], block);
+    let after = outcome.session;
+    let used = p.used;
+    let k = put_turn(&mut out[used..], p.start, item, outcome);
+    Replaying {
+        progress: crate::stream::advance(p, item.len, k, false),
+        session: after,
+    }
+}
+
+// The reply is no item: more octets, or the last line.
+fn no_item(fd: i32, buf: &mut [u8], out: &mut [u8], p: Progress, reply: Parsed) -> Progress
+    requires { ⌜ Room (length (now buf)) (length (now out)) p ⌝ }
+    ensures { λ r. ⌜
+        Room (length (now (buf .entry))) (length (now (out .entry))) r
+        × (length (now (buf .exit)) ≡ length (now (buf .entry))) × (length (now (out .exit)) ≡ length (now (out .entry)))
+        ⌝ }
+{
+    if crate::stream::is_incomplete(reply) & !p.ended {
+        return crate::stream::refill(fd, buf, p);
+    }
+    let k = crate::stream::lay(out, p.used, p.start, reply, p.lo == p.hi);
+    crate::stream::advance(p, 0, k, true)
+}
+
+// One item, or one reading, or one writing.
+fn turn(fd: i32, buf: &mut [u8], block: &mut [u8], out: &mut [u8], at: Replaying) -> Replaying
+    requires { ⌜ Room (length (now buf)) (length (now out)) (at .progress) ⌝ }
+    ensures { λ r. ⌜
+        Room (length (now (buf .entry))) (length (now (out .entry))) (r .progress)
+        × (length (now (buf .exit)) ≡ length (now (buf .entry))) × (length (now (out .exit)) ≡ length (now (out .entry)))
+        × (length (now (block .exit)) ≡ length (now (block .entry)))
+        ⌝ }
+{
+    let p = at.progress;
+    let session = at.session;
+    let used = p.used;
+    if out.len() - used < 192 {
+        return Replaying {
+            progress: crate::stream::flush(out, p),
+            session,
+        };
+    }
+    let reply = crate::stream::reply_to(buf, p.lo, p.hi);
+    let Parsed::Complete(item) = reply else {
+        return Replaying {
+            progress: no_item(fd, buf, out, p, reply),
+            session,
+        };
+    };
+    replay_item(buf, block, out, at, item)
+}
+
+// Replays the octets of fd with a session, with three buffers: whether the last line is written.
+fn replay_in(fd: i32, buf: &mut [u8], block: &mut [u8], out: &mut [u8], session: Session) -> bool {
+    let mut at = Replaying {
+        progress: crate::stream::nothing_listed(),
+        session,
+    };
+    let mut turns = u64::MAX;
+    while turns > 0 && !(at.progress.failed | at.progress.done) {
+        at = turn(fd, buf, block, out, at);
+        turns -= 1;
+    }
+    let p = at.progress;
+    let q = crate::stream::flush(out, p);
+    q.done & !q.failed
+}
+
+// Replays the octets of fd with a session of these offers and version 1.2, at time 0: a line on standard output for each item, and
+// the last one as a listing has it.
+pub fn replay(fd: i32, sends: u32, wants: u32) -> Replayed {
+    let made = Session::new(sends, wants, [false, false, true]);
+    let answer = made.answer;
+    let MakingAnswer::Made = answer else {
+        return Replayed::Unmade;
+    };
+    let session = made.session;
+    let mut octets = io::large_buffer();
+    let mut block = io::large_buffer();
+    let mut lines = io::large_buffer();
+    if replay_in(fd, &mut octets, &mut block, &mut lines, session) {
+        return Replayed::Whole;
+    }
+    Replayed::Failed
+}
