@@ -201,3 +201,13 @@ pub alike : (f g : ℕ → Bool) (n k : ℕ) → listed f n ≡ listed g n → k
 alike f g zero k e h = absurd (omega arith)
 alike f g (suc n) zero e h = ap (λ l. getD l 0 true) e
 alike f g (suc n) (suc k) e h = alike (λ i. f (suc i)) (λ i. g (suc i)) n k (ap (drop 1) e) (omega arith)
+
+-- two rows, one element on; of other lengths; behind the end of both
+pub same-step : (a b : List ℕ) (i : ℕ) → i < length a → i < length b → same (drop i a) (drop i b) ≡ eqb (getD a i 0) (getD b i 0) && same (drop (i + 1) a) (drop (i + 1) b)
+same-step a b i ha hb = rw (add-one, drop-cons a i 0, drop-cons b i 0)
+
+pub same-other : (a b : List ℕ) → (length a ≡ length b → ⊥) → same a b ≡ false
+same-other a b d = refuted (same a b) (λ h. d (ap length (same-eq a b h)))
+
+pub same-end : (a b : List ℕ) (i : ℕ) → length a ≤ i → length b ≤ i → same (drop i a) (drop i b) ≡ true
+same-end a b i ha hb = rw (drop-of-length-le a ha, drop-of-length-le b hb)

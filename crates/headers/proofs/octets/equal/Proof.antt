@@ -1,27 +1,13 @@
 -- equal meets its contract: the rows are the same exactly if what is left of them from i on is.
 use borrow.Author.Needs.{needs}
 use borrow.Author.Tests.{eq-eqb, ne-eqb}
-use mathlib.Core.Path.{_≡_, sym, _∙_, ap}
-use mathlib.Core.Bool.{true, false, _&&_}
-use mathlib.Core.List.{List}
-use Prim.Native.Nat.{ℕ, _+_, _-_, _≤_, _<_}
-use native.Mathlib.Numerals.{add-one}
-use lib.Dec.{eqb}
-use lib.ListN.{length, drop, getD, drop-of-length-le}
-use lib.Seq.{drop-cons}
+use mathlib.Core.Path.{_≡_, sym, _∙_}
+use Prim.Native.Nat.{_-_, _≤_}
+use lib.ListN.{length, drop}
 use Rattle.headers.specs.Rows.{same}
-use Rattle.headers.proofs.Rows.{refuted, same-eq}
+use Rattle.headers.proofs.Rows.{same-step, same-other, same-end}
 use Rattle.headers.proofs.octets.equal.Statement.{statement}
 use Rattle.headers.proofs.octets.equal.Tie as tie
-
-same-from : (a b : List ℕ) (i : ℕ) → i < length a → i < length b → same (drop i a) (drop i b) ≡ eqb (getD a i 0) (getD b i 0) && same (drop (i + 1) a) (drop (i + 1) b)
-same-from a b i ha hb = rw (add-one, drop-cons a i 0, drop-cons b i 0)
-
-same-other : (a b : List ℕ) → (length a ≡ length b → ⊥) → same a b ≡ false
-same-other a b d = refuted (same a b) (λ h. d (ap length (same-eq a b h)))
-
-same-end : (a b : List ℕ) (i : ℕ) → length a ≤ i → length b ≤ i → same (drop i a) (drop i b) ≡ true
-same-end a b i ha hb = rw (drop-of-length-le a ha, drop-of-length-le b hb)
 
 abbrev Inv-loop : tie.InvT-loop
 Inv-loop a b i₀ i = (i ≤ length a) × (same a b ≡ same (drop i a) (drop i b))
@@ -45,7 +31,7 @@ returns-2 : tie.Need-returns-2 Inv-loop μ-loop
 returns-2 c =
     let l = c .before .before .before .before .loop in
     let a = c .before .before .before .before .before .before .args in
-    sym (l .inv .1 ∙ same-from (a .a .now) (a .b .now) (l .i) (search needs) (search needs) ∙ simp (ne-eqb _ _ (c .if2 .taken)))
+    sym (l .inv .1 ∙ same-step (a .a .now) (a .b .now) (l .i) (search needs) (search needs) ∙ simp (ne-eqb _ _ (c .if2 .taken)))
 
 add-i : tie.Need-add-i Inv-loop μ-loop
 add-i c = search needs
@@ -57,7 +43,7 @@ loop-again : tie.Need-loop-again Inv-loop μ-loop
 loop-again c =
     let l = c .before .before .before .before .loop in
     let a = c .before .before .before .before .before .before .args in
-    (search needs, l .inv .1 ∙ same-from (a .a .now) (a .b .now) (l .i) (search needs) (search needs) ∙ simp (eq-eqb _ _ (c .if2 .left)))
+    (search needs, l .inv .1 ∙ same-step (a .a .now) (a .b .now) (l .i) (search needs) (search needs) ∙ simp (eq-eqb _ _ (c .if2 .left)))
 
 returns-3 : tie.Need-returns-3 Inv-loop μ-loop
 returns-3 c =

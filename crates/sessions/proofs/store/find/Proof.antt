@@ -47,22 +47,22 @@ wide-requires c κs = search needs
 add-end : tie.Need-add-end Inv-loop μ-loop
 add-end c = omega (arith, id-fits (here c))
 
-sub-equal : tie.Need-sub-equal Inv-loop μ-loop
-sub-equal c = search needs
+sub-is-same : tie.Need-sub-is-same Inv-loop μ-loop
+sub-is-same c = search needs
 
-part-equal-start : tie.Need-part-equal-start Inv-loop μ-loop
-part-equal-start c = search needs
+part-is-same-start : tie.Need-part-is-same-start Inv-loop μ-loop
+part-is-same-start c = search needs
 
-part-equal-end : tie.Need-part-equal-end Inv-loop μ-loop
-part-equal-end c = id-fits (here c)
+part-is-same-end : tie.Need-part-is-same-end Inv-loop μ-loop
+part-is-same-end c = id-fits (here c)
 
-equal-requires : tie.Need-equal-requires Inv-loop μ-loop
-equal-requires c κs = search needs
+is-same-requires : tie.Need-is-same-requires Inv-loop μ-loop
+is-same-requires c κs = search needs
 
 returns : tie.Need-returns Inv-loop μ-loop
 returns c =
     let t = c .before .before .before in
-    sym (t .before .before .before .loop .inv .1 ∙ ap (first-from _ _) (ids-at (here t)) ∙ first-hit _ _ _ _ (sym (c .before .equal .ensures) ∙ c .if1 .taken))
+    sym (t .before .before .before .loop .inv .1 ∙ ap (first-from _ _) (ids-at (here t)) ∙ first-hit _ _ _ _ (sym (c .before .is-same .ensures) ∙ c .if1 .taken))
 
 add-at : tie.Need-add-at Inv-loop μ-loop
 add-at c = omega (arith, room (here (c .before .before .before)))
@@ -77,7 +77,7 @@ loop-again : tie.Need-loop-again Inv-loop μ-loop
 loop-again c =
     let t = c .before .before .before in (
       next-place (here t),
-      t .before .before .before .loop .inv .1 ∙ ap (first-from _ _) (ids-at (here t)) ∙ first-miss _ _ _ _ (sym (c .before .equal .ensures) ∙ c .if1 .left),
+      t .before .before .before .loop .inv .1 ∙ ap (first-from _ _) (ids-at (here t)) ∙ first-miss _ _ _ _ (sym (c .before .is-same .ensures) ∙ c .if1 .left),
     )
 
 returns-2 : tie.Need-returns-2 Inv-loop μ-loop
@@ -95,10 +95,10 @@ find-spec =
     shared-slice-read-wide
     wide-requires
     add-end
-    sub-equal
-    part-equal-start
-    part-equal-end
-    equal-requires
+    sub-is-same
+    part-is-same-start
+    part-is-same-end
+    is-same-requires
     returns
     add-at
     add-k

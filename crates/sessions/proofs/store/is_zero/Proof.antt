@@ -1,31 +1,27 @@
--- `store::is_zero` meets its contract: what is left of the test from place i on.
+-- `store::is_zero` meets its contract: what was found so far, and what is left of the test from place i on.
 use borrow.Author.Needs.{needs}
-use mathlib.Core.Path.{_≡_, sym, _∙_}
+use mathlib.Core.Path.{_≡_, sym, ap, _∙_}
+use mathlib.Core.Bool.{_&&_}
 use Prim.Native.Nat.{_≤_, _-_}
 use native.Mathlib.Omega.{arith}
 use lib.ListN.{length, drop}
-use borrow.Author.Tests.{eq-eqb, ne-eqb}
-use Rattle.headers.proofs.Rows.{every-step, every-end}
+use Rattle.headers.proofs.Rows.{and-yes, every-step, every-end}
 use Rattle.sessions.specs.Stores.{is-zero}
+use Rattle.sessions.proofs.Rows.{and-assoc}
 use Rattle.sessions.proofs.store.is_zero.Statement.{statement}
 use Rattle.sessions.proofs.store.is_zero.Tie as tie
 
 abbrev Inv-loop : tie.InvT-loop
-Inv-loop s i₀ i = (i ≤ length s) × (is-zero s ≡ is-zero (drop i s))
+Inv-loop s zero₀ i₀ zero i = (i ≤ length s) × (is-zero s ≡ zero && is-zero (drop i s))
 
 abbrev μ-loop : tie.MeasureT-loop
-μ-loop s i₀ i = length s - i
+μ-loop s zero₀ i₀ zero i = length s - i
 
 loop-holds : tie.Need-loop-holds Inv-loop μ-loop
 loop-holds c = search needs
 
-shared-slice-read-if1 : tie.Need-shared-slice-read-if1 Inv-loop μ-loop
-shared-slice-read-if1 c = search needs
-
-returns : tie.Need-returns Inv-loop μ-loop
-returns c =
-    let l = c .before .before .before .loop in
-    sym (l .inv .1 ∙ every-step _ _ _ (c .before .before .loop-test .taken) ∙ simp (ne-eqb _ _ (c .if1 .taken)))
+shared-slice-read-zero : tie.Need-shared-slice-read-zero Inv-loop μ-loop
+shared-slice-read-zero c = search needs
 
 add-i : tie.Need-add-i Inv-loop μ-loop
 add-i c = search needs
@@ -35,22 +31,13 @@ loop-less c = search needs
 
 loop-again : tie.Need-loop-again Inv-loop μ-loop
 loop-again c =
-    let l = c .before .before .before .loop in
-    (omega arith, l .inv .1 ∙ every-step _ _ _ (c .before .before .loop-test .taken) ∙ simp (eq-eqb _ _ (c .if1 .left)))
+    let l = c .before .before .loop in
+    (omega arith, l .inv .1 ∙ ap (l .zero &&_) (every-step _ _ _ (c .before .loop-test .taken)) ∙ and-assoc (l .zero) _ _)
 
-returns-2 : tie.Need-returns-2 Inv-loop μ-loop
-returns-2 c = sym (c .before .loop .inv .1 ∙ every-end _ _ _ (c .loop-test .left))
+returns : tie.Need-returns Inv-loop μ-loop
+returns c =
+    let l = c .before .loop in
+    sym (l .inv .1 ∙ ap (l .zero &&_) (every-end _ _ _ (c .loop-test .left)) ∙ and-yes (l .zero))
 
 pub is-zero-spec : {M : Type 1} → statement M
-is-zero-spec =
-    tie.close
-    (tie.spec
-    Inv-loop
-    μ-loop
-    loop-holds
-    shared-slice-read-if1
-    returns
-    add-i
-    loop-less
-    loop-again
-    returns-2)
+is-zero-spec = tie.close (tie.spec Inv-loop μ-loop loop-holds shared-slice-read-zero add-i loop-less loop-again returns)
