@@ -4,15 +4,12 @@ use mathlib.Core.Bool.{Bool, true, false, cond}
 use mathlib.Core.Option.{Option, none, some}
 use mathlib.Core.List.{List}
 use Prim.Native.Nat.{ℕ}
-use native.Mathlib.Omega.{arith}
 use Rattle.headers.specs.Block.{entries}
 use Rattle.frames.specs.Writing.{listed}
 use Rattle.sessions.specs.Headers.{value-of, names, naming, names-id}
 use Rattle.sessions.specs.Reads.{value-at, Locates}
-use Rattle.sessions.specs.Calls.{named-by, usage-of, named-id}
+use Rattle.sessions.specs.Calls.{named-id}
 use Rattle.sessions.specs.Steps.{accepted-by, GivesUse, GivesNaming}
-use Rattle.sessions.specs.declared.store.Use.{Use}
-use Rattle.sessions.specs.declared.store.Use.the-variants.{Nothing, Need, Enter, Free}
 use Rattle.sessions.specs.declared.command.Header.{Header}
 use Rattle.sessions.specs.declared.command.Naming.{Naming}
 use Rattle.sessions.specs.declared.locate.Located.{Located}
@@ -20,28 +17,16 @@ use Rattle.sessions.specs.declared.session.Session.{Session}
 use Rattle.sessions.specs.declared.session.Outcome.{Outcome}
 use Rattle.sessions.proofs.Steps.{naming-none, naming-some}
 
-named-yes : (u : Use) (o : Option (List ℕ)) → names-id u ≡ true → named-by u o ≡ o
-named-yes Nothing o h = absurd (let z : _≡_ {A = ℕ} 0 1 = cc in omega arith)
-named-yes Need o h = refl
-named-yes Enter o h = refl
-named-yes Free o h = refl
-
-named-no : (u : Use) (o : Option (List ℕ)) → names-id u ≡ false → named-by u o ≡ none
-named-no Nothing o h = refl
-named-no Need o h = absurd (let z : _≡_ {A = ℕ} 0 1 = cc in omega arith)
-named-no Enter o h = absurd (let z : _≡_ {A = ℕ} 0 1 = cc in omega arith)
-named-no Free o h = absurd (let z : _≡_ {A = ℕ} 0 1 = cc in omega arith)
-
 module _ (s : Session) (n : ℕ) (block : List ℕ) (receipt : Bool) (time : ℕ) (r : Outcome) (g : Naming) (is : g ≡ naming n) where
   -- the frame names no id
   pub naming-unused : names-id (g .usage) ≡ false → r ≡ accepted-by s receipt time → GivesNaming s n (listed (entries block)) receipt time r
   naming-unused h q =
-      naming-none s n (listed (entries block)) time r receipt (named-no (usage-of n) (value-of (names (naming n .kind)) (listed (entries block))) (ap (λ z. names-id (z .usage)) (sym is) ∙ h)) q
+      naming-none s n (listed (entries block)) time r receipt (ap (λ t. cond t (value-of (names (naming n .kind)) (listed (entries block))) none) (ap (λ z. names-id (z .usage)) (sym is) ∙ h)) q
 
   module _ (h : names-id (g .usage) ≡ true) (l : Located) (header : Header) (named : header ≡ names (g .kind)) (at : Locates block header l) where
     value-is : named-id n (listed (entries block)) ≡ cond (l .present) (some (value-at block l)) none
     value-is =
-        named-yes (usage-of n) (value-of (names (naming n .kind)) (listed (entries block))) (ap (λ z. names-id (z .usage)) (sym is) ∙ h)
+        ap (λ t. cond t (value-of (names (naming n .kind)) (listed (entries block))) none) (ap (λ z. names-id (z .usage)) (sym is) ∙ h)
         ∙ ap (λ z. value-of (names (z .kind)) (listed (entries block))) (sym is)
         ∙ ap (λ z. value-of z (listed (entries block))) (sym named)
         ∙ sym (at .first)

@@ -14,11 +14,10 @@ use Rattle.frames.specs.Writing.{listed}
 use Rattle.sessions.specs.Stores.{live, used, enters, wants-live, bad-length, use-checks}
 use Rattle.sessions.specs.Values.{Beats, versions, beats, beat-max}
 use Rattle.sessions.specs.Opening.{shared-flags, none-shared, only-1-2, interval, overdue}
-use Rattle.sessions.specs.Headers.{value-of, has, is-some, lacks, is, unknown, from-server, opens, needed, names, naming}
+use Rattle.sessions.specs.Headers.{value-of, has, is-some, lacks, is, unknown, from-server, opens, needed, names, names-id, naming}
 use Rattle.sessions.specs.Sessions.{id-max, fresh-phase, open-phase, closed-phase, in-phase, fresh, ids-of, with-ids, closed, opened, heard, is-valid}
 use Rattle.sessions.specs.Answers.{bit}
 use Rattle.sessions.specs.declared.store.Use.{Use}
-use Rattle.sessions.specs.declared.store.Use.the-variants.{Nothing, Need, Enter, Free}
 use Rattle.sessions.specs.declared.command.Header.the-variants.{AcceptVersion, HeartBeat, Receipt}
 use Rattle.sessions.specs.declared.session.Session.{Session}
 
@@ -77,17 +76,11 @@ opening s es = opened-by s (shared-by s (client-versions es)) (client-beats es)
 
 -- ---- the id that a frame names, if it names one
 
-abbrev pub named-by : Use → Option (List ℕ) → Option (List ℕ)
-named-by Nothing o = none
-named-by Need o = o
-named-by Enter o = o
-named-by Free o = o
-
 abbrev pub usage-of : ℕ → Use
 usage-of n = naming n .usage
 
 abbrev pub named-id : ℕ → List Entry → Option (List ℕ)
-named-id n es = named-by (usage-of n) (value-of (names (naming n .kind)) es)
+named-id n es = cond (names-id (usage-of n)) (value-of (names (naming n .kind)) es) none
 
 -- the ids of the kind that it names
 abbrev pub named-ids : Session → ℕ → List (List ℕ)

@@ -1,9 +1,47 @@
 // Which headers a command needs, what it does with an id, and in which phase it may come.
 ghost use mathlib.Core.Path.{_≡_};
-ghost use Rattle.sessions.specs.Headers.{from-server, opens as opens-by, one as one-header, needed as needed-names, names, naming-of, naming as naming-by, names-id};
+ghost use Rattle.sessions.specs.Headers.{unknown, from-server, opens as opens-by, one as one-header, needed as needed-names, names, naming-of, naming as naming-by, names-id};
 ghost use Rattle.sessions.specs.Steps.{phase-number};
 use crate::session::Session;
 use crate::store::Use;
+
+// The commands that a session tells apart, by their numbers.
+const ABORT: u32 = 1;
+
+const ACK: u32 = 2;
+
+const BEGIN: u32 = 3;
+
+const COMMIT: u32 = 4;
+
+const CONNECT: u32 = 5;
+
+const CONNECTED: u32 = 6;
+
+pub(crate) const DISCONNECT: u32 = 7;
+
+const ERROR: u32 = 8;
+
+const MESSAGE: u32 = 9;
+
+const NACK: u32 = 10;
+
+const RECEIPT: u32 = 11;
+
+const SEND: u32 = 12;
+
+const STOMP: u32 = 13;
+
+const SUBSCRIBE: u32 = 14;
+
+const UNSUBSCRIBE: u32 = 15;
+
+// Whether the number is no command's.
+pub(crate) fn is_unknown(command: u32) -> bool
+    ensures { λ r. ⌜ r ≡ unknown command ⌝ }
+{
+    (command == 0) | (UNSUBSCRIBE < command)
+}
 
 // The headers that a session looks at, and none of them.
 pub(crate) enum Header {
@@ -39,38 +77,38 @@ pub(crate) struct Naming {
 pub(crate) fn is_from_server(command: u32) -> bool
     ensures { λ r. ⌜ r ≡ from-server command ⌝ }
 {
-    (command == 6) | ((command == 8) | ((command == 9) | (command == 11)))
+    (command == CONNECTED) | ((command == ERROR) | ((command == MESSAGE) | (command == RECEIPT)))
 }
 
 // Whether the command opens a session.
 pub(crate) fn opens(command: u32) -> bool
     ensures { λ r. ⌜ r ≡ opens-by command ⌝ }
 {
-    (command == 5) | (command == 13)
+    (command == CONNECT) | (command == STOMP)
 }
 
 pub(crate) fn needed_by(command: u32) -> Needed
     ensures { λ r. ⌜ r ≡ needed-names command ⌝ }
 {
-    if (command == 5) | (command == 13) {
+    if (command == CONNECT) | (command == STOMP) {
         return Needed {
             first: Header::AcceptVersion,
             second: Header::Host,
         };
     }
-    if command == 12 {
+    if command == SEND {
         return one(Header::Destination);
     }
-    if command == 14 {
+    if command == SUBSCRIBE {
         return Needed {
             first: Header::Destination,
             second: Header::Id,
         };
     }
-    if (command == 15) | ((command == 2) | (command == 10)) {
+    if (command == UNSUBSCRIBE) | ((command == ACK) | (command == NACK)) {
         return one(Header::Id);
     }
-    if (command == 3) | ((command == 4) | (command == 1)) {
+    if (command == BEGIN) | ((command == COMMIT) | (command == ABORT)) {
         return one(Header::Transaction);
     }
     one(Header::Absent)
@@ -88,25 +126,25 @@ fn one(h: Header) -> Needed
 pub(crate) fn naming_of(command: u32) -> Naming
     ensures { λ r. ⌜ r ≡ naming-by command ⌝ }
 {
-    if command == 14 {
+    if command == SUBSCRIBE {
         return Naming {
             kind: Kind::Subscriptions,
             usage: Use::Enter,
         };
     }
-    if command == 15 {
+    if command == UNSUBSCRIBE {
         return Naming {
             kind: Kind::Subscriptions,
             usage: Use::Free,
         };
     }
-    if command == 3 {
+    if command == BEGIN {
         return transaction(Use::Enter);
     }
-    if (command == 4) | (command == 1) {
+    if (command == COMMIT) | (command == ABORT) {
         return transaction(Use::Free);
     }
-    if (command == 12) | ((command == 2) | (command == 10)) {
+    if (command == SEND) | ((command == ACK) | (command == NACK)) {
         return transaction(Use::Need);
     }
     transaction(Use::Nothing)

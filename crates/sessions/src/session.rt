@@ -7,11 +7,12 @@ ghost use Rattle.headers.specs.Block.{entries};
 ghost use Rattle.headers.specs.Answers.{is-block};
 ghost use Rattle.frames.specs.Writing.{listed};
 ghost use Rattle.sessions.specs.Opening.{highest, interval};
-ghost use Rattle.sessions.specs.Sessions.{fresh, ids-of, closed, opened, valid-numbers, valid-ids, is-valid};
+ghost use Rattle.sessions.specs.Sessions.{subscriptions-max, transactions-max, id-max, fresh, ids-of, closed, opened, valid-numbers, valid-ids, is-valid};
 ghost use Rattle.sessions.specs.Answers.{answer-says, making-says, timed-out-says};
 ghost use Rattle.sessions.specs.Calls.{making-answer, made, frame-answer, frame-session, beat-answer, beat-session, timed-out-answer};
 ghost use Rattle.sessions.specs.Places.{Settles};
 ghost use Rattle.sessions.specs.Steps.{kept-by, closed-by, accepted-by, subscription-put, transaction-put, count-of, put-of, GivesUse, GivesOpening, GivesNaming, GivesEntries};
+use crate::command::DISCONNECT;
 use crate::command::Header;
 use crate::command::Kind;
 use crate::command::Naming;
@@ -278,7 +279,7 @@ impl Session {
 
     // The session with an id in a place of the subscriptions.
     fn with_subscription(mut self, index: usize, id: &[u8]) -> Session
-        requires { ⌜ (index < 16) × (length (now id) ≤ 32) ⌝ }
+        requires { ⌜ (index < subscriptions-max) × (length (now id) ≤ id-max) ⌝ }
         ensures { λ r. ⌜ r ≡ subscription-put self index (now (id .entry)) ⌝ }
     {
         let mut subs = self.subs;
@@ -290,7 +291,7 @@ impl Session {
 
     // The same of the transactions.
     fn with_transaction(mut self, index: usize, id: &[u8]) -> Session
-        requires { ⌜ (index < 4) × (length (now id) ≤ 32) ⌝ }
+        requires { ⌜ (index < transactions-max) × (length (now id) ≤ id-max) ⌝ }
         ensures { λ r. ⌜ r ≡ transaction-put self index (now (id .entry)) ⌝ }
     {
         let mut txs = self.txs;
@@ -302,7 +303,7 @@ impl Session {
 
     // The same by the kind of id.
     fn with_id(self, kind: Kind, index: usize, id: &[u8]) -> Session
-        requires { ⌜ (index < count-of kind) × (length (now id) ≤ 32) ⌝ }
+        requires { ⌜ (index < count-of kind) × (length (now id) ≤ id-max) ⌝ }
         ensures { λ r. ⌜ r ≡ put-of kind self index (now (id .entry)) ⌝ }
     {
         match kind {
@@ -314,7 +315,7 @@ impl Session {
     // What becomes of a use of an id of a kind.
     fn settle(self, kind: Kind, id: &[u8], usage: Use) -> Settled
         requires { ⌜ is-valid self ≡ true ⌝ }
-        ensures { λ r. ⌜ Settles 32 usage (now (id .entry)) (ids-of kind self) r ⌝ }
+        ensures { λ r. ⌜ Settles id-max usage (now (id .entry)) (ids-of kind self) r ⌝ }
     {
         match kind {
             Kind::Subscriptions => {
@@ -379,7 +380,7 @@ impl Session {
             return self.open(block, time);
         }
         let receipt = crate::locate::has(block, Header::Receipt);
-        if command == 7 {
+        if command == DISCONNECT {
             return self.closed().accepted(receipt, time);
         }
         self.look_up_id(command, block, receipt, time)
@@ -395,8 +396,7 @@ impl Session {
         if !self.is_valid() {
             return self.kept(38);
         }
-        let unknown = (command == 0) | (15 < command);
-        if unknown | !headers::is_valid(block) {
+        if crate::command::is_unknown(command) | !headers::is_valid(block) {
             return self.kept(39);
         }
         let number = crate::command::phase_refusal(self.phase, command);

@@ -1,10 +1,9 @@
 -- `session::Session::frame` meets its contract: the checks of the record, the command, the block and the phase, and then those of the entries.
-use mathlib.Core.Path.{_≡_, refl, sym, ap, _∙_}
+use mathlib.Core.Path.{_≡_, refl, sym, ap, ap₂, _∙_}
 use mathlib.Core.Bool.{_||_, not}
 use borrow.Author.Tests.{not-false}
 use denote.Ref.{now}
 use Rattle.headers.proofs.Rows.{or-false-right}
-use Rattle.sessions.specs.Headers.{unknown}
 use Rattle.sessions.proofs.Steps.{gives-on, gives-kept, phase-refuses, phase-passes, frame-gives}
 use borrow.Author.Needs.{needs}
 use Rattle.sessions.proofs.session.Session.frame.Statement.{statement}
@@ -19,6 +18,9 @@ kept-requires c κs = search needs
 returns : tie.Need-returns
 returns c = frame-gives (c .before .before .before .before .args .self) (c .before .before .before .before .args .command) (now (c .before .before .before .before .args .block)) (c .before .before .before .before .args .time) _ (gives-kept _ 38 _ (ap not (sym (c .before .before .is-valid .ensures)) ∙ c .before .if1 .taken) refl (c .kept .ensures))
 
+is-unknown-requires : tie.Need-is-unknown-requires
+is-unknown-requires c κs = search needs
+
 is-valid-requires-2 : tie.Need-is-valid-requires-2
 is-valid-requires-2 c κs = search needs
 
@@ -26,7 +28,7 @@ kept-requires-2 : tie.Need-kept-requires-2
 kept-requires-2 c κs = search needs
 
 returns-2 : tie.Need-returns-2
-returns-2 c = frame-gives (c .before .before .before .before .before .before .args .self) (c .before .before .before .before .before .before .args .command) (now (c .before .before .before .before .before .before .args .block)) (c .before .before .before .before .before .before .args .time) _ (gives-on _ _ (ap not (sym (c .before .before .before .before .is-valid .ensures)) ∙ c .before .before .before .if1 .left) (gives-kept _ 39 _ (ap (λ t. unknown (c .before .before .before .before .before .before .args .command) || not t) (sym (c .before .before .is-valid2 .ensures)) ∙ c .before .if2 .taken) refl (c .kept2 .ensures)))
+returns-2 c = frame-gives (c .before .before .before .before .before .before .before .args .self) (c .before .before .before .before .before .before .before .args .command) (now (c .before .before .before .before .before .before .before .args .block)) (c .before .before .before .before .before .before .before .args .time) _ (gives-on _ _ (ap not (sym (c .before .before .before .before .before .is-valid .ensures)) ∙ c .before .before .before .before .if1 .left) (gives-kept _ 39 _ (ap₂ (λ a b. a || not b) (sym (c .before .before .before .is-unknown .ensures)) (sym (c .before .before .is-valid2 .ensures)) ∙ c .before .if2 .taken) refl (c .kept2 .ensures)))
 
 phase-refusal-requires : tie.Need-phase-refusal-requires
 phase-refusal-requires c κs = search needs
@@ -35,13 +37,13 @@ refused-requires : tie.Need-refused-requires
 refused-requires c κs = search needs
 
 returns-3 : tie.Need-returns-3
-returns-3 c = frame-gives (c .before .before .before .before .before .before .before .before .args .self) (c .before .before .before .before .before .before .before .before .args .command) (now (c .before .before .before .before .before .before .before .before .args .block)) (c .before .before .before .before .before .before .before .before .args .time) _ (gives-on _ _ (ap not (sym (c .before .before .before .before .before .before .is-valid .ensures)) ∙ c .before .before .before .before .before .if1 .left) (gives-on _ _ (ap (λ t. unknown (c .before .before .before .before .before .before .before .before .args .command) || not t) (sym (c .before .before .before .before .is-valid2 .ensures)) ∙ c .before .before .before .if2 .left) (phase-refuses _ _ _ _ _ (c .before .before .phase-refusal .ensures) (c .before .if3 .taken) (c .refused .ensures))))
+returns-3 c = frame-gives (c .before .before .before .before .before .before .before .before .before .args .self) (c .before .before .before .before .before .before .before .before .before .args .command) (now (c .before .before .before .before .before .before .before .before .before .args .block)) (c .before .before .before .before .before .before .before .before .before .args .time) _ (gives-on _ _ (ap not (sym (c .before .before .before .before .before .before .before .is-valid .ensures)) ∙ c .before .before .before .before .before .before .if1 .left) (gives-on _ _ (ap₂ (λ a b. a || not b) (sym (c .before .before .before .before .before .is-unknown .ensures)) (sym (c .before .before .before .before .is-valid2 .ensures)) ∙ c .before .before .before .if2 .left) (phase-refuses _ _ _ _ _ (c .before .before .phase-refusal .ensures) (c .before .if3 .taken) (c .refused .ensures))))
 
 act-requires : tie.Need-act-requires
-act-requires c κs = (sym (c .before .before .before .before .before .is-valid .ensures) ∙ not-false _ (c .before .before .before .before .if1 .left), sym (c .before .before .before .is-valid2 .ensures) ∙ not-false _ (or-false-right (unknown (c .before .before .before .before .before .before .before .args .command)) _ (c .before .before .if2 .left)))
+act-requires c κs = (sym (c .before .before .before .before .before .before .is-valid .ensures) ∙ not-false _ (c .before .before .before .before .before .if1 .left), sym (c .before .before .before .is-valid2 .ensures) ∙ not-false _ (or-false-right (c .before .before .before .before .is-unknown .result) _ (c .before .before .if2 .left)))
 
 returns-4 : tie.Need-returns-4
-returns-4 c = frame-gives (c .before .before .before .before .before .before .before .before .args .self) (c .before .before .before .before .before .before .before .before .args .command) (now (c .before .before .before .before .before .before .before .before .args .block)) (c .before .before .before .before .before .before .before .before .args .time) _ (gives-on _ _ (ap not (sym (c .before .before .before .before .before .before .is-valid .ensures)) ∙ c .before .before .before .before .before .if1 .left) (gives-on _ _ (ap (λ t. unknown (c .before .before .before .before .before .before .before .before .args .command) || not t) (sym (c .before .before .before .before .is-valid2 .ensures)) ∙ c .before .before .before .if2 .left) (phase-passes _ _ _ _ _ (c .before .before .phase-refusal .ensures) (c .before .if3 .left) (c .act .ensures))))
+returns-4 c = frame-gives (c .before .before .before .before .before .before .before .before .before .args .self) (c .before .before .before .before .before .before .before .before .before .args .command) (now (c .before .before .before .before .before .before .before .before .before .args .block)) (c .before .before .before .before .before .before .before .before .before .args .time) _ (gives-on _ _ (ap not (sym (c .before .before .before .before .before .before .before .is-valid .ensures)) ∙ c .before .before .before .before .before .before .if1 .left) (gives-on _ _ (ap₂ (λ a b. a || not b) (sym (c .before .before .before .before .before .is-unknown .ensures)) (sym (c .before .before .before .before .is-valid2 .ensures)) ∙ c .before .before .before .if2 .left) (phase-passes _ _ _ _ _ (c .before .before .phase-refusal .ensures) (c .before .if3 .left) (c .act .ensures))))
 
 pub frame-spec : {M : Type 1} → statement M
 frame-spec =
@@ -50,6 +52,7 @@ frame-spec =
     is-valid-requires
     kept-requires
     returns
+    is-unknown-requires
     is-valid-requires-2
     kept-requires-2
     returns-2
