@@ -1,6 +1,6 @@
-/* Parsing, decoding and encoding of STOMP 1.2 items by hand, to compare the proved calls with.
+/* Parsing, decoding, encoding and looking up of STOMP 1.2 items by hand, to compare the proved calls with.
  *
- * The answers are packed as those of stomp_parse, stomp_decode and stomp_encode, and a refusal
+ * The answers are packed as those of stomp_parse, stomp_decode, stomp_encode and stomp_find, and a refusal
  * writes nothing. */
 #ifndef BASELINE_H
 #define BASELINE_H
@@ -20,5 +20,8 @@ uint64_t baseline_decode(const uint8_t *frame, size_t length, uint8_t *block, si
 /* Goes over the block once for its records, once to measure and once to write. */
 uint64_t baseline_encode(uint32_t command, const uint8_t *block, size_t block_length, const uint8_t *body,
                          size_t body_length, uint8_t *target, size_t target_length);
+
+/* Goes over the block once. */
+uint64_t baseline_find(const uint8_t *block, size_t block_length, const uint8_t *name, size_t name_length);
 
 #endif

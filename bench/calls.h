@@ -10,12 +10,15 @@ typedef uint64_t decoder(const uint8_t *frame, size_t length, uint8_t *block, si
 typedef uint64_t encoder(uint32_t command, const uint8_t *block, size_t block_length, const uint8_t *body,
                          size_t body_length, uint8_t *target, size_t target_length);
 
+typedef uint64_t finder(const uint8_t *block, size_t block_length, const uint8_t *name, size_t name_length);
+
 /* Ours: whatever is linked under the names of include/stomp.h. Only parse has the third. */
 enum { OURS, BASELINE, PAIR, BASELINE_MEMCHR = PAIR, PARSERS };
 
 extern parser *const parsers[PARSERS];
 extern decoder *const decoders[PAIR];
 extern encoder *const encoders[PAIR];
+extern finder *const finders[PAIR];
 extern const char *const names[PARSERS];
 
 #endif

@@ -29,7 +29,12 @@ static const double least_buffer_ratio = 0.7;
 parser *const parsers[PARSERS] = {stomp_parse, baseline_parse, baseline_parse_memchr};
 decoder *const decoders[PAIR] = {stomp_decode, baseline_decode};
 encoder *const encoders[PAIR] = {stomp_encode, baseline_encode};
+finder *const finders[PAIR] = {stomp_find, baseline_find};
 const char *const names[PARSERS] = {"ours", "baseline", "memchr"};
+
+/* The names that are looked up: some that frames have, and one that none has. */
+static const char *const looked_up[] = {"destination", "message-id", "content-length", "receipt"};
+enum { LOOKED_UP = sizeof looked_up / sizeof *looked_up };
 
 /* A frame of a stream, and what it holds. */
 struct frame {
@@ -152,6 +157,34 @@ static uint64_t encode_pass(const struct work *w, size_t who)
     return sum;
 }
 
+static uint64_t find_name(size_t who, const uint8_t *block, size_t length, size_t name)
+{
+    return finders[who](block, length, (const uint8_t *)looked_up[name], strlen(looked_up[name]));
+}
+
+/* Each of the names in the block of every frame. */
+static uint64_t find_pass(const struct work *w, size_t who)
+{
+    uint64_t sum = 0;
+    for (size_t i = 0; i < w->stream->items; i++)
+        for (size_t name = 0; name < LOOKED_UP; name++)
+            sum += find_name(who, w->frames[i].block, w->frames[i].block_length, name);
+    return sum;
+}
+
+/* Both find the same in every block, whole and with its last octets cut off. */
+static void check_finds(const struct work *w)
+{
+    for (size_t i = 0; i < w->stream->items; i++) {
+        const struct frame *f = &w->frames[i];
+        for (size_t name = 0; name < LOOKED_UP; name++)
+            for (size_t cut = 0; cut < 8 && cut <= f->block_length; cut++)
+                if (find_name(OURS, f->block, f->block_length - cut, name) !=
+                    find_name(BASELINE, f->block, f->block_length - cut, name))
+                    no_result(w, "find", (size_t)(f->octets - w->stream->octets));
+    }
+}
+
 /* The time of one pass, as the mean of some. */
 static double time_of(pass *run, size_t who, const struct work *w, size_t passes)
 {
@@ -238,7 +271,7 @@ static void measure_parse(const struct work works[STREAMS], double best[STREAMS]
     fflush(stdout);
 }
 
-/* Measures decode or encode and prints its table. */
+/* Measures decode, encode or find and prints its table. */
 static void measure_buffers(const char *call, pass *run, const struct work works[STREAMS],
                             double best[STREAMS][PARSERS])
 {
@@ -255,6 +288,7 @@ int main(int argc, char **argv)
     struct stream streams[STREAMS];
     struct work works[STREAMS];
     double parse[STREAMS][PARSERS], decode[STREAMS][PARSERS], encode[STREAMS][PARSERS];
+    double find[STREAMS][PARSERS];
     bool good = true;
     bool check = argc > 1 && strcmp(argv[1], "--check") == 0;
     if (argc > 2 || (argc == 2 && !check)) {
@@ -263,11 +297,14 @@ int main(int argc, char **argv)
     }
     make_streams(streams);
     check_answers(streams);
-    for (size_t s = 0; s < STREAMS; s++)
+    for (size_t s = 0; s < STREAMS; s++) {
         make_work(&works[s], &streams[s]);
+        check_finds(&works[s]);
+    }
     measure_parse(works, parse);
     measure_buffers("decode", decode_pass, works, decode);
     measure_buffers("encode", encode_pass, works, encode);
+    measure_buffers("find", find_pass, works, find);
     if (check) {
         good &= are_enough("parse", works, parse, least_ratio);
         good &= is_enough("parse", &streams[TEXT_BODIES], BASELINE_MEMCHR, parse[TEXT_BODIES],
