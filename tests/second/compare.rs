@@ -7,9 +7,10 @@ use crate::random::Random;
 use crate::streams;
 use std::io::{self, Write};
 
-/// How often each outcome came up in the streams compared.
+/// How many octets the streams compared had, and how often each outcome came up.
 #[derive(Default)]
 struct Tally {
+    octets: usize,
     beats: usize,
     frames: [usize; COMMANDS.len()],
     refused: [usize; 7],
@@ -48,6 +49,21 @@ impl Tally {
 
 /// Compares that many streams of the seed. False at the first difference, which is printed.
 pub fn compare(program: &str, count: usize, seed: u64) -> io::Result<bool> {
+    let Some(tally) = tallied(program, count, seed)? else {
+        return Ok(false);
+    };
+    tally.print();
+    println!("second: {count} streams compared, {seed} seed");
+    Ok(true)
+}
+
+/// Compares as `compare` does, but prints nothing without a difference: the octets of the streams.
+pub fn quietly(program: &str, count: usize, seed: u64) -> io::Result<Option<usize>> {
+    Ok(tallied(program, count, seed)?.map(|tally| tally.octets))
+}
+
+/// The tally of that many streams of the seed. None at the first difference, which is printed.
+fn tallied(program: &str, count: usize, seed: u64) -> io::Result<Option<Tally>> {
     let mut random = Random::new(seed);
     let mut tally = Tally::default();
     for number in 0..count {
@@ -59,13 +75,12 @@ pub fn compare(program: &str, count: usize, seed: u64) -> io::Result<bool> {
         if ran.output != ours.as_bytes() || ran.status.is_none() {
             let name = format!("second-difference-{seed}-{number}");
             report(&name, &stream, &ours, &ran)?;
-            return Ok(false);
+            return Ok(None);
         }
+        tally.octets += stream.len();
         tally.count(&listing);
     }
-    tally.print();
-    println!("second: {count} streams compared, {seed} seed");
-    Ok(true)
+    Ok(Some(tally))
 }
 
 /// Keeps the stream in a file and prints both listings.

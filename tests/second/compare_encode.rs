@@ -57,9 +57,10 @@ fn octets(call: &Call) -> Vec<u8> {
     .concat()
 }
 
-/// How often each answer came up: images, and each refusal.
+/// How many octets the calls compared had, and how often each answer came up: images, and each refusal.
 #[derive(Default)]
 struct Tally {
+    octets: usize,
     images: usize,
     refused: [usize; 7],
 }
@@ -82,6 +83,21 @@ impl Tally {
 
 /// Compares that many calls of the seed. False at the first difference, which is printed.
 pub fn compare(program: &str, count: usize, seed: u64) -> io::Result<bool> {
+    let Some(tally) = tallied(program, count, seed)? else {
+        return Ok(false);
+    };
+    tally.print();
+    println!("second: {count} calls compared, {seed} seed");
+    Ok(true)
+}
+
+/// Compares as `compare` does, but prints nothing without a difference: the octets of the calls.
+pub fn quietly(program: &str, count: usize, seed: u64) -> io::Result<Option<usize>> {
+    Ok(tallied(program, count, seed)?.map(|tally| tally.octets))
+}
+
+/// The tally of that many calls of the seed. None at the first difference, which is printed.
+fn tallied(program: &str, count: usize, seed: u64) -> io::Result<Option<Tally>> {
     let mut random = Random::new(seed);
     let mut tally = Tally::default();
     let mut done = 0;
@@ -102,14 +118,13 @@ pub fn compare(program: &str, count: usize, seed: u64) -> io::Result<bool> {
                 None => program::print_difference("what stands behind the last reply", b"", rest),
             }
             program::print_signal(ran.status);
-            return Ok(false);
+            return Ok(None);
         }
+        tally.octets += input.len();
         replies.iter().for_each(|reply| tally.count(reply));
         done += size;
     }
-    tally.print();
-    println!("second: {count} calls compared, {seed} seed");
-    Ok(true)
+    Ok(Some(tally))
 }
 
 /// How many calls from the first on have the same reply, and what the program wrote behind these.

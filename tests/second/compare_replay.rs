@@ -12,10 +12,11 @@ use std::io::{self, Write};
 /// The refusals of a session that is made and gets frames.
 const NUMBERS: [usize; 11] = [31, 32, 33, 40, 41, 42, 43, 44, 45, 46, 47];
 
-/// How often each outcome came up in the streams compared; of accepted frames, first those without a
-/// receipt, then those with one.
+/// How many octets the streams compared had, and how often each outcome came up; of accepted frames,
+/// first those without a receipt, then those with one.
 #[derive(Default)]
 struct Tally {
+    octets: usize,
     beats: [usize; 2],
     accepted: [[usize; 2]; COMMANDS.len()],
     refused: [[usize; NUMBERS.len()]; COMMANDS.len()],
@@ -83,6 +84,21 @@ fn print_counts<'a>(counts: impl Iterator<Item = (&'a usize, &'a usize)>) {
 
 /// Compares that many streams of the seed. False at the first difference, which is printed.
 pub fn compare(program: &str, count: usize, seed: u64) -> io::Result<bool> {
+    let Some(tally) = tallied(program, count, seed)? else {
+        return Ok(false);
+    };
+    tally.print();
+    println!("second: {count} streams replayed and compared, {seed} seed");
+    Ok(true)
+}
+
+/// Compares as `compare` does, but prints nothing without a difference: the octets of the streams.
+pub fn quietly(program: &str, count: usize, seed: u64) -> io::Result<Option<usize>> {
+    Ok(tallied(program, count, seed)?.map(|tally| tally.octets))
+}
+
+/// The tally of that many streams of the seed. None at the first difference, which is printed.
+fn tallied(program: &str, count: usize, seed: u64) -> io::Result<Option<Tally>> {
     let mut random = Random::new(seed);
     let mut tally = Tally::default();
     for number in 0..count {
@@ -95,13 +111,12 @@ pub fn compare(program: &str, count: usize, seed: u64) -> io::Result<bool> {
         if ran.output != ours.as_bytes() || ran.status.is_none() {
             let name = format!("second-difference-replay-{seed}-{number}");
             report(&name, &life, &ours, &ran)?;
-            return Ok(false);
+            return Ok(None);
         }
+        tally.octets += life.stream.len();
         tally.count(&replay);
     }
-    tally.print();
-    println!("second: {count} streams replayed and compared, {seed} seed");
-    Ok(true)
+    Ok(Some(tally))
 }
 
 /// The arguments that the program gets: none, or the server's two numbers.

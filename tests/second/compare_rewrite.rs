@@ -8,10 +8,11 @@ use crate::rewrite::{self, Rewritten, Stop, Written};
 use crate::streams;
 use std::io;
 
-/// How often each outcome came up in the streams compared; of a command's frames, first those without
-/// an added line, then those with one.
+/// How many octets the streams compared had, and how often each outcome came up; of a command's frames,
+/// first those without an added line, then those with one.
 #[derive(Default)]
 struct Tally {
+    octets: usize,
     beats: usize,
     frames: [[usize; 2]; COMMANDS.len()],
     refused: [usize; 7],
@@ -58,6 +59,21 @@ impl Tally {
 
 /// Compares that many streams of the seed. False at the first difference, which is printed.
 pub fn compare(program: &str, count: usize, seed: u64) -> io::Result<bool> {
+    let Some(tally) = tallied(program, count, seed)? else {
+        return Ok(false);
+    };
+    tally.print();
+    println!("second: {count} streams written again and compared, {seed} seed");
+    Ok(true)
+}
+
+/// Compares as `compare` does, but prints nothing without a difference: the octets of the streams.
+pub fn quietly(program: &str, count: usize, seed: u64) -> io::Result<Option<usize>> {
+    Ok(tallied(program, count, seed)?.map(|tally| tally.octets))
+}
+
+/// The tally of that many streams of the seed. None at the first difference, which is printed.
+fn tallied(program: &str, count: usize, seed: u64) -> io::Result<Option<Tally>> {
     let mut random = Random::new(seed);
     let mut tally = Tally::default();
     for number in 0..count {
@@ -67,13 +83,12 @@ pub fn compare(program: &str, count: usize, seed: u64) -> io::Result<bool> {
         if !alike(&rewritten, &ran) {
             let name = format!("second-difference-rewrite-{seed}-{number}");
             report(&name, &stream, &rewritten, &ran)?;
-            return Ok(false);
+            return Ok(None);
         }
+        tally.octets += stream.len();
         tally.count(&rewritten);
     }
-    tally.print();
-    println!("second: {count} streams written again and compared, {seed} seed");
-    Ok(true)
+    Ok(Some(tally))
 }
 
 /// Whether standard output and standard error are equal, and the program came to its end. Its status

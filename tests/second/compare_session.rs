@@ -58,20 +58,23 @@ const PARTS: [(usize, &str); 12] = [
     (683, "lengths of transaction ids"),
 ];
 
-/// How often each answer came up, of each kind of call.
+/// How many octets the calls compared had, and how often each answer came up, of each kind of call.
 #[derive(Default)]
-struct Tally(BTreeMap<(&'static str, String), usize>);
+struct Tally {
+    octets: usize,
+    answers: BTreeMap<(&'static str, String), usize>,
+}
 
 impl Tally {
     fn count(&mut self, step: &Step) {
         let key = (step.call.name(), step.reply.answer.clone());
-        *self.0.entry(key).or_default() += 1;
+        *self.answers.entry(key).or_default() += 1;
     }
 
     fn print(&self) {
         for (kind, answers) in ANSWERS {
             for answer in answers {
-                let count = self.0.get(&(kind, answer.to_string())).unwrap_or(&0);
+                let count = self.answers.get(&(kind, answer.to_string())).unwrap_or(&0);
                 println!("{kind}: {answer} {count}");
             }
         }
@@ -80,6 +83,21 @@ impl Tally {
 
 /// Compares that many calls of the seed. False at the first difference, which is printed.
 pub fn compare(program: &str, count: usize, seed: u64) -> io::Result<bool> {
+    let Some(tally) = tallied(program, count, seed)? else {
+        return Ok(false);
+    };
+    tally.print();
+    println!("second: {count} calls of a session compared, {seed} seed");
+    Ok(true)
+}
+
+/// Compares as `compare` does, but prints nothing without a difference: the octets of the calls.
+pub fn quietly(program: &str, count: usize, seed: u64) -> io::Result<Option<usize>> {
+    Ok(tallied(program, count, seed)?.map(|tally| tally.octets))
+}
+
+/// The tally of that many calls of the seed. None at the first difference, which is printed.
+fn tallied(program: &str, count: usize, seed: u64) -> io::Result<Option<Tally>> {
     let mut random = Random::new(seed);
     let mut tally = Tally::default();
     let mut done = 0;
@@ -99,14 +117,13 @@ pub fn compare(program: &str, count: usize, seed: u64) -> io::Result<bool> {
                 None => program::print_difference("what stands behind the last reply", b"", rest),
             }
             program::print_signal(ran.status);
-            return Ok(false);
+            return Ok(None);
         }
+        tally.octets += input.len();
         steps.iter().for_each(|step| tally.count(step));
         done += size;
     }
-    tally.print();
-    println!("second: {count} calls of a session compared, {seed} seed");
-    Ok(true)
+    Ok(Some(tally))
 }
 
 /// How many calls from the first on have the same reply, and what the program wrote behind these.

@@ -7,6 +7,7 @@ mod calls;
 mod client;
 mod compare;
 mod compare_encode;
+mod compare_for;
 mod compare_replay;
 mod compare_rewrite;
 mod compare_session;
@@ -36,6 +37,7 @@ use std::fs;
 use std::io::{self, Read, Write};
 use std::path::Path;
 use std::process::ExitCode;
+use std::time::Duration;
 
 const USAGE: &str = "second list
 second rewrite
@@ -46,6 +48,7 @@ second compare-rewrite PROGRAM COUNT SEED
 second compare-encode PROGRAM COUNT SEED
 second compare-replay PROGRAM COUNT SEED
 second compare-session PROGRAM COUNT SEED
+second compare-for SECONDS SEED PROGRAMS
 second make DIR
 second make-replay FILE
 second make-session FILE
@@ -60,6 +63,7 @@ fn main() -> ExitCode {
         ["replay"] => replay("0", "0"),
         ["replay", sends, wants] => replay(sends, wants),
         ["session"] => session(),
+        ["compare-for", seconds, seed, programs] => compare_for(seconds, seed, programs),
         [mode, program, count, seed] => match comparison(mode) {
             Some(compare) => compare_by(compare, program, count, seed),
             None => Err(io::Error::other(USAGE)),
@@ -145,4 +149,11 @@ fn compare_by(compare: Comparison, program: &str, count: &str, seed: &str) -> io
     let count = count.parse().map_err(io::Error::other)?;
     let seed = seed.parse().map_err(io::Error::other)?;
     compare(program, count, seed)
+}
+
+/// Compares with all programs of a folder for that many seconds.
+fn compare_for(seconds: &str, seed: &str, programs: &str) -> io::Result<bool> {
+    let seconds = seconds.parse().map_err(io::Error::other)?;
+    let seed = seed.parse().map_err(io::Error::other)?;
+    compare_for::compare(Duration::from_secs(seconds), seed, Path::new(programs))
 }

@@ -18,6 +18,11 @@ impl Random {
         mixed ^ (mixed >> 31)
     }
 
+    /// A seed for another generator.
+    pub fn seed(&mut self) -> u64 {
+        self.next()
+    }
+
     /// A number from 0 up to below the bound. The bounds are small, so the rest of a division is
     /// even enough.
     pub fn below(&mut self, bound: usize) -> usize {
