@@ -1,0 +1,136 @@
+/* Writes inputs of fuzz.c made of streams: seeds DIRECTORY STREAM.. For each item one that parses;
+ * for each frame also ones that decode it, encode what it holds, and find its first two names and
+ * one that it does not have. They are read with the baseline. A block is there as it is and as the
+ * text that fuzz.c makes it of. */
+#include <stdio.h>
+#include <stdlib.h>
+#include <string.h>
+
+#include "../../bench/baseline.h"
+#include "../../include/stomp.h"
+
+enum { HEAD = 6, STREAM = 1 << 18 };
+enum { PARSE, DECODE, ENCODE, FIND, PAGE_BEHIND = 4, AS_TEXT = 8, NAME_END = 254, ENTRY_END = 255 };
+
+static const char *directory;
+static unsigned long count;
+
+/* The input that is being made. */
+static uint8_t made[STREAM + 64];
+static size_t length;
+
+static void put(const void *octets, size_t n)
+{
+    memcpy(made + length, octets, n);
+    length += n;
+}
+
+static void put_number(size_t n, size_t octets)
+{
+    while (octets-- > 0)
+        made[length++] = (uint8_t)(n >> 8 * octets);
+}
+
+/* The page is in turn behind and before our slices. */
+static void begin(unsigned call)
+{
+    length = 0;
+    put_number(call | (count & 1 ? PAGE_BEHIND : 0), 1);
+}
+
+static void finish(void)
+{
+    char path[4096];
+    FILE *file;
+    snprintf(path, sizeof path, "%s/%06lu", directory, count++);
+    file = fopen(path, "wb");
+    if (!file || fwrite(made, 1, length, file) != length || fclose(file) != 0) {
+        perror(path);
+        exit(2);
+    }
+}
+
+static size_t number_at(const uint8_t *octets)
+{
+    return (size_t)octets[0] << 8 | octets[1];
+}
+
+/* Writes what is made so far with the block behind it: as it is, then as text. */
+static void finish_with(const uint8_t *block, size_t used)
+{
+    size_t before = length;
+    put(block, used);
+    finish();
+    length = before;
+    made[0] |= AS_TEXT;
+    for (size_t at = 0; at < used;) {
+        size_t name = number_at(block + at + 2);
+        size_t value = number_at(block + at + 4);
+        put(block + at + HEAD, name);
+        put_number(NAME_END, 1);
+        put(block + at + HEAD + name, value);
+        put_number(ENTRY_END, 1);
+        at += HEAD + name + value;
+    }
+    finish();
+}
+
+static void write_find(const void *name, size_t name_length, const uint8_t *block, size_t used)
+{
+    begin(FIND);
+    put_number(name_length, 2);
+    put(name, name_length);
+    finish_with(block, used);
+}
+
+static void write_frame(const uint8_t *frame, uint64_t parsed)
+{
+    static uint8_t block[STOMP_MAX_BLOCK];
+    size_t used = stomp_length(baseline_decode(frame, stomp_parse_used(parsed), block, sizeof block));
+    size_t at = 0;
+    begin(DECODE);
+    put_number(sizeof block, 2);
+    put(frame, stomp_parse_used(parsed));
+    finish();
+    begin(ENCODE);
+    put_number(stomp_parse_command(parsed), 4);
+    put_number(STOMP_MAX_FRAME, 2);
+    put_number(stomp_parse_body_length(parsed), 2);
+    put(frame + stomp_parse_body(parsed), stomp_parse_body_length(parsed));
+    finish_with(block, used);
+    for (int i = 0; i < 2 && at < used; i++) {
+        size_t name = number_at(block + at + 2);
+        write_find(block + at + HEAD, name, block, used);
+        at += HEAD + name + number_at(block + at + 4);
+    }
+    write_find("none", 4, block, used);
+}
+
+int main(int argc, char **argv)
+{
+    static uint8_t stream[STREAM];
+    if (argc < 3)
+        return 2;
+    directory = argv[1];
+    for (int i = 2; i < argc; i++) {
+        FILE *file = fopen(argv[i], "rb");
+        if (!file) {
+            perror(argv[i]);
+            return 2;
+        }
+        size_t size = fread(stream, 1, sizeof stream, file);
+        size_t used = 1;
+        fclose(file);
+        for (size_t at = 0; at < size && used > 0; at += used) {
+            uint64_t parsed = baseline_parse(stream + at, size - at);
+            used = stomp_parse_used(parsed);
+            begin(PARSE);
+            put(stream + at, used ? used : size - at);
+            finish();
+            if (stomp_parse_kind(parsed) == STOMP_FRAME)
+                write_frame(stream + at, parsed);
+        }
+    }
+    printf("%lu seeds\n", count);
+    return 0;
+}
