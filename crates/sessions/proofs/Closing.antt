@@ -88,7 +88,7 @@ closes s (by-disconnect block time v e) = ap (λ A. (left-by A s (heard (effect 
 -- ---- a closed session
 
 module _ (s : Session) (h : s .phase ≡ closed-phase) where
-  -- "38 unsound session record; 39 unknown command or malformed sheet; 40 closed"
+  -- 38 where the record is invalid, 39 where the command is unknown or the header block malformed, else 40
   pub closed-frame : (n : ℕ) (block : List ℕ)
       → frame-answer s n block ≡ cond (not (is-valid s)) (refused 38) (cond (unknown n || not (is-block block)) (refused 39) (refused 40))
   unfolding frame-answer

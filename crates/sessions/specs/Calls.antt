@@ -86,7 +86,7 @@ named-id n es = cond (names-id (usage-of n)) (value-of (names (naming n .kind)) 
 abbrev pub named-ids : Session → ℕ → List (List ℕ)
 named-ids s n = ids-of (naming n .kind) s
 
--- a test of the id, which no id passes
+-- a test of the id; where none is named it says no
 abbrev pub of-id : Option (List ℕ) → (List ℕ → Bool) → Bool
 of-id none f = false
 of-id (some id) f = f id
@@ -110,10 +110,10 @@ naming-checks s n es =
 abbrev pub lacks-needed : ℕ → List Entry → Bool
 lacks-needed n es = lacks (needed n .first) es || lacks (needed n .second) es
 
--- "Checks in order: 38 unsound session record; 39 unknown command or malformed sheet; 40 closed; 41 a server's command; 42 not open,
--- or a second CONNECT/STOMP; 43 header missing; 44 the id that names a subscription or transaction is empty or over 32; 45 id
--- already live; 46 not live; 47 all places live; at CONNECT/STOMP 31, 32, 33 after 43": 31 accept-version malformed, 32 no version
--- shared, 33 heart-beat malformed. An unsound record is an invalid one, the sheet the header block.
+-- "Checks in order": 38 an invalid record (document 01's unsound one); 39 an unknown command or malformed header
+-- block (the sheet of document 01); "40 closed; 41 a server's command; 42 not open, or a second CONNECT/STOMP; 43
+-- header missing; 44 the id that names a subscription or transaction is empty or over 32; 45 id already live; 46 not live; 47 all
+-- places live; at CONNECT/STOMP 31, 32, 33 after 43": 31 accept-version malformed, 32 no version shared, 33 heart-beat malformed.
 abbrev pub entry-checks : Session → ℕ → List Entry → List Check
 entry-checks s n es =
     record { fails = lacks-needed n es; number = 43 } ∷
@@ -169,7 +169,7 @@ unfoldable pub beat-session : Session → ℕ → Session
 beat-session s time = left-by (beat-answer s) s (heard s time)
 
 -- ---- "The peer is dead exactly if the session is open, the client-to-server interval is not 0 and more than twice that interval has
--- passed since last-heard. Asked of an unsound record, the answer is 38." Dead is timed out here.
+-- passed since last-heard." Dead is timed out here. Of an invalid record (document 01's unsound one) the answer is 38.
 
 abbrev pub is-timed-out : Session → ℕ → Bool
 is-timed-out s time = in-phase open-phase s && overdue (s .inbound) time (s .«last_heard»)

@@ -129,8 +129,9 @@ heard s time = record {
   phase = s .phase;
 }
 
--- Not "38 unsound session record (unknown phase, length over 32, two equal live ids of one kind, non-zero unused octets, offer or
--- interval over the limit, marks that making refuses unless closed)": a valid record. The marks are the offered version flags.
+-- A valid record, which document 01 calls not unsound: 38 is given for "unknown phase, length over 32, two equal live ids of one
+-- kind, non-zero unused octets, offer or interval over the limit, marks that making refuses unless closed". The marks are the
+-- offered version flags.
 abbrev pub small-numbers : Session → Bool
 small-numbers s = leb (s .sends) beat-max && (leb (s .wants) beat-max && (leb (s .inbound) beat-max && leb (s .outbound) beat-max))
 
