@@ -16,7 +16,7 @@ use borrow.Rule.Slice.PartMut.{midOf, putMid}
 use types.Run.{OneOf}
 use denote.Enum.Declared.{tagOf}
 use Rattle.headers.specs.Numbers.{shortest}
-use Rattle.headers.specs.Block.{Entry, entry-before, entries}
+use Rattle.headers.specs.Block.{Entry, entry-before, entries, listed}
 use Rattle.headers.specs.Lines.{entry-of, written-line, content-length}
 use Rattle.headers.specs.Answers.{accepted, left-in, has-entries, is-block, entry-answer, entry-says, encoded-answer, line-says, decimal-answer}
 use Rattle.headers.specs.declared.text.Style.{Style}
@@ -29,7 +29,7 @@ use Rattle.headers.proofs.Blocks.{Placed, placed, place-behind, told-end, told-
 use Rattle.headers.proofs.Put.{store-grow, store-more, store-kept, put-length, put-more, put-kept, put-whole-done}
 use Rattle.headers.proofs.Settling.{encoded-yes, decimal-put}
 use Rattle.frames.specs.Encoding.{written-lines}
-use Rattle.frames.specs.Writing.{listed, length-octets}
+use Rattle.frames.specs.Writing.{length-octets}
 
 -- an octet that is there, whatever is said of one that is not
 pub getD-inside : (l : List ℕ) (i x y : ℕ) → i < length l → getD l i x ≡ getD l i y

@@ -22,7 +22,7 @@ use lib.Dec.{eqb, leb, ltb, eqb·suc-zero}
 use borrow.Author.Tests.{lt-ltb, le-ltb, leb-true, leb-false, eqb-true, eqb-false, ltb-true, ltb-false}
 use Rattle.headers.specs.Rows.{empty, every, is-octet}
 use Rattle.headers.specs.Numbers.{decimal, is-amount, amount, shortest}
-use Rattle.headers.specs.Block.{Entry, Block, entry-before, entries}
+use Rattle.headers.specs.Block.{Entry, Block, entry-before, entries, listed}
 use Rattle.headers.specs.Lines.{entry-of, raw-line, written-line, can-write, content-length}
 use Rattle.headers.specs.Answers.{Answer, accepted, refused, settle, left-in, find-answer, find-from, found-says, has-entries, is-block, entry-answer, entry-says}
 use Rattle.headers.specs.Escapes.{writable}
@@ -39,7 +39,7 @@ use Rattle.frames.specs.Grammar.{Command, number, v1-2, style, most, lin
 use Rattle.frames.specs.Open.{all}
 use Rattle.frames.specs.Scanning.{word-of, style-of, most-of, number-of}
 use Rattle.frames.specs.Encoding.{Call, command-of, first-length, adds-length, length-entry, added-entry, written-entries, written-lines, frame-image, says-length, first-unwritable, settle-frame, encode-by, encode-answer, encode-image, encode-index, index-by, Encoding, image-length, refusal, indexed}
-use Rattle.frames.specs.Writing.{listed, value-at, Told, Sums, length-octets, added-octets, image-of, lengths-of}
+use Rattle.frames.specs.Writing.{value-at, Told, Sums, length-octets, added-octets, image-of, lengths-of}
 use Rattle.frames.specs.Answers.{encoded-says}
 use Rattle.frames.specs.declared.encode.Declared.{Declared}
 use Rattle.frames.specs.declared.encode.Totals.{Totals}

@@ -10,4 +10,4 @@ mod layout; // where the parts of a head stand
 pub mod decode; // a frame's entries as a header block
 mod put; // a frame's parts, written
 pub mod encode; // a frame's octets from its parts
-mod exports; // calls for C
+pub mod exports; // calls for C

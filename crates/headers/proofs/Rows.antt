@@ -193,11 +193,11 @@ pub front-of : (xs ys : List ℕ) → begins xs ys ≡ true → take (length xs)
 front-of xs ys h = let (w, e) = begins-rest xs ys h in rw e (take-at xs w (length xs) refl)
 
 -- what a test says of the numbers below n, computed at once; two tests that say the same agree at each of them
-abbrev pub listed : (ℕ → Bool) → ℕ → List Bool
-listed f zero = []
-listed f (suc n) = f 0 ∷ listed (λ i. f (suc i)) n
+abbrev pub table : (ℕ → Bool) → ℕ → List Bool
+table f zero = []
+table f (suc n) = f 0 ∷ table (λ i. f (suc i)) n
 
-pub alike : (f g : ℕ → Bool) (n k : ℕ) → listed f n ≡ listed g n → k < n → f k ≡ g k
+pub alike : (f g : ℕ → Bool) (n k : ℕ) → table f n ≡ table g n → k < n → f k ≡ g k
 alike f g zero k e h = absurd (omega arith)
 alike f g (suc n) zero e h = ap (λ l. getD l 0 true) e
 alike f g (suc n) (suc k) e h = alike (λ i. f (suc i)) (λ i. g (suc i)) n k (ap (drop 1) e) (omega arith)

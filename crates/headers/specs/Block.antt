@@ -82,6 +82,11 @@ entries-within (suc k) xs =
 unfoldable pub entries : List ℕ → Option (List Entry)
 entries xs = entries-within (length xs) xs
 
+-- the entries where there are any to be had, and none otherwise
+abbrev pub listed : Option (List Entry) → List Entry
+listed none = []
+listed (some es) = es
+
 -- All values of a name, in order, as places in the block; the records of es begin at place i.
 abbrev pub value-span : ℕ → Entry → Span
 value-span i e = record { start = i + 6 + length (e .name); len = length (e .value) }

@@ -10,10 +10,9 @@ use Prim.Native.Nat.{ℕ}
 use native.Mathlib.Omega.{arith}
 use lib.Dec.{eqb}
 use Rattle.headers.specs.Rows.{All}
-use Rattle.headers.specs.Block.{Entry, entries}
+use Rattle.headers.specs.Block.{Entry, entries, listed}
 use Rattle.headers.specs.Answers.{Answer, accepted, refused, Check, settle}
 use Rattle.headers.proofs.Rows.{cond-case}
-use Rattle.frames.specs.Writing.{listed}
 use Rattle.sessions.specs.Stores.{use-checks}
 use Rattle.sessions.specs.Sessions.{id-max, closed}
 use Rattle.sessions.specs.Answers.{bit}

@@ -11,11 +11,10 @@ use Prim.Native.Nat.{ℕ}
 use native.Mathlib.Omega.{arith}
 use lib.Dec.{eqb}
 use borrow.Author.Tests.{eqb-true, eqb-false, eq-eqb, ne-eqb}
-use Rattle.headers.specs.Block.{Entry, entries}
+use Rattle.headers.specs.Block.{Entry, entries, listed}
 use Rattle.headers.specs.Answers.{Answer, accepted, refused, is-block}
 use Rattle.headers.proofs.Rows.{cond-case, or-false-left, or-false-right}
 use Rattle.frames.specs.Grammar.{number, DISCONNECT}
-use Rattle.frames.specs.Writing.{listed}
 use Rattle.sessions.specs.Values.{Beats}
 use Rattle.sessions.specs.Headers.{is, unknown, opens, naming}
 use Rattle.sessions.specs.Sessions.{closed-phase, with-ids, with-phase, closed, heard, is-valid}

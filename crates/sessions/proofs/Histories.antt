@@ -10,11 +10,10 @@ use Prim.Native.Nat.{ℕ}
 use lib.Dec.{eqb}
 use borrow.Author.Tests.{eqb-true}
 use Rattle.headers.specs.Rows.{same}
-use Rattle.headers.specs.Block.{Entry, entries}
+use Rattle.headers.specs.Block.{Entry, entries, listed}
 use Rattle.headers.specs.Answers.{Answer, accepted, refused, settle}
 use Rattle.headers.proofs.Rows.{cond-case}
 use Rattle.frames.specs.Grammar.{CONNECT, DISCONNECT, STOMP}
-use Rattle.frames.specs.Writing.{listed}
 use Rattle.sessions.specs.Stores.{ids, live, used, use-checks}
 use Rattle.sessions.specs.Values.{Beats}
 use Rattle.sessions.specs.Headers.{is, opens, naming}

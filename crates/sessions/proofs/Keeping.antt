@@ -14,12 +14,11 @@ use lib.Dec.{eqb, leb, ltb}
 use borrow.Author.Tests.{leb-true, le-leb, eqb-true, not-false, ltb-false}
 use Rattle.headers.specs.Rows.{All}
 use Rattle.headers.specs.Numbers.{amount}
-use Rattle.headers.specs.Block.{Entry, entries}
+use Rattle.headers.specs.Block.{Entry, entries, listed}
 use Rattle.headers.specs.Answers.{Answer, accepted, refused, settle}
 use Rattle.headers.proofs.Rows.{cond-case, and-left, and-right, or-false-left, or-false-right}
 use Rattle.headers.proofs.Numerals.{amount-record}
 use Rattle.frames.specs.Grammar.{DISCONNECT}
-use Rattle.frames.specs.Writing.{listed}
 use Rattle.sessions.specs.Stores.{distinct, valid-store, used, use-checks}
 use Rattle.sessions.specs.Places.{Fits}
 use Rattle.sessions.specs.Values.{Beats, beat-max, both, beats-in, beats, split}

@@ -4,8 +4,7 @@ use mathlib.Core.Bool.{Bool, true, false, cond}
 use mathlib.Core.Option.{Option, none, some}
 use mathlib.Core.List.{List}
 use Prim.Native.Nat.{ℕ}
-use Rattle.headers.specs.Block.{entries}
-use Rattle.frames.specs.Writing.{listed}
+use Rattle.headers.specs.Block.{entries, listed}
 use Rattle.sessions.specs.Headers.{value-of, names, naming, names-id}
 use Rattle.sessions.specs.Reads.{value-at, Locates}
 use Rattle.sessions.specs.Calls.{named-id}

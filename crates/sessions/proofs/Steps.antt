@@ -11,10 +11,9 @@ use lib.ListN.{replicate}
 use lib.Dec.{eqb, ltb}
 use borrow.Author.Tests.{eqb-true}
 use Rattle.headers.specs.Rows.{every}
-use Rattle.headers.specs.Block.{Entry, entries}
+use Rattle.headers.specs.Block.{Entry, entries, listed}
 use Rattle.headers.specs.Answers.{Answer, accepted, refused, Check, settle, is-block}
 use Rattle.headers.proofs.Rows.{and-left, and-right, and-no}
-use Rattle.frames.specs.Writing.{listed}
 use Rattle.frames.specs.Grammar.{DISCONNECT}
 use Rattle.sessions.specs.Values.{beat-max}
 use Rattle.sessions.specs.Opening.{only-1-2}

@@ -7,10 +7,9 @@ use Prim.Native.Nat.{ℕ}
 use lib.ListN.{replicate}
 use lib.Dec.{eqb, ltb}
 use Rattle.headers.specs.Rows.{empty, any}
-use Rattle.headers.specs.Block.{Entry, entries}
+use Rattle.headers.specs.Block.{Entry, entries, listed}
 use Rattle.headers.specs.Answers.{Answer, accepted, refused, Check, settle, is-block}
 use Rattle.frames.specs.Grammar.{DISCONNECT}
-use Rattle.frames.specs.Writing.{listed}
 use Rattle.sessions.specs.Stores.{live, used, enters, wants-live, bad-length, use-checks}
 use Rattle.sessions.specs.Values.{Beats, versions, beats, beat-max}
 use Rattle.sessions.specs.Opening.{shared-flags, none-shared, only-1-2, interval, overdue}

@@ -6,10 +6,9 @@ use mathlib.Core.Option.{Option, none, some}
 use mathlib.Core.List.{List, [], _∷_}
 use Prim.Native.Nat.{ℕ}
 use Rattle.headers.specs.Rows.{same}
-use Rattle.headers.specs.Block.{entries}
+use Rattle.headers.specs.Block.{entries, listed}
 use Rattle.headers.specs.Answers.{Answer, accepted, refused}
 use Rattle.frames.specs.Grammar.{number, DISCONNECT}
-use Rattle.frames.specs.Writing.{listed}
 use Rattle.sessions.specs.Headers.{naming}
 use Rattle.sessions.specs.Calls.{frame-answer, frame-session, beat-answer, beat-session, named-id}
 use Rattle.sessions.specs.declared.store.Use.{Use}

@@ -6,8 +6,7 @@ use mathlib.Core.List.{List, [], _∷_}
 use Prim.Native.Nat.{ℕ, _-_, _≤_}
 use lib.ListN.{length, take, drop}
 use Rattle.headers.specs.Rows.{same}
-use Rattle.headers.specs.Block.{entries}
-use Rattle.frames.specs.Writing.{listed}
+use Rattle.headers.specs.Block.{entries, listed}
 use Rattle.sessions.specs.Values.{version, Beats}
 use Rattle.sessions.specs.Opening.{flag}
 use Rattle.sessions.specs.Headers.{value-of}

@@ -1,9 +1,8 @@
 // Where a header's first value stands in a header block.
 ghost use mathlib.Core.Path.{_≡_};
 ghost use mathlib.Core.Bool.{true};
-ghost use Rattle.headers.specs.Block.{entries};
+ghost use Rattle.headers.specs.Block.{entries, listed};
 ghost use Rattle.headers.specs.Answers.{found-says, find-answer, is-block};
-ghost use Rattle.frames.specs.Writing.{listed};
 ghost use Rattle.sessions.specs.Headers.{name-of, has as has-header, lacks as lacks-header};
 ghost use Rattle.sessions.specs.Calls.{lacks-needed, client-versions, client-beats};
 ghost use Rattle.sessions.specs.Reads.{Locates, versions-say, beats-say};

@@ -7,11 +7,11 @@ use mathlib.Core.Bool.{Bool}
 use mathlib.Core.List.{List, [], _∷_, _++_}
 use mathlib.Core.Logic.{⊎-elim}
 use types.Run.{OneOf}
-use Rattle.headers.specs.Block.{entries}
+use Rattle.headers.specs.Block.{entries, listed}
 use Rattle.headers.specs.Answers.{left-in}
 use Rattle.frames.specs.Grammar.{v1-2}
 use Rattle.frames.specs.Encoding.{Call, adds-length, encode-answer, encode-index, encode-image}
-use Rattle.frames.specs.Writing.{listed, image-of}
+use Rattle.frames.specs.Writing.{image-of}
 use Rattle.frames.specs.Answers.{encoded-says}
 use Rattle.frames.specs.declared.encode.Encoded.{Encoded}
 use Rattle.frames.proofs.Writing.{Writes, writes, adds-told, stays}

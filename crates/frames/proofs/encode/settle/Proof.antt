@@ -11,13 +11,13 @@ use native.Mathlib.Omega.{arith}
 use lib.ListN.{length}
 use lib.Dec.{eqb, ltb}
 use Rattle.headers.specs.Rows.{every}
-use Rattle.headers.specs.Block.{Entry, entries}
+use Rattle.headers.specs.Block.{Entry, entries, listed}
 use Rattle.headers.specs.Lines.{can-write}
 use Rattle.headers.specs.Answers.{Answer, accepted, refused, is-block}
 use Rattle.headers.proofs.Rows.{or-false-right}
 use Rattle.frames.specs.Scanning.{style-of, most-of}
 use Rattle.frames.specs.Encoding.{Call, first-length, first-unwritable, says-length, image-length, refusal, indexed}
-use Rattle.frames.specs.Writing.{listed, value-at, Sums, lengths-of}
+use Rattle.frames.specs.Writing.{value-at, Sums, lengths-of}
 use Rattle.frames.specs.declared.encode.Totals.{Totals}
 use Rattle.frames.proofs.Validity.{most-small}
 use Rattle.frames.proofs.Writing.{entries-listed, entries-not, adds-told, sums-many, sums-few, sums-unwritable, sums-writable, says-told, unknown-command, known-command, total-of, settle-of, says-of, no-command, no-block, settles, refuses-52, refuses-53, refuses-54, refuses-55, refuses-56, accepts}

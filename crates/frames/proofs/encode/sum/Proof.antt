@@ -7,7 +7,7 @@ use mathlib.Core.List.{List, _∷_}
 use Prim.Native.Nat.{ℕ, _+_, _-_, _≤_}
 use native.Mathlib.Omega.{arith}
 use lib.ListN.{length, take, drop}
-use Rattle.headers.specs.Block.{Entry, entries}
+use Rattle.headers.specs.Block.{Entry, entries, listed}
 use Rattle.headers.specs.Lines.{can-write}
 use Rattle.headers.specs.Answers.{is-block, length-says, length-answer}
 use Rattle.headers.specs.declared.block.Lengths.{Lengths}
@@ -15,7 +15,6 @@ use Rattle.headers.specs.declared.line.LineLength.{LineLength}
 use Rattle.headers.specs.declared.text.Style.{Style}
 use Rattle.headers.proofs.Blocks.{Placed, placed, place-behind, told-entry, is-block-next}
 use Rattle.headers.proofs.Settling.{length-refused, length-accepted, divided}
-use Rattle.frames.specs.Writing.{listed}
 use Rattle.frames.proofs.Writing.{listed-next, listed-end, divided-at, Summing, sum-start, sum-line, sum-none, sum-end, sum-full}
 use Rattle.frames.proofs.encode.sum.Statement.{statement}
 use Rattle.frames.proofs.encode.sum.Tie as tie

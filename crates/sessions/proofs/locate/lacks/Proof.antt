@@ -2,8 +2,7 @@
 use borrow.Author.Needs.{needs}
 use mathlib.Core.Path.{sym, _∙_, ap}
 use mathlib.Core.Bool.{not}
-use Rattle.headers.specs.Block.{entries}
-use Rattle.frames.specs.Writing.{listed}
+use Rattle.headers.specs.Block.{entries, listed}
 use Rattle.sessions.proofs.Locating.{lacks-not}
 use Rattle.sessions.proofs.locate.lacks.Statement.{statement}
 use Rattle.sessions.proofs.locate.lacks.Tie as tie

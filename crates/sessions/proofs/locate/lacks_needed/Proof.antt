@@ -1,8 +1,7 @@
 -- `locate::lacks_needed` meets its contract.
 use mathlib.Core.Path.{_≡_, sym, ap, _∙_}
 use denote.Ref.{now}
-use Rattle.headers.specs.Block.{entries}
-use Rattle.frames.specs.Writing.{listed}
+use Rattle.headers.specs.Block.{entries, listed}
 use Rattle.sessions.specs.Headers.{lacks}
 use borrow.Author.Needs.{needs}
 use Rattle.sessions.proofs.locate.lacks_needed.Statement.{statement}

@@ -3,8 +3,7 @@ use mathlib.Core.Path.{sym, ap, _∙_}
 use mathlib.Core.Bool.{false}
 use borrow.Author.Tests.{not-true, not-false}
 use denote.Ref.{now}
-use Rattle.headers.specs.Block.{entries}
-use Rattle.frames.specs.Writing.{listed}
+use Rattle.headers.specs.Block.{entries, listed}
 use Rattle.sessions.specs.Steps.{accepted-by}
 use Rattle.sessions.proofs.Opening.{opening-malformed, opening-unshared, opening-beatless, opening-done}
 use borrow.Author.Needs.{needs}
