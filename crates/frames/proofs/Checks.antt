@@ -12,7 +12,7 @@ use Rattle.headers.proofs.Rows.{and-left, and-right}
 use Rattle.frames.proofs.Upto.{upto, upto-at}
 use Rattle.frames.specs.Open.{all}
 use Rattle.frames.specs.Parsing.{first}
-use Rattle.frames.specs.declared.scan.Scan.{Scan}
+use Rattle.frames.specs.declared.state.Scan.{Scan}
 use Rattle.frames.specs.Scanning.{most-of, word-of, number-of, scan-step, scan, nothing-read, len-max, line-open, outside, Reached, Valid}
 use Rattle.frames.specs.Validity.{leasts, is-reached, is-valid}
 use Rattle.frames.proofs.Words.{short, small}

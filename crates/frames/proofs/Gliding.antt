@@ -19,7 +19,7 @@ use Rattle.headers.specs.declared.text.Style.{Style}
 use Rattle.headers.specs.declared.text.Field.{Field}
 use Rattle.headers.specs.declared.text.Field.the-variants.{Name as in-name, Value as in-value}
 use Rattle.headers.proofs.Rows.{cond-case, and-left, and-right, every-step, every-end}
-use Rattle.frames.specs.declared.scan.Scan.{Scan}
+use Rattle.frames.specs.declared.state.Scan.{Scan}
 use Rattle.frames.specs.Scanning.{style-of, most-of, in-line, on-value, on-name, on-body, on-counted, scan-step, scan, len-max, Valid, span, plain-in, not-zero, skip, Ahead}
 use Rattle.frames.proofs.Steps.{read-open, read-letter}
 use Rattle.frames.proofs.Validity.{most-small}

@@ -9,7 +9,7 @@ use borrow.Author.Tests.{eq-eqb, ne-eqb, le-leb, lt-ltb}
 use Rattle.headers.specs.Lines.{content-length}
 use Rattle.headers.specs.declared.text.Field.the-variants.{Name as in-name, Value as in-value}
 use Rattle.headers.proofs.Rows.{and-no}
-use Rattle.frames.specs.declared.scan.Scan.{Scan}
+use Rattle.frames.specs.declared.state.Scan.{Scan}
 use Rattle.frames.specs.Scanning.{style-of, most-of, next-command, to-phase, in-line, on-word, on-name, on-length, scan-step, scan, Valid, plain-in, skip, Ahead, Passed}
 use Rattle.frames.proofs.Upto.{upto-at}
 use Rattle.frames.proofs.Steps.{short-name, short-value}

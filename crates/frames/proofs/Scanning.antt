@@ -22,7 +22,7 @@ use Rattle.frames.specs.Open.{Open, start, heart-beat-13, command, comma
 use Rattle.frames.specs.Replies.{Reply, told}
 use Rattle.frames.specs.Replies as reply
 use Rattle.frames.specs.Parsing.{first, word-end, word-next, at-word, at-start, name-next, at-name, at-begin, value-next, at-value, body-next, at-body, step, answer, parsed}
-use Rattle.frames.specs.declared.scan.Scan.{Scan}
+use Rattle.frames.specs.declared.state.Scan.{Scan}
 use Rattle.frames.specs.Scanning.{number-of, word-of, next-command, whole-command, advance, name-phase, value-phase, on-word, on-start, on-name-by, on-name, on-begin, on-value-by, on-value, on-length-by, on-length, on-body, on-counted, scan-step, scan, nothing-read, scan-reply, invalid}
 use Rattle.frames.proofs.Sound.{sound, declared-append, first-some}
 use Rattle.frames.proofs.Reach.{finds}

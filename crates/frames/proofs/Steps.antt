@@ -9,7 +9,7 @@ use Rattle.headers.specs.Text.{fresh, back, into, bad, stop, of-escape, stops, 
 use Rattle.headers.specs.declared.text.Style.{Style}
 use Rattle.headers.specs.declared.text.Field.{Field}
 use Rattle.headers.proofs.Rows.{or-false-left, or-false-right}
-use Rattle.frames.specs.declared.scan.Scan.{Scan}
+use Rattle.frames.specs.declared.state.Scan.{Scan}
 use Rattle.frames.specs.Grammar.{lines-max}
 use Rattle.frames.specs.Scanning.{on-start, on-word, on-begin, on-name, scan-step, line-ends, nameless-at}
 

@@ -18,7 +18,7 @@ use Rattle.frames.specs.Grammar.{Command, number, word}
 use Rattle.frames.specs.Open.{all}
 use Rattle.frames.specs.Parsing.{first}
 use Rattle.frames.specs.Refusals.{numbered, faulty}
-use Rattle.frames.specs.declared.scan.Scan.{Scan}
+use Rattle.frames.specs.declared.state.Scan.{Scan}
 use Rattle.frames.specs.Scanning.{style-of, most-of, word-of, number-of, next-command, whole-command, advance, to-phase, in-head, in-line, frame-read, invalid, body-begins, on-10, on-word, on-start, on-name-by, on-name, on-begin, line-read, on-value-by, on-value, grows, on-length-by, on-length, on-body, on-counted, scan-step, nothing-read, Reached, len-max, line-open, outside, Valid}
 use Rattle.frames.proofs.Commands.{each-le}
 use Rattle.frames.proofs.Sound.{first-some}

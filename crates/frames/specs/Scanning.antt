@@ -18,7 +18,7 @@ use Rattle.frames.specs.Open.{all}
 use Rattle.frames.specs.Parsing.{first}
 use Rattle.frames.specs.Refusals.{numbered, faulty, no-command, no-10, nameless, second-colon, no-colon, long-line, many-lines, bad-length, past-body}
 use Rattle.frames.specs.Replies.{Reply, Complete, Incomplete, Invalid}
-use Rattle.frames.specs.declared.scan.Scan.{Scan}
+use Rattle.frames.specs.declared.state.Scan.{Scan}
 
 -- The phases: where the next octet stands.
 --      0 at the start                      1 after the 13 of a heart-beat

@@ -4,7 +4,7 @@ use mathlib.Core.List.{List, [], _∷_}
 use Prim.Native.Nat.{ℕ, _+_, _*_}
 use lib.ListN.{length, getD}
 use lib.Dec.{eqb, leb, ltb}
-use Rattle.frames.specs.declared.scan.Scan.{Scan}
+use Rattle.frames.specs.declared.state.Scan.{Scan}
 use Rattle.frames.specs.Scanning.{most-of, word-of, len-max, line-open, outside}
 
 -- by a command's number, how many letters tell its word from those of the commands before it; 0 is no command

@@ -4,7 +4,7 @@ ghost use Prim.Native.Nat.{_+_, _≤_, _<_};
 ghost use lib.ListN.{length, drop};
 ghost use Rattle.headers.specs.Rows.{every};
 ghost use Rattle.frames.specs.Scanning.{Valid, Ahead, span, plain-in, not-zero, skip};
-use crate::scan::Scan;
+use crate::state::Scan;
 
 // Whether header text takes the octet as it stands.
 fn is_plain(escapes: bool, x: u8) -> bool
@@ -153,7 +153,7 @@ pub(crate) fn value_span(s: &[u8], i: usize, st: Scan) -> usize
     requires { ⌜ (i ≤ length (now s)) × Valid st × (st .phase ≡ 7) ⌝ }
     ensures { λ r. ⌜ Ahead (now (s .entry)) i st r ⌝ }
 {
-    let style = crate::scan::style_of(st.command);
+    let style = crate::word::style_of(st.command);
     let e = upto(i, 512 - st.len, s.len());
     let mut j = i + plain_span(&s[i..e], style.escapes);
     while 2 <= e - j {

@@ -118,7 +118,7 @@ pub fn decode(frame: &[u8], block: &mut [u8]) -> Decoded
     if item.len != frame.len() {
         return Decoded::NotFrame;
     }
-    let style = crate::scan::style_of(item.command);
+    let style = crate::word::style_of(item.command);
     let from = crate::layout::first_line(frame);
     if 16544 <= block.len() {
         return Decoded::Length(put_records(frame, from, item.headers, style, block));

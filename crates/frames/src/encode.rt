@@ -148,7 +148,7 @@ fn settle(command: u32, block: &[u8], length: Declared, body: &[u8], room: usize
     if !length.valid {
         return Encoded::Malformed;
     }
-    let s = sum(block, crate::scan::style_of(command));
+    let s = sum(block, crate::word::style_of(command));
     let adds = adds_length(length, body.len());
     let lines = if adds { s.count + 1 } else { s.count };
     if 32 < lines {
@@ -157,7 +157,7 @@ fn settle(command: u32, block: &[u8], length: Declared, body: &[u8], room: usize
     if s.good < s.count {
         return Encoded::Unwritable(s.good);
     }
-    if crate::scan::most_of(command) < body.len() {
+    if crate::word::most_of(command) < body.len() {
         return Encoded::BadBody;
     }
     let start = length.start;

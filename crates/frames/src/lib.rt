@@ -1,6 +1,8 @@
 // Frames: the grammar of items, parsing, decoding and encoding.
-mod word; // the words of commands
-mod scan; // what of an item has been read, in numbers
+mod word; // the words of commands, and what a command asks
+mod state; // what of an item has been read, in numbers
+mod head; // the octets of a head
+mod scan; // one octet of an item
 mod valid; // whether a state is one that a run can leave
 mod ahead; // plain stretches
 mod pass; // octets passed at a go

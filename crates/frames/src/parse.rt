@@ -44,7 +44,7 @@ pub fn parse(octets: &[u8]) -> Parsed
         × Exact v1-2 (now (octets .entry)) (parsed-says r)
         ⌝ }
 {
-    let st = crate::run::run(octets, 0, crate::scan::nothing_read());
+    let st = crate::run::run(octets, 0, crate::state::nothing_read());
     let phase = st.phase;
     if phase == 14 {
         return Parsed::Complete(Item {

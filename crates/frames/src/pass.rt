@@ -3,7 +3,7 @@ ghost use mathlib.Core.Path.{_≡_};
 ghost use Prim.Native.Nat.{_≤_, _<_};
 ghost use lib.ListN.{length};
 ghost use Rattle.frames.specs.Scanning.{Valid, Passed};
-use crate::scan::Scan;
+use crate::state::Scan;
 
 // On through the word of a command.
 fn pass_word(s: &[u8], from: usize, begin: Scan) -> Scan
@@ -17,7 +17,7 @@ fn pass_word(s: &[u8], from: usize, begin: Scan) -> Scan
         if c == 0 {
             return st;
         }
-        st = crate::scan::to_phase(st, 2, c);
+        st = crate::state::to_phase(st, 2, c);
         i += 1;
     }
     st
@@ -33,10 +33,10 @@ fn pass_length_name(s: &[u8], from: usize, begin: Scan) -> Scan
     let mut st = begin;
     let mut i = from;
     while i < e {
-        if s[i] != crate::scan::length_letter(st.matched) {
+        if s[i] != crate::head::length_letter(st.matched) {
             return st;
         }
-        st = crate::scan::in_line(st, 5, st.matched + 1, st.size, st.len + 1);
+        st = crate::state::in_line(st, 5, st.matched + 1, st.size, st.len + 1);
         i += 1;
     }
     st
@@ -47,7 +47,7 @@ fn pass_digits(s: &[u8], from: usize, begin: Scan) -> Scan
     requires { ⌜ (from ≤ length (now s)) × Valid begin × (begin .phase ≡ 9) ⌝ }
     ensures { λ r. ⌜ Passed (now (s .entry)) from begin r ⌝ }
 {
-    let most = crate::scan::most_of(begin.command);
+    let most = crate::word::most_of(begin.command);
     let e = crate::ahead::upto(from, 512 - begin.len, s.len());
     let mut st = begin;
     let mut i = from;
@@ -60,7 +60,7 @@ fn pass_digits(s: &[u8], from: usize, begin: Scan) -> Scan
         if most < size {
             return st;
         }
-        st = crate::scan::in_line(st, 9, 0, size, st.len + 1);
+        st = crate::state::in_line(st, 9, 0, size, st.len + 1);
         i += 1;
     }
     st
@@ -72,7 +72,7 @@ fn pass_name(s: &[u8], i: usize, st: Scan) -> Scan
     ensures { λ r. ⌜ Passed (now (s .entry)) i st r ⌝ }
 {
     let e = crate::ahead::upto(i, 511 - st.len, s.len());
-    let k = crate::ahead::plain_span(&s[i..e], crate::scan::style_of(st.command).escapes);
+    let k = crate::ahead::plain_span(&s[i..e], crate::word::style_of(st.command).escapes);
     crate::ahead::skip(st, k)
 }
 
@@ -85,7 +85,7 @@ fn pass_body(s: &[u8], i: usize, st: Scan) -> Scan
         let e = crate::ahead::upto(i, st.size - st.len, s.len());
         return crate::ahead::skip(st, e - i);
     }
-    let e = crate::ahead::upto(i, crate::scan::most_of(st.command) - st.len, s.len());
+    let e = crate::ahead::upto(i, crate::word::most_of(st.command) - st.len, s.len());
     crate::ahead::skip(st, crate::ahead::body_span(&s[i..e]))
 }
 

@@ -119,7 +119,7 @@ pub(crate) fn put_frame(d: &mut [u8], command: u32, block: &[u8], adds: bool, bo
     ensures { λ _. ⌜ now (d .exit) ≡ image-of command (listed (entries (now (block .entry)))) adds (now (body .entry))
         ++ drop (length (image-of command (listed (entries (now (block .entry)))) adds (now (body .entry)))) (now (d .entry)) ⌝ }
 {
-    let style = crate::scan::style_of(command);
+    let style = crate::word::style_of(command);
     let mut at = put_word(d, command);
     at += put_lines(&mut d[at..], block, style);
     at += put_added(&mut d[at..], adds, body.len(), style);

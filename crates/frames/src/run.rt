@@ -3,7 +3,7 @@ ghost use mathlib.Core.Path.{_≡_};
 ghost use Prim.Native.Nat.{_≤_};
 ghost use lib.ListN.{length, drop};
 ghost use Rattle.frames.specs.Scanning.{Valid, scan};
-use crate::scan::Scan;
+use crate::state::Scan;
 
 // The state after the octets of s from a place on.
 pub(crate) fn run(s: &[u8], from: usize, begin: Scan) -> Scan

@@ -5,7 +5,7 @@ ghost use Prim.Native.Nat.{_≤_};
 ghost use lib.ListN.{length, getD};
 ghost use Rattle.frames.specs.Scanning.{word-of, Valid, len-max, line-open, outside};
 ghost use Rattle.frames.specs.Validity.{leasts, is-reached, is-small, is-so-far, is-clean};
-use crate::scan::Scan;
+use crate::state::Scan;
 
 // The longest line or body at a phase.
 fn len_max(phase: u8) -> usize
@@ -104,7 +104,7 @@ fn is_so_far(st: Scan) -> bool
 {
     let phase = st.phase;
     let reached = is_reached(st.command, st.at);
-    let most = crate::scan::most_of(st.command);
+    let most = crate::word::most_of(st.command);
     ((phase != 0) | ((st.command == 0) & (st.at == 0)))
         & ((phase != 2) | reached)
         & ((phase != 12) | (st.len <= most))

@@ -1,10 +1,11 @@
 // The words of commands, recognised octet by octet: of the octets read it is kept how many they are, and which command is the first
-// that begins with them.
+// that begins with them. Then what a command asks of its head and its body.
 ghost use mathlib.Core.Path.{_≡_};
 ghost use Prim.Native.Nat.{_≤_, _<_};
 ghost use lib.ListN.{getD};
-ghost use Rattle.frames.specs.Scanning.{word-of, next-command, whole-command, Reached};
+ghost use Rattle.frames.specs.Scanning.{word-of, next-command, whole-command, Reached, style-of, most-of};
 ghost use Rattle.frames.specs.Words.{packed};
+use headers::Style;
 
 // The letters of a command's word in one number, five bits each, the first lowest.
 fn letters(c: u32) -> u64
@@ -97,4 +98,33 @@ pub(crate) fn whole_command(c: u32, k: usize) -> u32
     ensures { λ r. ⌜ r ≡ whole-command c k ⌝ }
 {
     if letter(c, k) == 64 { c } else { 0 }
+}
+
+// What a command makes of header text.
+pub(crate) fn style_of(command: u32) -> Style
+    ensures { λ r. ⌜ r ≡ style-of command ⌝ }
+{
+    if command == 5 {
+        return Style { escapes: false };
+    }
+    if command == 6 {
+        return Style { escapes: false };
+    }
+    Style { escapes: true }
+}
+
+// The longest body of a command.
+pub(crate) fn most_of(command: u32) -> usize
+    ensures { λ r. ⌜ r ≡ most-of command ⌝ }
+{
+    if command == 8 {
+        return 32768;
+    }
+    if command == 9 {
+        return 32768;
+    }
+    if command == 12 {
+        return 32768;
+    }
+    0
 }

@@ -6,7 +6,7 @@ use lib.Dec.{ltb}
 use lib.ListN.{getD}
 use Rattle.frames.proofs.Gliding.{line-short}
 use Rattle.frames.proofs.Bounds.{bounded}
-use Rattle.frames.specs.declared.scan.Scan.{Scan}
+use Rattle.frames.specs.declared.state.Scan.{Scan}
 use borrow.Author.Needs.{needs}
 use Prim.Native.Nat.{_≤_, _-_, _+_}
 use native.Mathlib.Omega.{arith}

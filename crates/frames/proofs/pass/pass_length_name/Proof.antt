@@ -2,7 +2,7 @@
 use Rattle.frames.proofs.Passing.{Gone, passed-none, passed-step, name-on}
 use Rattle.frames.proofs.Gliding.{line-short}
 use Rattle.frames.proofs.Bounds.{bounded}
-use Rattle.frames.specs.declared.scan.Scan.{Scan}
+use Rattle.frames.specs.declared.state.Scan.{Scan}
 use borrow.Author.Needs.{needs}
 use Prim.Native.Nat.{_≤_, _-_, _+_}
 use native.Mathlib.Omega.{arith}

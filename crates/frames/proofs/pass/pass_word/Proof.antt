@@ -1,7 +1,7 @@
 -- `pass::pass_word` meets its contract: each octet is a step in the word.
 use Rattle.frames.proofs.Passing.{Gone, passed-none, passed-step, word-on}
 use Rattle.frames.proofs.Bounds.{bounded}
-use Rattle.frames.specs.declared.scan.Scan.{Scan}
+use Rattle.frames.specs.declared.state.Scan.{Scan}
 use borrow.Author.Needs.{needs}
 use Prim.Native.Nat.{_-_}
 use lib.ListN.{length}

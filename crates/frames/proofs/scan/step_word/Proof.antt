@@ -5,7 +5,7 @@ use Rattle.headers.proofs.Rows.{and-left, and-right}
 use mathlib.Core.Path.{_≡_, refl, sym, _∙_}
 use mathlib.Core.Bool.{Bool, true, false}
 use lib.Dec.{eqb}
-use Rattle.frames.specs.declared.scan.Scan.{Scan}
+use Rattle.frames.specs.declared.state.Scan.{Scan}
 use Rattle.frames.specs.Scanning.{scan-step, line-ends, Valid, Reached}
 use native.Mathlib.Omega.{arith}
 use borrow.Author.Needs.{needs}

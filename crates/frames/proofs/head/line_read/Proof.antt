@@ -1,8 +1,8 @@
--- `scan::line_read` meets its contract: the octet that ends the line, or a colon.
+-- `head::line_read` meets its contract: the octet that ends the line, or a colon.
 use borrow.Author.Tests.{eq-eqb, ne-eqb}
 use borrow.Author.Needs.{needs}
-use Rattle.frames.proofs.scan.line_read.Statement.{statement}
-use Rattle.frames.proofs.scan.line_read.Tie as tie
+use Rattle.frames.proofs.head.line_read.Statement.{statement}
+use Rattle.frames.proofs.head.line_read.Tie as tie
 
 add-in-head : tie.Need-add-in-head
 add-in-head c = search needs

@@ -1,10 +1,10 @@
--- `scan::length_letter` meets its contract: each letter is computed.
+-- `head::length_letter` meets its contract: each letter is computed.
 use native.Mathlib.Omega.{arith}
 use mathlib.Core.Path.{_≡_}
 use Rattle.frames.proofs.Words.{none-past}
 use borrow.Author.Needs.{needs}
-use Rattle.frames.proofs.scan.length_letter.Statement.{statement}
-use Rattle.frames.proofs.scan.length_letter.Tie as tie
+use Rattle.frames.proofs.head.length_letter.Statement.{statement}
+use Rattle.frames.proofs.head.length_letter.Tie as tie
 
 returns : tie.Need-returns
 returns c = search needs

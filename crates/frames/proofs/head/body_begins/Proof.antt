@@ -1,7 +1,7 @@
--- `scan::body_begins` meets its contract: with a length, or without.
+-- `head::body_begins` meets its contract: with a length, or without.
 use borrow.Author.Needs.{needs}
-use Rattle.frames.proofs.scan.body_begins.Statement.{statement}
-use Rattle.frames.proofs.scan.body_begins.Tie as tie
+use Rattle.frames.proofs.head.body_begins.Statement.{statement}
+use Rattle.frames.proofs.head.body_begins.Tie as tie
 
 in-head-requires : tie.Need-in-head-requires
 in-head-requires c κs = search needs

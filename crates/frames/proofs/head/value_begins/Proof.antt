@@ -1,8 +1,8 @@
--- `scan::value_begins` meets its contract: the first content-length, or another value.
+-- `head::value_begins` meets its contract: the first content-length, or another value.
 use borrow.Author.Tests.{eq-eqb, ne-eqb}
 use borrow.Author.Needs.{needs}
-use Rattle.frames.proofs.scan.value_begins.Statement.{statement}
-use Rattle.frames.proofs.scan.value_begins.Tie as tie
+use Rattle.frames.proofs.head.value_begins.Statement.{statement}
+use Rattle.frames.proofs.head.value_begins.Tie as tie
 
 add-in-line : tie.Need-add-in-line
 add-in-line c = search needs

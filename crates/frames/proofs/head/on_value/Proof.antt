@@ -1,4 +1,4 @@
--- `scan::on_value` meets its contract: the octet is a stop, a backslash or itself, and the line is short enough or not.
+-- `head::on_value` meets its contract: the octet is a stop, a backslash or itself, and the line is short enough or not.
 use mathlib.Core.Path.{refl, _≡_}
 use Rattle.headers.specs.Text.{fresh, back, into, stop, reads}
 use Rattle.frames.specs.Scanning.{style-of, on-value}
@@ -6,8 +6,8 @@ use Rattle.headers.specs.declared.text.Field.the-variants.{Value as in-value}
 use Rattle.frames.proofs.Steps.{read-stop, read-open, read-plain, short-value, long-value}
 use borrow.Author.Tests.{eq-eqb, ne-eqb}
 use borrow.Author.Needs.{needs}
-use Rattle.frames.proofs.scan.on_value.Statement.{statement}
-use Rattle.frames.proofs.scan.on_value.Tie as tie
+use Rattle.frames.proofs.head.on_value.Statement.{statement}
+use Rattle.frames.proofs.head.on_value.Tie as tie
 
 -- what the octet does, by the tests that led there
 stopped : (c : tie.Then1) → let a = c .before .before .before .args in reads (style-of (a .st .command)) in-value fresh (a .x) ≡ stop

@@ -1,11 +1,11 @@
--- `scan::on_digit` meets its contract: a digit, and a number that is not too large.
+-- `head::on_digit` meets its contract: a digit, and a number that is not too large.
 use mathlib.Core.Path.{_≡_}
 use mathlib.Core.Bool.{true}
 use Rattle.headers.specs.Numbers.{is-digit}
 use borrow.Author.Tests.{le-leb, lt-leb}
 use borrow.Author.Needs.{needs}
-use Rattle.frames.proofs.scan.on_digit.Statement.{statement}
-use Rattle.frames.proofs.scan.on_digit.Tie as tie
+use Rattle.frames.proofs.head.on_digit.Statement.{statement}
+use Rattle.frames.proofs.head.on_digit.Tie as tie
 
 digit : (c : tie.Else2) → is-digit (c .before .before .args .x) ≡ true
 digit c = simp (le-leb _ _ (c .before .if1 .left), le-leb _ _ (c .if2 .left))

@@ -1,7 +1,7 @@
--- `scan::most_of` meets its contract: each test that led there picks the limit.
+-- `word::most_of` meets its contract: each test that led there picks the limit.
 use borrow.Author.Tests.{eq-eqb, ne-eqb}
-use Rattle.frames.proofs.scan.most_of.Statement.{statement}
-use Rattle.frames.proofs.scan.most_of.Tie as tie
+use Rattle.frames.proofs.word.most_of.Statement.{statement}
+use Rattle.frames.proofs.word.most_of.Tie as tie
 
 returns : tie.Need-returns
 returns c = simp (eq-eqb _ _ (c .if1 .taken))

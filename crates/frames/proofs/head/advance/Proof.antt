@@ -1,8 +1,8 @@
--- `scan::advance` meets its contract: the next letter of content-length, or another name for good.
+-- `head::advance` meets its contract: the next letter of content-length, or another name for good.
 use borrow.Author.Tests.{eq-eqb, ne-eqb, lt-ltb, le-ltb}
 use borrow.Author.Needs.{needs}
-use Rattle.frames.proofs.scan.advance.Statement.{statement}
-use Rattle.frames.proofs.scan.advance.Tie as tie
+use Rattle.frames.proofs.head.advance.Statement.{statement}
+use Rattle.frames.proofs.head.advance.Tie as tie
 
 length-letter-requires : tie.Need-length-letter-requires
 length-letter-requires c κs = search needs

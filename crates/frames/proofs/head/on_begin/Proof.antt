@@ -1,10 +1,10 @@
--- `scan::on_begin` meets its contract: each test that led there picks the next state.
+-- `head::on_begin` meets its contract: each test that led there picks the next state.
 use Rattle.frames.specs.Scanning.{on-begin}
 use Rattle.frames.proofs.Steps.{past-last}
 use borrow.Author.Tests.{eq-eqb, ne-eqb}
 use borrow.Author.Needs.{needs}
-use Rattle.frames.proofs.scan.on_begin.Statement.{statement}
-use Rattle.frames.proofs.scan.on_begin.Tie as tie
+use Rattle.frames.proofs.head.on_begin.Statement.{statement}
+use Rattle.frames.proofs.head.on_begin.Tie as tie
 
 body-begins-requires : tie.Need-body-begins-requires
 body-begins-requires c κs = search needs

@@ -1,7 +1,7 @@
--- `scan::style_of` meets its contract: each test that led there picks the style.
+-- `word::style_of` meets its contract: each test that led there picks the style.
 use borrow.Author.Tests.{eq-eqb, ne-eqb}
-use Rattle.frames.proofs.scan.style_of.Statement.{statement}
-use Rattle.frames.proofs.scan.style_of.Tie as tie
+use Rattle.frames.proofs.word.style_of.Statement.{statement}
+use Rattle.frames.proofs.word.style_of.Tie as tie
 
 returns : tie.Need-returns
 returns c = simp (eq-eqb _ _ (c .if1 .taken))

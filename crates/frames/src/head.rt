@@ -1,0 +1,233 @@
+// The steps for the octets of a head: of a name, of a value, of the first content-length, and of the line ends between them.
+ghost use mathlib.Core.Path.{_≡_};
+ghost use mathlib.Core.Bool.{true};
+ghost use Prim.Native.Nat.{_<_};
+ghost use lib.ListN.{getD};
+ghost use Rattle.headers.specs.Lines.{content-length};
+ghost use Rattle.headers.specs.Text.{fresh, back};
+ghost use Rattle.frames.specs.Scanning.{Bounded, advance, value-begins, body-begins, line-read, nameless-at};
+ghost use Rattle.frames.specs.Scanning.{on-name, on-begin, on-value, on-digit, on-length};
+use crate::state::Scan;
+use crate::state::in_head;
+use crate::state::in_line;
+use crate::state::refused;
+use crate::word::most_of;
+use crate::word::style_of;
+use headers::Field;
+
+// The octet of content-length at a place.
+pub(crate) fn length_letter(m: usize) -> u8
+    requires { ⌜ m < 14 ⌝ }
+    ensures { λ r. ⌜ r ≡ getD content-length m 0 ⌝ }
+{
+    match m {
+        0 => 99,
+        1 => 111,
+        2 => 110,
+        3 => 116,
+        4 => 101,
+        5 => 110,
+        6 => 116,
+        7 => 45,
+        8 => 108,
+        9 => 101,
+        10 => 110,
+        11 => 103,
+        12 => 116,
+        _ => 104,
+    }
+}
+
+// One octet more of a name against content-length.
+fn advance(m: usize, x: u8) -> usize
+    ensures { λ r. ⌜ r ≡ advance m x ⌝ }
+{
+    if m < 14 {
+        if x == length_letter(m) {
+            return m + 1;
+        }
+    }
+    15
+}
+
+// The empty line is read.
+pub(crate) fn body_begins(st: Scan) -> Scan
+    requires { ⌜ Bounded st ⌝ }
+    ensures { λ r. ⌜ r ≡ body-begins st ⌝ }
+{
+    if st.sized {
+        return in_head(st, 13, st.lines, st.sized, st.size);
+    }
+    in_head(st, 12, st.lines, st.sized, st.size)
+}
+
+// The colon is read.
+fn value_begins(st: Scan) -> Scan
+    requires { ⌜ Bounded st ⌝ }
+    ensures { λ r. ⌜ r ≡ value-begins st ⌝ }
+{
+    if st.sized {
+        return in_line(st, 7, 0, st.size, st.len + 1);
+    }
+    if st.matched == 14 {
+        return in_line(st, 9, 0, 0, st.len + 1);
+    }
+    in_line(st, 7, 0, st.size, st.len + 1)
+}
+
+pub(crate) fn on_name(st: Scan, x: u8) -> Scan
+    requires { ⌜ Bounded st ⌝ }
+    ensures { λ r. ⌜ r ≡ on-name st fresh x ⌝ }
+{
+    let style = style_of(st.command);
+    if headers::is_stop(style, Field::Name, x) {
+        if x != 58 {
+            return refused(st, 3);
+        }
+        if st.len == 0 {
+            return refused(st, 3);
+        }
+        return value_begins(st);
+    }
+    if headers::is_open(style, x) {
+        if st.len < 510 {
+            return in_line(st, 6, advance(st.matched, x), st.size, st.len + 1);
+        }
+        return refused(st, 4);
+    }
+    if st.len < 511 {
+        return in_line(st, 5, advance(st.matched, x), st.size, st.len + 1);
+    }
+    refused(st, 4)
+}
+
+pub(crate) fn on_name_back(st: Scan, x: u8) -> Scan
+    requires { ⌜ Bounded st ⌝ }
+    ensures { λ r. ⌜ r ≡ on-name st back x ⌝ }
+{
+    if !headers::is_letter(style_of(st.command), x) {
+        return refused(st, 3);
+    }
+    if st.len < 511 {
+        return in_line(st, 5, advance(st.matched, x), st.size, st.len + 1);
+    }
+    refused(st, 4)
+}
+
+// Whether no name can begin with the octet, or none at all.
+pub(crate) fn is_nameless(st: Scan, x: u8) -> bool
+    ensures { λ r. ⌜ r ≡ nameless-at st x ⌝ }
+{
+    ((x == 10) | (x == 13)) | ((x == 58) | (32 <= st.lines))
+}
+
+// An octet that begins no name where a line would begin.
+pub(crate) fn on_begin(st: Scan, x: u8) -> Scan
+    requires { ⌜ Bounded st × (nameless-at st x ≡ true) ⌝ }
+    ensures { λ r. ⌜ r ≡ on-begin st x ⌝ }
+{
+    if x == 10 {
+        return body_begins(st);
+    }
+    if x == 13 {
+        return in_head(st, 11, st.lines, st.sized, st.size);
+    }
+    if x == 58 {
+        return refused(st, 3);
+    }
+    refused(st, 5)
+}
+
+// The line is read.
+fn line_read(st: Scan, x: u8, sized: bool, size: usize) -> Scan
+    requires { ⌜ Bounded st ⌝ }
+    ensures { λ r. ⌜ r ≡ line-read st x sized size ⌝ }
+{
+    if x == 10 {
+        return in_head(st, 4, st.lines + 1, sized, size);
+    }
+    if x == 13 {
+        return in_head(st, 10, st.lines + 1, sized, size);
+    }
+    refused(st, 3)
+}
+
+pub(crate) fn on_value(st: Scan, x: u8) -> Scan
+    requires { ⌜ Bounded st ⌝ }
+    ensures { λ r. ⌜ r ≡ on-value st fresh x ⌝ }
+{
+    let style = style_of(st.command);
+    if headers::is_stop(style, Field::Value, x) {
+        if x == 58 {
+            return refused(st, 3);
+        }
+        return line_read(st, x, st.sized, st.size);
+    }
+    if headers::is_open(style, x) {
+        if st.len < 511 {
+            return in_line(st, 8, 0, st.size, st.len + 1);
+        }
+        return refused(st, 4);
+    }
+    if st.len < 512 {
+        return in_line(st, 7, 0, st.size, st.len + 1);
+    }
+    refused(st, 4)
+}
+
+pub(crate) fn on_value_back(st: Scan, x: u8) -> Scan
+    requires { ⌜ Bounded st ⌝ }
+    ensures { λ r. ⌜ r ≡ on-value st back x ⌝ }
+{
+    if !headers::is_letter(style_of(st.command), x) {
+        return refused(st, 3);
+    }
+    if st.len < 512 {
+        return in_line(st, 7, 0, st.size, st.len + 1);
+    }
+    refused(st, 4)
+}
+
+// An octet of the first content-length that is no stop and fits.
+fn on_digit(st: Scan, x: u8) -> Scan
+    requires { ⌜ Bounded st ⌝ }
+    ensures { λ r. ⌜ r ≡ on-digit st x ⌝ }
+{
+    if x < 48 {
+        return refused(st, 6);
+    }
+    if 57 < x {
+        return refused(st, 6);
+    }
+    let size = st.size * 10 + ((x - 48) as usize);
+    if most_of(st.command) < size {
+        return refused(st, 6);
+    }
+    in_line(st, 9, 0, size, st.len + 1)
+}
+
+pub(crate) fn on_length(st: Scan, x: u8) -> Scan
+    requires { ⌜ Bounded st ⌝ }
+    ensures { λ r. ⌜ r ≡ on-length st x ⌝ }
+{
+    let style = style_of(st.command);
+    if headers::is_stop(style, Field::Value, x) {
+        if x == 58 {
+            return refused(st, 3);
+        }
+        if st.len == 15 {
+            return refused(st, 6);
+        }
+        return line_read(st, x, true, st.size);
+    }
+    if headers::is_open(style, x) {
+        if st.len < 511 {
+            return on_digit(st, x);
+        }
+        return refused(st, 4);
+    }
+    if st.len < 512 {
+        return on_digit(st, x);
+    }
+    refused(st, 4)
+}

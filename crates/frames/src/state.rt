@@ -1,0 +1,131 @@
+// The state of a scan: what of an item has been read, in numbers, and the moves to the next one.
+ghost use mathlib.Core.Path.{_≡_};
+ghost use Rattle.frames.specs.Scanning.{Bounded, nothing-read, to-phase, in-head, in-line, frame-read, invalid};
+
+// How far an item is read. The small fields stand together at the end, so that the state has no gaps inside, which are slow to copy.
+pub struct Scan {
+    // Header lines read.
+    pub lines: usize,
+    // How many octets of content-length the name is, or 15 once it is another.
+    pub matched: usize,
+    // The content-length, or the number of its digits so far.
+    pub size: usize,
+    // The octets of the header line, its colon counted, or of the body.
+    pub len: usize,
+    // The octets of the item.
+    pub at: usize,
+    // Where the next octet stands: see specs/Scanning.antt.
+    pub phase: u8,
+    // Whether a content-length is declared.
+    pub sized: bool,
+    // The command's number; while its word is read, the first command that begins so.
+    pub command: u32,
+    // The number of the refusal.
+    pub code: u32,
+}
+
+// Before the first octet.
+pub(crate) fn nothing_read() -> Scan
+    ensures { λ r. ⌜ r ≡ nothing-read ⌝ }
+{
+    Scan {
+        phase: 0,
+        command: 0,
+        lines: 0,
+        matched: 0,
+        sized: false,
+        size: 0,
+        len: 0,
+        at: 0,
+        code: 0,
+    }
+}
+
+// One octet on, outside a head.
+pub(crate) fn to_phase(st: Scan, phase: u8, command: u32) -> Scan
+    requires { ⌜ Bounded st ⌝ }
+    ensures { λ r. ⌜ r ≡ to-phase st phase command ⌝ }
+{
+    Scan {
+        phase,
+        command,
+        lines: 0,
+        matched: 0,
+        sized: false,
+        size: 0,
+        len: 0,
+        at: st.at + 1,
+        code: 0,
+    }
+}
+
+// One octet on, in a head that has so many lines and that length.
+pub(crate) fn in_head(st: Scan, phase: u8, lines: usize, sized: bool, size: usize) -> Scan
+    requires { ⌜ Bounded st ⌝ }
+    ensures { λ r. ⌜ r ≡ in-head st phase lines sized size ⌝ }
+{
+    Scan {
+        phase,
+        command: st.command,
+        lines,
+        matched: 0,
+        sized,
+        size,
+        len: 0,
+        at: st.at + 1,
+        code: 0,
+    }
+}
+
+// One octet on, in a line or a body.
+pub(crate) fn in_line(st: Scan, phase: u8, matched: usize, size: usize, len: usize) -> Scan
+    requires { ⌜ Bounded st ⌝ }
+    ensures { λ r. ⌜ r ≡ in-line st phase matched size len ⌝ }
+{
+    Scan {
+        phase,
+        command: st.command,
+        lines: st.lines,
+        matched,
+        sized: st.sized,
+        size,
+        len,
+        at: st.at + 1,
+        code: 0,
+    }
+}
+
+// A frame is read.
+pub(crate) fn frame_read(st: Scan) -> Scan
+    requires { ⌜ Bounded st ⌝ }
+    ensures { λ r. ⌜ r ≡ frame-read st ⌝ }
+{
+    Scan {
+        phase: 15,
+        command: st.command,
+        lines: st.lines,
+        matched: 0,
+        sized: false,
+        size: 0,
+        len: st.len,
+        at: st.at + 1,
+        code: 0,
+    }
+}
+
+// The octet is refused.
+pub(crate) fn refused(st: Scan, code: u32) -> Scan
+    ensures { λ r. ⌜ r ≡ invalid st code ⌝ }
+{
+    Scan {
+        phase: 16,
+        command: 0,
+        lines: 0,
+        matched: 0,
+        sized: false,
+        size: 0,
+        len: 0,
+        at: st.at,
+        code,
+    }
+}
