@@ -31,5 +31,7 @@ pub mod Images
 pub mod Rewriting
 pub mod RoundTrips
 pub mod Writing
+pub mod Sums
+pub mod Settled
 pub mod Putting
 pub mod Packed

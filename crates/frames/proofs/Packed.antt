@@ -23,7 +23,7 @@ use Rattle.frames.specs.Answers.{packed-decode, unpacked-decode, packed-
 use Rattle.frames.proofs.Heads.{block-long}
 use Rattle.frames.proofs.Sizes.{item-short}
 use Rattle.frames.proofs.Images.{image-tree, encoded-call, encoded-reading}
-use Rattle.frames.proofs.Writing.{says-of, writes}
+use Rattle.frames.proofs.Settled.{says-of, writes}
 
 -- how many values an answer has
 abbrev count : Answer → ℕ

@@ -14,7 +14,8 @@ use Rattle.frames.specs.Encoding.{Call, adds-length, encode-answer, enco
 use Rattle.frames.specs.Writing.{image-of}
 use Rattle.frames.specs.Answers.{encoded-says}
 use Rattle.frames.specs.declared.encode.Encoded.{Encoded}
-use Rattle.frames.proofs.Writing.{Writes, writes, adds-told, stays}
+use Rattle.frames.proofs.Writing.{adds-told}
+use Rattle.frames.proofs.Settled.{Writes, writes, stays}
 use Rattle.headers.proofs.Settling.{acceptance}
 use borrow.Author.Needs.{needs}
 use Rattle.frames.proofs.encode.encode.Statement.{statement}

@@ -20,7 +20,9 @@ use Rattle.frames.specs.Encoding.{Call, first-length, first-unwritable, 
 use Rattle.frames.specs.Writing.{value-at, Sums, lengths-of}
 use Rattle.frames.specs.declared.encode.Totals.{Totals}
 use Rattle.frames.proofs.Validity.{most-small}
-use Rattle.frames.proofs.Writing.{entries-listed, entries-not, adds-told, sums-many, sums-few, sums-unwritable, sums-writable, says-told, unknown-command, known-command, total-of, settle-of, says-of, no-command, no-block, settles, refuses-52, refuses-53, refuses-54, refuses-55, refuses-56, accepts}
+use Rattle.frames.proofs.Writing.{entries-listed, entries-not, adds-told, says-told, total-of}
+use Rattle.frames.proofs.Sums.{sums-many, sums-few, sums-unwritable, sums-writable}
+use Rattle.frames.proofs.Settled.{unknown-command, known-command, settle-of, says-of, no-command, no-block, settles, refuses-52, refuses-53, refuses-54, refuses-55, refuses-56, accepts}
 use Rattle.frames.proofs.encode.settle.Statement.{statement}
 use Rattle.frames.proofs.encode.settle.Tie as tie
 

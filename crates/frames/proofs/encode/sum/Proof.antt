@@ -15,7 +15,8 @@ use Rattle.headers.specs.declared.line.LineLength.{LineLength}
 use Rattle.headers.specs.declared.text.Style.{Style}
 use Rattle.headers.proofs.Blocks.{Placed, placed, place-behind, told-entry, is-block-next}
 use Rattle.headers.proofs.Settling.{length-refused, length-accepted, divided}
-use Rattle.frames.proofs.Writing.{listed-next, listed-end, divided-at, Summing, sum-start, sum-line, sum-none, sum-end, sum-full}
+use Rattle.frames.proofs.Writing.{listed-next, listed-end, divided-at}
+use Rattle.frames.proofs.Sums.{Summing, sum-start, sum-line, sum-none, sum-end, sum-full}
 use Rattle.frames.proofs.encode.sum.Statement.{statement}
 use Rattle.frames.proofs.encode.sum.Tie as tie
 

@@ -6,7 +6,7 @@ use mathlib.Core.Path.{_≡_, refl, sym, _∙_, ap}
 use Rattle.frames.specs.Encoding.{Call, image-length, refusal}
 use Rattle.frames.specs.Answers.{encoded-says}
 use Rattle.frames.specs.declared.encode.Encoded.{Encoded}
-use Rattle.frames.proofs.Writing.{says-of}
+use Rattle.frames.proofs.Settled.{says-of}
 use Rattle.frames.proofs.Running.{octets-known}
 use Rattle.frames.proofs.Packed.{length-back, refusal-back, encode-small, index-small}
 use borrow.Author.Needs.{needs}
