@@ -12,7 +12,7 @@ use Rattle.headers.proofs.Rows.{and-no}
 use Rattle.frames.specs.declared.state.Scan.{Scan}
 use Rattle.frames.specs.Scanning.{style-of, most-of, next-command, to-phase, in-line, on-word, on-name, on-length, scan-step, scan, Valid, plain-in, skip, Ahead, Passed}
 use Rattle.frames.proofs.Upto.{upto-at}
-use Rattle.frames.proofs.Steps.{short-name, short-value}
+use Rattle.frames.proofs.Steps.{room, room-name}
 use Rattle.frames.proofs.Validity.{valid-step}
 use Rattle.frames.proofs.Gliding.{reads-plain}
 use Rattle.frames.proofs.Running.{scan-next}
@@ -77,11 +77,11 @@ module _ (st : Scan) (x : ℕ) where
   name-on e m h same =
       let y = style-of (st .command) in
       let t : plain-in (y .escapes) x ≡ true = rw same (letter-plain (y .escapes) (st .matched) m) in
-      simp (e, reads-plain y in-name x t, short-name 0 h refl, lt-ltb (st .matched) 14 m, eq-eqb x _ same)
+      simp (e, reads-plain y in-name x t, room-name 0 511 (st .len) refl, lt-ltb (st .len) 511 h, lt-ltb (st .matched) 14 m, eq-eqb x _ same)
 
   -- a digit of its value
   pub digit-on : st .phase ≡ 9 → st .len < 512 → 48 ≤ x → x ≤ 57 → st .size * 10 + (x - 48) ≤ most-of (st .command) → scan-step st x ≡ in-line st 9 0 (st .size * 10 + (x - 48)) (st .len + 1)
   unfolding scan-step on-length
   digit-on e h l u m =
       let y = style-of (st .command) in
-      simp (e, reads-plain y in-value x (digit-plain (y .escapes) x l u), short-value 0 h refl, le-leb 48 x l, le-leb x 57 u, le-leb (st .size * 10 + (x - 48)) (most-of (st .command)) m)
+      simp (e, reads-plain y in-value x (digit-plain (y .escapes) x l u), room 0 512 (st .len) refl, lt-ltb (st .len) 512 h, le-leb 48 x l, le-leb x 57 u, le-leb (st .size * 10 + (x - 48)) (most-of (st .command)) m)

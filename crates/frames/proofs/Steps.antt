@@ -1,10 +1,10 @@
 -- What an octet of header text does, by the tests that the code makes; and whether a line is still short enough. Assumes nothing.
 use mathlib.Core.Path.{_≡_, refl, sym, ap, _∙_}
 use mathlib.Core.Bool.{Bool, true, false, _&&_, _||_}
-use Prim.Native.Nat.{ℕ, _+_, _<_, _≤_}
+use Prim.Native.Nat.{ℕ, _+_}
 use native.Mathlib.Omega.{arith}
 use lib.Dec.{eqb, leb, ltb}
-use borrow.Author.Tests.{eqb-true, leb-true, leb-false, le-leb, lt-leb, lt-ltb, le-ltb}
+use borrow.Author.Tests.{eqb-true, leb-true, leb-false, ltb-true, ltb-false, le-leb, lt-leb, lt-ltb, le-ltb}
 use Rattle.headers.specs.Text.{fresh, back, into, bad, stop, of-escape, stops, opens, is-letter, reads}
 use Rattle.headers.specs.declared.text.Style.{Style}
 use Rattle.headers.specs.declared.text.Field.{Field}
@@ -31,19 +31,21 @@ module _ (f : Field) (x : ℕ) {s t : Style} (e : s ≡ t) where
   pub read-bad : {a : Bool} → a ≡ is-letter s x → a ≡ false → reads t f back x ≡ bad of-escape
   read-bad p q = rw (sym p ∙ q)
 
--- room for the octet, for o that it owes and for the colon; the same where the colon is read
-module _ (o : ℕ) {n m : ℕ} where
-  pub short-name : n < m → m + o ≡ 511 → leb (n + 1 + o + 1) 512 ≡ true
-  short-name h e = le-leb (n + 1 + o + 1) 512 (omega arith)
+-- room in the line, as the code tests it
+fits : (a m n : ℕ) → a + m ≡ n + 513 → leb a 512 ≡ ltb n m
+fits a m n e = by (ltb n m) refl
+  where
+    by : (t : Bool) → ltb n m ≡ t → leb a 512 ≡ t
+    by true h = le-leb a 512 (omega (arith, ltb-true n m h))
+    by false h = lt-leb a 512 (omega (arith, ltb-false n m h))
 
-  pub long-name : m ≤ n → m + o ≡ 511 → leb (n + 1 + o + 1) 512 ≡ false
-  long-name h e = lt-leb (n + 1 + o + 1) 512 (omega arith)
+-- for the octet and for o that it owes; and for the colon that is still to come
+module _ (o m n : ℕ) where
+  pub room : m + o ≡ 512 → leb (n + 1 + o) 512 ≡ ltb n m
+  room e = fits (n + 1 + o) m n (omega arith)
 
-  pub short-value : n < m → m + o ≡ 512 → leb (n + 1 + o) 512 ≡ true
-  short-value h e = le-leb (n + 1 + o) 512 (omega arith)
-
-  pub long-value : m ≤ n → m + o ≡ 512 → leb (n + 1 + o) 512 ≡ false
-  long-value h e = lt-leb (n + 1 + o) 512 (omega arith)
+  pub room-name : m + o ≡ 511 → leb (n + 1 + o + 1) 512 ≡ ltb n m
+  room-name e = fits (n + 1 + o + 1) m n (omega arith)
 
 -- where a line or an item begins: the octets that begin no name or no word, and the others
 module _ (st : Scan) (x : ℕ) where

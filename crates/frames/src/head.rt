@@ -1,11 +1,13 @@
 // The steps for the octets of a head: of a name, of a value, of the first content-length, and of the line ends between them.
 ghost use mathlib.Core.Path.{_≡_};
-ghost use mathlib.Core.Bool.{true};
-ghost use Prim.Native.Nat.{_<_};
+ghost use mathlib.Core.Bool.{true, cond};
+ghost use Prim.Native.Nat.{_+_, _<_};
+ghost use lib.Dec.{ltb};
 ghost use lib.ListN.{getD};
 ghost use Rattle.headers.specs.Lines.{content-length};
 ghost use Rattle.headers.specs.Text.{fresh, back};
-ghost use Rattle.frames.specs.Scanning.{Bounded, advance, value-begins, body-begins, line-read, nameless-at};
+ghost use Rattle.frames.specs.Refusals.{numbered, long-line};
+ghost use Rattle.frames.specs.Scanning.{Bounded, in-line, invalid, advance, value-begins, body-begins, line-read, nameless-at};
 ghost use Rattle.frames.specs.Scanning.{on-name, on-begin, on-value, on-digit, on-length};
 use crate::state::Scan;
 use crate::state::in_head;
@@ -75,6 +77,17 @@ fn value_begins(st: Scan) -> Scan
     in_line(st, 7, 0, st.size, st.len + 1)
 }
 
+// One octet more of a line, while it is shorter than that.
+fn grow(st: Scan, most: usize, phase: u8, matched: usize) -> Scan
+    requires { ⌜ Bounded st ⌝ }
+    ensures { λ r. ⌜ r ≡ cond (ltb (st .len) most) (in-line st phase matched (st .size) (st .len + 1)) (invalid st (numbered long-line)) ⌝ }
+{
+    if st.len < most {
+        return in_line(st, phase, matched, st.size, st.len + 1);
+    }
+    refused(st, 4)
+}
+
 pub(crate) fn on_name(st: Scan, x: u8) -> Scan
     requires { ⌜ Bounded st ⌝ }
     ensures { λ r. ⌜ r ≡ on-name st fresh x ⌝ }
@@ -89,16 +102,11 @@ pub(crate) fn on_name(st: Scan, x: u8) -> Scan
         }
         return value_begins(st);
     }
+    let matched = advance(st.matched, x);
     if headers::is_open(style, x) {
-        if st.len < 510 {
-            return in_line(st, 6, advance(st.matched, x), st.size, st.len + 1);
-        }
-        return refused(st, 4);
+        return grow(st, 510, 6, matched);
     }
-    if st.len < 511 {
-        return in_line(st, 5, advance(st.matched, x), st.size, st.len + 1);
-    }
-    refused(st, 4)
+    grow(st, 511, 5, matched)
 }
 
 pub(crate) fn on_name_back(st: Scan, x: u8) -> Scan
@@ -108,10 +116,7 @@ pub(crate) fn on_name_back(st: Scan, x: u8) -> Scan
     if !headers::is_letter(style_of(st.command), x) {
         return refused(st, 3);
     }
-    if st.len < 511 {
-        return in_line(st, 5, advance(st.matched, x), st.size, st.len + 1);
-    }
-    refused(st, 4)
+    grow(st, 511, 5, advance(st.matched, x))
 }
 
 // Whether no name can begin with the octet, or none at all.
@@ -164,15 +169,9 @@ pub(crate) fn on_value(st: Scan, x: u8) -> Scan
         return line_read(st, x, st.sized, st.size);
     }
     if headers::is_open(style, x) {
-        if st.len < 511 {
-            return in_line(st, 8, 0, st.size, st.len + 1);
-        }
-        return refused(st, 4);
+        return grow(st, 511, 8, 0);
     }
-    if st.len < 512 {
-        return in_line(st, 7, 0, st.size, st.len + 1);
-    }
-    refused(st, 4)
+    grow(st, 512, 7, 0)
 }
 
 pub(crate) fn on_value_back(st: Scan, x: u8) -> Scan
@@ -182,10 +181,7 @@ pub(crate) fn on_value_back(st: Scan, x: u8) -> Scan
     if !headers::is_letter(style_of(st.command), x) {
         return refused(st, 3);
     }
-    if st.len < 512 {
-        return in_line(st, 7, 0, st.size, st.len + 1);
-    }
-    refused(st, 4)
+    grow(st, 512, 7, 0)
 }
 
 // An octet of the first content-length that is no stop and fits.

@@ -3,8 +3,8 @@ use mathlib.Core.Path.{refl, _≡_}
 use Rattle.headers.specs.Text.{fresh, back, into, stop, reads}
 use Rattle.frames.specs.Scanning.{style-of, on-length}
 use Rattle.headers.specs.declared.text.Field.the-variants.{Value as in-value}
-use Rattle.frames.proofs.Steps.{read-stop, read-open, read-plain, short-value, long-value}
-use borrow.Author.Tests.{eq-eqb, ne-eqb}
+use Rattle.frames.proofs.Steps.{read-stop, read-open, read-plain, room}
+use borrow.Author.Tests.{eq-eqb, ne-eqb, lt-ltb, le-ltb}
 use borrow.Author.Needs.{needs}
 use Rattle.frames.proofs.head.on_length.Statement.{statement}
 use Rattle.frames.proofs.head.on_length.Tie as tie
@@ -54,28 +54,28 @@ on-digit-requires c κs = search needs
 
 returns-4 : tie.Need-returns-4
 unfolding on-length
-returns-4 c = rw (opened (c .before .before .before)) (simp (c .on-digit .ensures, short-value 1 (c .before .if5 .taken) refl))
+returns-4 c = rw (opened (c .before .before .before), room 1 511 _ refl, lt-ltb _ _ (c .before .if5 .taken)) (c .on-digit .ensures)
 
 refused-requires-3 : tie.Need-refused-requires-3
 refused-requires-3 c κs = search needs
 
 returns-5 : tie.Need-returns-5
 unfolding on-length
-returns-5 c = rw (opened (c .before .before .before)) (simp (c .refused3 .ensures, long-value 1 (c .before .if5 .left) refl))
+returns-5 c = rw (opened (c .before .before .before), room 1 511 _ refl, le-ltb _ _ (c .before .if5 .left)) (c .refused3 .ensures)
 
 on-digit-requires-2 : tie.Need-on-digit-requires-2
 on-digit-requires-2 c κs = search needs
 
 returns-6 : tie.Need-returns-6
 unfolding on-length
-returns-6 c = rw (plain (c .before .before .before)) (simp (c .on-digit2 .ensures, short-value 0 (c .before .if6 .taken) refl))
+returns-6 c = rw (plain (c .before .before .before), room 0 512 _ refl, lt-ltb _ _ (c .before .if6 .taken)) (c .on-digit2 .ensures)
 
 refused-requires-4 : tie.Need-refused-requires-4
 refused-requires-4 c κs = search needs
 
 returns-7 : tie.Need-returns-7
 unfolding on-length
-returns-7 c = rw (plain (c .before .before .before)) (simp (c .refused4 .ensures, long-value 0 (c .before .if6 .left) refl))
+returns-7 c = rw (plain (c .before .before .before), room 0 512 _ refl, le-ltb _ _ (c .before .if6 .left)) (c .refused4 .ensures)
 
 pub on-length-spec : {M : Type 1} → statement M
 on-length-spec =

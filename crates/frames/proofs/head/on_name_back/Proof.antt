@@ -3,7 +3,7 @@ use mathlib.Core.Path.{refl, _≡_}
 use Rattle.headers.specs.Text.{fresh, back, into, reads}
 use Rattle.frames.specs.Scanning.{style-of, on-name}
 use Rattle.headers.specs.declared.text.Field.the-variants.{Name as in-name}
-use Rattle.frames.proofs.Steps.{read-letter, read-bad, short-name, long-name}
+use Rattle.frames.proofs.Steps.{read-letter, read-bad, room-name}
 use borrow.Author.Tests.{not-true, not-false}
 use borrow.Author.Needs.{needs}
 use Rattle.frames.proofs.head.on_name_back.Statement.{statement}
@@ -29,22 +29,12 @@ returns c = rw (read-bad in-name _ (c .before .before .before .style-of .ensures
 advance-requires : tie.Need-advance-requires
 advance-requires c κs = search needs
 
-add-in-line : tie.Need-add-in-line
-add-in-line c = search needs
-
-in-line-requires : tie.Need-in-line-requires
-in-line-requires c κs = search needs
+grow-requires : tie.Need-grow-requires
+grow-requires c κs = search needs
 
 returns-2 : tie.Need-returns-2
 unfolding on-name
-returns-2 c = rw (lettered (c .before .before .before .before .before)) (simp (c .in-line .ensures, c .before .before .advance .ensures, short-name 0 (c .before .before .before .if2 .taken) refl))
-
-refused-requires-2 : tie.Need-refused-requires-2
-refused-requires-2 c κs = search needs
-
-returns-3 : tie.Need-returns-3
-unfolding on-name
-returns-3 c = rw (lettered (c .before .before .before)) (simp (c .refused2 .ensures, long-name 0 (c .before .if2 .left) refl))
+returns-2 c = rw (lettered (c .before .before), room-name 0 511 _ refl, ← c .before .advance .ensures) (c .grow .ensures)
 
 pub on-name-back-spec : {M : Type 1} → statement M
 on-name-back-spec =
@@ -55,8 +45,5 @@ on-name-back-spec =
     refused-requires
     returns
     advance-requires
-    add-in-line
-    in-line-requires
-    returns-2
-    refused-requires-2
-    returns-3)
+    grow-requires
+    returns-2)

@@ -3,7 +3,7 @@ use mathlib.Core.Path.{refl, _≡_}
 use Rattle.headers.specs.Text.{fresh, back, into, stop, reads}
 use Rattle.frames.specs.Scanning.{style-of, on-value}
 use Rattle.headers.specs.declared.text.Field.the-variants.{Value as in-value}
-use Rattle.frames.proofs.Steps.{read-stop, read-open, read-plain, short-value, long-value}
+use Rattle.frames.proofs.Steps.{read-stop, read-open, read-plain, room}
 use borrow.Author.Tests.{eq-eqb, ne-eqb}
 use borrow.Author.Needs.{needs}
 use Rattle.frames.proofs.head.on_value.Statement.{statement}
@@ -42,39 +42,19 @@ returns-2 c = rw (stopped (c .before .before)) (simp (c .line-read .ensures, ne-
 is-open-requires : tie.Need-is-open-requires
 is-open-requires c κs = search needs
 
-add-in-line : tie.Need-add-in-line
-add-in-line c = search needs
-
-in-line-requires : tie.Need-in-line-requires
-in-line-requires c κs = search needs
+grow-requires : tie.Need-grow-requires
+grow-requires c κs = search needs
 
 returns-3 : tie.Need-returns-3
 unfolding on-value
-returns-3 c = rw (opened (c .before .before .before .before)) (simp (c .in-line .ensures, short-value 1 (c .before .before .if4 .taken) refl))
+returns-3 c = rw (opened (c .before), room 1 511 _ refl) (c .grow .ensures)
 
-refused-requires-2 : tie.Need-refused-requires-2
-refused-requires-2 c κs = search needs
+grow-requires-2 : tie.Need-grow-requires-2
+grow-requires-2 c κs = search needs
 
 returns-4 : tie.Need-returns-4
 unfolding on-value
-returns-4 c = rw (opened (c .before .before .before)) (simp (c .refused2 .ensures, long-value 1 (c .before .if4 .left) refl))
-
-add-in-line-2 : tie.Need-add-in-line-2
-add-in-line-2 c = search needs
-
-in-line-requires-2 : tie.Need-in-line-requires-2
-in-line-requires-2 c κs = search needs
-
-returns-5 : tie.Need-returns-5
-unfolding on-value
-returns-5 c = rw (plain (c .before .before .before .before)) (simp (c .in-line2 .ensures, short-value 0 (c .before .before .if5 .taken) refl))
-
-refused-requires-3 : tie.Need-refused-requires-3
-refused-requires-3 c κs = search needs
-
-returns-6 : tie.Need-returns-6
-unfolding on-value
-returns-6 c = rw (plain (c .before .before .before)) (simp (c .refused3 .ensures, long-value 0 (c .before .if5 .left) refl))
+returns-4 c = rw (plain (c .before), room 0 512 _ refl) (c .grow2 .ensures)
 
 pub on-value-spec : {M : Type 1} → statement M
 on-value-spec =
@@ -87,13 +67,7 @@ on-value-spec =
     line-read-requires
     returns-2
     is-open-requires
-    add-in-line
-    in-line-requires
+    grow-requires
     returns-3
-    refused-requires-2
-    returns-4
-    add-in-line-2
-    in-line-requires-2
-    returns-5
-    refused-requires-3
-    returns-6)
+    grow-requires-2
+    returns-4)

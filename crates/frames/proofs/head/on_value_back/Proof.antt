@@ -3,7 +3,7 @@ use mathlib.Core.Path.{refl, _≡_}
 use Rattle.headers.specs.Text.{fresh, back, into, reads}
 use Rattle.frames.specs.Scanning.{style-of, on-value}
 use Rattle.headers.specs.declared.text.Field.the-variants.{Value as in-value}
-use Rattle.frames.proofs.Steps.{read-letter, read-bad, short-value, long-value}
+use Rattle.frames.proofs.Steps.{read-letter, read-bad, room}
 use borrow.Author.Tests.{not-true, not-false}
 use borrow.Author.Needs.{needs}
 use Rattle.frames.proofs.head.on_value_back.Statement.{statement}
@@ -26,22 +26,12 @@ returns : tie.Need-returns
 unfolding on-value
 returns c = rw (read-bad in-value _ (c .before .before .before .style-of .ensures) (c .before .before .is-letter .ensures) (not-true _ (c .before .if1 .taken))) (c .refused .ensures)
 
-add-in-line : tie.Need-add-in-line
-add-in-line c = search needs
-
-in-line-requires : tie.Need-in-line-requires
-in-line-requires c κs = search needs
+grow-requires : tie.Need-grow-requires
+grow-requires c κs = search needs
 
 returns-2 : tie.Need-returns-2
 unfolding on-value
-returns-2 c = rw (lettered (c .before .before .before .before)) (simp (c .in-line .ensures, short-value 0 (c .before .before .if2 .taken) refl))
-
-refused-requires-2 : tie.Need-refused-requires-2
-refused-requires-2 c κs = search needs
-
-returns-3 : tie.Need-returns-3
-unfolding on-value
-returns-3 c = rw (lettered (c .before .before .before)) (simp (c .refused2 .ensures, long-value 0 (c .before .if2 .left) refl))
+returns-2 c = rw (lettered (c .before), room 0 512 _ refl) (c .grow .ensures)
 
 pub on-value-back-spec : {M : Type 1} → statement M
 on-value-back-spec =
@@ -51,8 +41,5 @@ on-value-back-spec =
     is-letter-requires
     refused-requires
     returns
-    add-in-line
-    in-line-requires
-    returns-2
-    refused-requires-2
-    returns-3)
+    grow-requires
+    returns-2)
