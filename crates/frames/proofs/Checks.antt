@@ -9,13 +9,12 @@ use lib.Dec.{eqb, leb, ltb}
 use borrow.Author.Tests.{leb-true, ltb-true, eqb-true, lt-ltb, le-leb, eq-eqb, not-true}
 use Rattle.headers.specs.Rows.{begins}
 use Rattle.headers.proofs.Rows.{and-left, and-right}
-use Rattle.frames.proofs.Upto.{upto, upto-at}
 use Rattle.frames.specs.Open.{all}
 use Rattle.frames.specs.Parsing.{first}
 use Rattle.frames.specs.declared.state.Scan.{Scan}
 use Rattle.frames.specs.Scanning.{most-of, word-of, number-of, scan-step, scan, nothing-read, len-max, line-open, outside, Reached, Valid}
 use Rattle.frames.specs.Validity.{leasts, is-reached, is-valid}
-use Rattle.frames.proofs.Words.{short, small}
+use Rattle.frames.proofs.Words.{at, short, small}
 use Rattle.frames.proofs.Validity.{valid-step, valid-nothing}
 
 -- ---- a test that passes exactly where a fact holds
@@ -87,8 +86,7 @@ alike-eq false b h = sym (not-true b h)
 
 agree : (c k : ℕ) → c ≤ 15 → k ≤ 11 → is-reached c k ≡ by-word c k
 agree c k h l =
-    alike-eq (is-reached c k) (by-word c k)
-    (upto-at (λ i. alike (is-reached c i) (by-word c i)) 12 k (upto-at (λ d. upto (λ i. alike (is-reached d i) (by-word d i)) 12) 16 c refl (omega arith)) (omega arith))
+    alike-eq (is-reached c k) (by-word c k) (at (λ d i. alike (is-reached d i) (by-word d i)) refl c k h l)
 
 pub reached-decides : (c k : ℕ) → Decides (is-reached c k) (Reached c k)
 reached-decides c k =

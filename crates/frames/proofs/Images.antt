@@ -35,7 +35,7 @@ use Rattle.frames.specs.Open.{entry}
 use Rattle.frames.specs.Replies.{told, Complete}
 use Rattle.frames.specs.Decoding.{line-entries, head-entries, Reading}
 use Rattle.frames.specs.Encoding.{Call, command-of, is-length, first-length, adds-length, length-entry, added-entry, written-entries, written-lines, frame-image, says-length, settle-frame, encode-by, encode-answer, encode-image}
-use Rattle.frames.proofs.Commands.{each-test, each-le}
+use Rattle.frames.proofs.Commands.{each-le, word-octets}
 use Rattle.frames.proofs.Named.{declared-decoded, declared-named}
 
 -- ## The parse tree of what is written
@@ -269,14 +269,11 @@ added-small s es body =
     let one = line-small s (length-entry body) refl (digits-small (shortest (length body)) (shortest-digits (length body))) in
     cond-case (λ fs. every is-octet (written-lines s fs) ≡ true) (adds-length es body) (λ t. every-append is-octet (written-line s (length-entry body)) [] one refl) (λ t. refl)
 
-word-small : (c : Command) → every is-octet (word c) ≡ true
-word-small = each-test (λ c. every is-octet (word c)) refl
-
 module _ (ver : Version) (c : Command) (es : List Entry) where
   pub image-octets-small : (block body : List ℕ) → every is-octet block ≡ true → every is-octet body ≡ true → entries block ≡ some es → every is-octet (frame-image ver c es body) ≡ true
   image-octets-small block body o b e =
       let s = style ver c in
-      every-append is-octet (word c) _ (word-small c)
+      every-append is-octet (word c) _ (word-octets c)
       (every-append is-octet (written-lines s (written-entries es body)) _
       (lines-small s es (added-entry es body) (rw (entries-block block es o e .laid-out) o)
       (added-small s es body))

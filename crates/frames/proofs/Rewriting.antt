@@ -29,10 +29,10 @@ use Rattle.headers.proofs.Numerals.{numeral-octets}
 use Rattle.headers.proofs.Blocks.{entries-image}
 use Rattle.headers.proofs.Settling.{raw-long, can}
 use Rattle.frames.specs.Grammar.{Version, Command, number, word, style, lines-max, most, end, Line, line, lines, LineOk, declared, LengthOk, BodyOk, Head, head, Tree, frame, octets, Valid}
-use Rattle.frames.specs.Open.{all, entry}
+use Rattle.frames.specs.Open.{entry}
 use Rattle.frames.specs.Decoding.{line-entry, line-entries, head-entries, Reading}
 use Rattle.frames.specs.Encoding.{Call, command-of, first-length, adds-length, length-entry, added-entry, written-entries, frame-image, says-length, settle-frame, encode-answer, encode-image}
-use Rattle.frames.proofs.Commands.{each}
+use Rattle.frames.proofs.Commands.{each-same}
 use Rattle.frames.proofs.Named.{declared-decoded, declared-named}
 use Rattle.frames.proofs.Images.{raw-of, image-head, image-octets, length-line, raw-length, decode-digits, accepted-checks, image-valid, image-octets-small, image-entries}
 
@@ -42,12 +42,8 @@ call-of ver h b = record { command = number (h .command); block = image (head-en
 
 -- ## The number of a command is that command's
 
-alike : {A : Type 0} (f g : Command → A) (cs : List Command) → map f cs ≡ map g cs → All (λ c. f c ≡ g c) cs
-alike f g [] e = tt
-alike f g (c ∷ cs) e = ((cc), alike f g cs (cc))
-
 command-again : (c : Command) → command-of (number c) ≡ some c
-command-again = each (λ c. command-of (number c) ≡ some c) (alike (λ c. command-of (number c)) some all refl)
+command-again = each-same (λ c. command-of (number c)) some refl
 
 -- ## The entries of valid lines
 

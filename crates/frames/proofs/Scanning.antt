@@ -17,7 +17,7 @@ use Rattle.headers.specs.declared.text.Field.the-variants.{Name as in-name, Val
 use Rattle.headers.proofs.Rows.{and-left, and-right, same-eq, cond-case, every-right, every-last, empty-eqb, begins-snoc, begins-front, front-of}
 use Rattle.headers.proofs.Numerals.{decimal-none, decimal-snoc}
 use Rattle.frames.specs.Machine.{Next, go, done, refuse, Run, run, going, finished, stopped, after}
-use Rattle.frames.specs.Grammar.{Version, Shaped, Command, number, word, style, most, Head, Tree, heart-beat, frame, octets, declared, head, end, ABORT, ACK, BEGIN, COMMIT, CONNECT, CONNECTED, DISCONNECT, ERROR, MESSAGE, NACK, RECEIPT, SEND, STOMP, SUBSCRIBE, UNSUBSCRIBE}
+use Rattle.frames.specs.Grammar.{Version, Shaped, Command, number, word, style, most, Head, Tree, heart-beat, frame, octets, declared, head, end}
 use Rattle.frames.specs.Open.{Open, start, heart-beat-13, command, command-13, begin, name, value, line-13, blank-13, body, all, opened, entry, unseen, watched, partial-amount, so-far, Ok, ValueOk}
 use Rattle.frames.specs.Replies.{Reply, told}
 use Rattle.frames.specs.Replies as reply
@@ -25,6 +25,7 @@ use Rattle.frames.specs.Parsing.{first, word-end, word-next, at-word, at
 use Rattle.frames.specs.declared.state.Scan.{Scan}
 use Rattle.frames.specs.Scanning.{number-of, word-of, next-command, whole-command, advance, name-phase, value-phase, on-word, on-start, on-name-by, on-name, on-begin, on-value-by, on-value, on-length-by, on-length, on-body, on-counted, scan-step, scan, nothing-read, scan-reply, invalid}
 use Rattle.frames.proofs.Sound.{sound, declared-append, first-some}
+use Rattle.frames.proofs.Commands.{each-same}
 use Rattle.frames.proofs.Reach.{finds}
 use Rattle.frames.proofs.Recognizing.{exact-run}
 use Rattle.frames.proofs.Recognizer.{After, Says}
@@ -83,10 +84,10 @@ seen-cond n false a b = refl
 -- ---- commands
 
 pub word-number : (c : Command) → word-of (number c) ≡ word c
-word-number = elim [ ABORT ↦ refl | ACK ↦ refl | BEGIN ↦ refl | COMMIT ↦ refl | CONNECT ↦ refl | CONNECTED ↦ refl | DISCONNECT ↦ refl | ERROR ↦ refl | MESSAGE ↦ refl | NACK ↦ refl | RECEIPT ↦ refl | SEND ↦ refl | STOMP ↦ refl | SUBSCRIBE ↦ refl | UNSUBSCRIBE ↦ refl ]
+word-number = each-same (λ c. word-of (number c)) word refl
 
 pub some-number : (c : Command) → eqb (number c) 0 ≡ false
-some-number = elim [ ABORT ↦ refl | ACK ↦ refl | BEGIN ↦ refl | COMMIT ↦ refl | CONNECT ↦ refl | CONNECTED ↦ refl | DISCONNECT ↦ refl | ERROR ↦ refl | MESSAGE ↦ refl | NACK ↦ refl | RECEIPT ↦ refl | SEND ↦ refl | STOMP ↦ refl | SUBSCRIBE ↦ refl | UNSUBSCRIBE ↦ refl ]
+some-number = each-same (λ c. eqb (number c) 0) (λ c. false) refl
 
 -- the octets of a command that stand read, from the command's number and how many they are
 word-read : (ver : Version) (raw : List ℕ) → Ok ver (command raw) → take (length raw) (word-of (number-of (first (begins raw) all))) ≡ raw

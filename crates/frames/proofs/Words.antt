@@ -22,10 +22,10 @@ use Rattle.frames.proofs.Scanning.{word-number}
 
 -- ---- tests at each number, and at each command and place
 
-abbrev everywhere : (ℕ → ℕ → Bool) → Bool
+abbrev pub everywhere : (ℕ → ℕ → Bool) → Bool
 everywhere f = upto (λ c. upto (f c) 12) 16
 
-at : (f : ℕ → ℕ → Bool) → everywhere f ≡ true → (c k : ℕ) → c ≤ 15 → k ≤ 11 → f c k ≡ true
+pub at : (f : ℕ → ℕ → Bool) → everywhere f ≡ true → (c k : ℕ) → c ≤ 15 → k ≤ 11 → f c k ≡ true
 at f t c k h l = upto-at (f c) 12 k (upto-at (λ d. upto (f d) 12) 16 c t (omega arith)) (omega arith)
 
 -- a test that passes wherever another does
