@@ -104,6 +104,27 @@ module _ (s : Scan) (o : ordinary (s .phase) ≡ true) where
         unsized = never 12 refl;
       }
 
+-- a state that keeps a command and a place alone
+bare-valid : (p c a : ℕ) → p < 16 → line-open p ≡ 0 → a ≤ outside p → (p ≡ 0 → (c ≡ 0) × (a ≡ 0)) → (p ≡ 2 → Reached c a)
+    → Valid (record { phase = p; command = c; lines = 0; matched = 0; sized = false; size = 0; len = 0; at = a; code = 0 })
+bare-valid p c a k f h n r =
+    record {
+      known = omega arith;
+      few = omega arith;
+      short = omega arith;
+      small = omega arith;
+      place = omega arith;
+      fresh-word = n;
+      word-so-far = r;
+      body-so-far = λ e. omega arith;
+      counted-so-far = λ e. omega arith;
+      no-lines = λ h. refl;
+      clean-code = λ h. refl;
+      clean-match = λ h. refl;
+      clean-size = λ e n. refl;
+      unsized = λ e. refl;
+    }
+
 module _ (st : Scan) where
   -- refused: the octets so far are few enough
   valid-refused : (k : ℕ) → st .at ≤ 49231 → Valid (invalid st k)
@@ -113,23 +134,7 @@ module _ (st : Scan) where
   valid-to p c o k f h = bounded-valid (to-phase st p c) o (omega arith) (omega arith) (omega arith) (omega arith) (omega arith) (λ h. refl) (λ h. refl) (λ e n. refl) (λ h. refl)
 
   valid-word : (c : ℕ) → Reached c (st .at + 1) → st .at + 1 ≤ 11 → Valid (to-phase st 2 c)
-  valid-word c r h =
-      record {
-        known = omega arith;
-        few = omega arith;
-        short = omega arith;
-        small = omega arith;
-        place = omega arith;
-        fresh-word = λ e. absurd (omega arith);
-        word-so-far = λ e. r;
-        body-so-far = λ e. absurd (omega arith);
-        counted-so-far = λ e. absurd (omega arith);
-        no-lines = λ h. refl;
-        clean-code = λ h. refl;
-        clean-match = λ h. refl;
-        clean-size = λ e n. refl;
-        unsized = λ e. absurd (omega arith);
-      }
+  valid-word c r h = bare-valid 2 c (st .at + 1) (omega arith) refl (omega arith) (λ e. absurd (omega arith)) (λ e. r)
 
   valid-head : (p n : ℕ) (z : Bool) (s : ℕ) → ordinary p ≡ true → p < 16 → 3 < p → line-open p ≡ 0 → n ≤ 32 → s ≤ 32768 → st .at + 1 ≤ outside p + 514 * n → (z ≡ false → s ≡ 0) → Valid (in-head st p n z s)
   valid-head p n z s o k g f h l w u = bounded-valid (in-head st p n z s) o (omega arith) (omega arith) (omega arith) l (omega arith) (λ h. refl) (λ h. refl) (λ e n. u e) (λ h. absurd (omega arith))
@@ -287,20 +292,4 @@ module _ (st : Scan) (v : Valid st) where
 
 -- before the first octet
 pub valid-nothing : Valid nothing-read
-valid-nothing =
-    record {
-      known = omega arith;
-      few = omega arith;
-      short = omega arith;
-      small = omega arith;
-      place = omega arith;
-      fresh-word = λ e. (refl, refl);
-      word-so-far = λ e. absurd (omega arith);
-      body-so-far = λ e. absurd (omega arith);
-      counted-so-far = λ e. absurd (omega arith);
-      no-lines = λ h. refl;
-      clean-code = λ h. refl;
-      clean-match = λ h. refl;
-      clean-size = λ e n. refl;
-      unsized = λ e. refl;
-    }
+valid-nothing = bare-valid 0 0 0 (omega arith) refl (omega arith) (λ e. (refl, refl)) (λ e. absurd (omega arith))
