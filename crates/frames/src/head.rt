@@ -184,11 +184,14 @@ pub(crate) fn on_value_back(st: Scan, x: u8) -> Scan
     grow(st, 512, 7, 0)
 }
 
-// An octet of the first content-length that is no stop and fits.
-fn on_digit(st: Scan, x: u8) -> Scan
+// An octet of the first content-length that is no stop, while the line is shorter than that.
+fn on_digit(st: Scan, most: usize, x: u8) -> Scan
     requires { ⌜ Bounded st ⌝ }
-    ensures { λ r. ⌜ r ≡ on-digit st x ⌝ }
+    ensures { λ r. ⌜ r ≡ cond (ltb (st .len) most) (on-digit st x) (invalid st (numbered long-line)) ⌝ }
 {
+    if most <= st.len {
+        return refused(st, 4);
+    }
     if x < 48 {
         return refused(st, 6);
     }
@@ -217,13 +220,7 @@ pub(crate) fn on_length(st: Scan, x: u8) -> Scan
         return line_read(st, x, true, st.size);
     }
     if headers::is_open(style, x) {
-        if st.len < 511 {
-            return on_digit(st, x);
-        }
-        return refused(st, 4);
+        return on_digit(st, 511, x);
     }
-    if st.len < 512 {
-        return on_digit(st, x);
-    }
-    refused(st, 4)
+    on_digit(st, 512, x)
 }

@@ -4,7 +4,7 @@ use Rattle.headers.specs.Text.{fresh, back, into, stop, reads}
 use Rattle.frames.specs.Scanning.{style-of, on-length}
 use Rattle.headers.specs.declared.text.Field.the-variants.{Value as in-value}
 use Rattle.frames.proofs.Steps.{read-stop, read-open, read-plain, room}
-use borrow.Author.Tests.{eq-eqb, ne-eqb, lt-ltb, le-ltb}
+use borrow.Author.Tests.{eq-eqb, ne-eqb}
 use borrow.Author.Needs.{needs}
 use Rattle.frames.proofs.head.on_length.Statement.{statement}
 use Rattle.frames.proofs.head.on_length.Tie as tie
@@ -54,28 +54,14 @@ on-digit-requires c κs = search needs
 
 returns-4 : tie.Need-returns-4
 unfolding on-length
-returns-4 c = rw (opened (c .before .before .before), room 1 511 _ refl, lt-ltb _ _ (c .before .if5 .taken)) (c .on-digit .ensures)
-
-refused-requires-3 : tie.Need-refused-requires-3
-refused-requires-3 c κs = search needs
-
-returns-5 : tie.Need-returns-5
-unfolding on-length
-returns-5 c = rw (opened (c .before .before .before), room 1 511 _ refl, le-ltb _ _ (c .before .if5 .left)) (c .refused3 .ensures)
+returns-4 c = rw (opened (c .before), room 1 511 _ refl) (c .on-digit .ensures)
 
 on-digit-requires-2 : tie.Need-on-digit-requires-2
 on-digit-requires-2 c κs = search needs
 
-returns-6 : tie.Need-returns-6
+returns-5 : tie.Need-returns-5
 unfolding on-length
-returns-6 c = rw (plain (c .before .before .before), room 0 512 _ refl, lt-ltb _ _ (c .before .if6 .taken)) (c .on-digit2 .ensures)
-
-refused-requires-4 : tie.Need-refused-requires-4
-refused-requires-4 c κs = search needs
-
-returns-7 : tie.Need-returns-7
-unfolding on-length
-returns-7 c = rw (plain (c .before .before .before), room 0 512 _ refl, le-ltb _ _ (c .before .if6 .left)) (c .refused4 .ensures)
+returns-5 c = rw (plain (c .before), room 0 512 _ refl) (c .on-digit2 .ensures)
 
 pub on-length-spec : {M : Type 1} → statement M
 on-length-spec =
@@ -92,9 +78,5 @@ on-length-spec =
     is-open-requires
     on-digit-requires
     returns-4
-    refused-requires-3
-    returns-5
     on-digit-requires-2
-    returns-6
-    refused-requires-4
-    returns-7)
+    returns-5)
