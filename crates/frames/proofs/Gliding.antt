@@ -21,7 +21,7 @@ use Rattle.headers.specs.declared.text.Field.the-variants.{Name as in-name, Val
 use Rattle.headers.proofs.Rows.{cond-case, and-left, and-right, every-step, every-end}
 use Rattle.frames.specs.declared.state.Scan.{Scan}
 use Rattle.frames.specs.Scanning.{style-of, most-of, in-line, on-value, on-name, on-body, on-counted, scan-step, scan, len-max, Valid, span, plain-in, not-zero, skip, Ahead}
-use Rattle.frames.proofs.Steps.{read-open, read-letter}
+use Rattle.frames.proofs.Steps.{read-open, is-lettered}
 use Rattle.frames.proofs.Validity.{most-small}
 
 -- ---- The front of a row that passes a test
@@ -270,7 +270,7 @@ module _ (st : Scan) (v : Valid st) where
   lettered : {y : Style} (x : ℕ) → y ≡ style-of (st .command) → st .phase ≡ 7 → st .len + 2 ≤ 512 → is-letter y x ≡ true → scan-step (in-line st 8 0 (st .size) (st .len + 1)) x ≡ skip 2 st
   unfolding scan-step on-value
   lettered x same e h t =
-      simp (e, read-letter in-value x same refl t, le-leb (st .len + 2) line-max (omega arith), v .clean-match (omega arith), v .clean-code (omega arith), add-assoc)
+      simp (e, is-lettered x same refl ∙ t, le-leb (st .len + 2) line-max (omega arith), v .clean-match (omega arith), v .clean-code (omega arith), add-assoc)
 
   ahead-escape : {y : Style} (l : List ℕ) (i : ℕ) → y ≡ style-of (st .command) → st .phase ≡ 7 → st .len + 2 ≤ 512 → i + 2 ≤ length l
       → opens y (getD l i 0) ≡ true → is-letter y (getD l (i + 1) 0) ≡ true → Ahead l i st 2

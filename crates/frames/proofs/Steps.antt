@@ -1,6 +1,6 @@
 -- What an octet of header text does, by the tests that the code makes; and whether a line is still short enough. Assumes nothing.
 use mathlib.Core.Path.{_≡_, refl, sym, ap, _∙_}
-use mathlib.Core.Bool.{Bool, true, false, _&&_, _||_}
+use mathlib.Core.Bool.{Bool, true, false, cond, _&&_, _||_}
 use Prim.Native.Nat.{ℕ, _+_}
 use native.Mathlib.Omega.{arith}
 use lib.Dec.{eqb, leb, ltb}
@@ -11,7 +11,7 @@ use Rattle.headers.specs.declared.text.Field.{Field}
 use Rattle.headers.proofs.Rows.{or-false-left, or-false-right}
 use Rattle.frames.specs.declared.state.Scan.{Scan}
 use Rattle.frames.specs.Grammar.{lines-max}
-use Rattle.frames.specs.Scanning.{on-start, on-word, on-begin, on-name, scan-step, line-ends, nameless-at}
+use Rattle.frames.specs.Scanning.{style-of, advance, in-line, invalid, on-start, on-word, on-begin, on-name-by, on-name, on-value-by, on-value, scan-step, line-ends, nameless-at}
 
 -- an octet where a character begins: a stop, the backslash of an escape, or itself
 module _ (f : Field) (x : ℕ) {s t : Style} (e : s ≡ t) where
@@ -24,12 +24,9 @@ module _ (f : Field) (x : ℕ) {s t : Style} (e : s ≡ t) where
   pub read-plain : {a b : Bool} → a ≡ stops s f x → a ≡ false → b ≡ opens s x → b ≡ false → reads t f fresh x ≡ into fresh
   read-plain p q u v = rw (sym p ∙ q, ap (λ r. opens r x) (sym e) ∙ sym u ∙ v)
 
-  -- an octet after a backslash
-  pub read-letter : {a : Bool} → a ≡ is-letter s x → a ≡ true → reads t f back x ≡ into fresh
-  read-letter p q = rw (sym p ∙ q)
-
-  pub read-bad : {a : Bool} → a ≡ is-letter s x → a ≡ false → reads t f back x ≡ bad of-escape
-  read-bad p q = rw (sym p ∙ q)
+-- an octet after a backslash: the letter of an escape, or not
+pub is-lettered : (x : ℕ) {s t : Style} → s ≡ t → {a : Bool} → a ≡ is-letter s x → is-letter t x ≡ a
+is-lettered x e p = ap (λ r. is-letter r x) (sym e) ∙ sym p
 
 -- room in the line, as the code tests it
 fits : (a m n : ℕ) → a + m ≡ n + 513 → leb a 512 ≡ ltb n m
@@ -46,6 +43,27 @@ module _ (o m n : ℕ) where
 
   pub room-name : m + o ≡ 511 → leb (n + 1 + o + 1) 512 ≡ ltb n m
   room-name e = fits (n + 1 + o + 1) m n (omega arith)
+
+-- an octet after a backslash, as the code takes it: t where it is the letter of an escape
+module _ (st : Scan) (x : ℕ) where
+  abbrev after-back : Bool → ℕ → ℕ → ℕ → Scan
+  after-back t most p m = cond t (cond (ltb (st .len) most) (in-line st p m (st .size) (st .len + 1)) (invalid st 4)) (invalid st 3)
+
+  pub value-back : on-value st back x ≡ after-back (is-letter (style-of (st .command)) x) 512 7 0
+  unfolding on-value
+  value-back = by (is-letter (style-of (st .command)) x)
+    where
+      by : (t : Bool) → on-value-by st x (cond t (into fresh) (bad of-escape)) ≡ after-back t 512 7 0
+      by true = rw (room 0 512 (st .len) refl)
+      by false = refl
+
+  pub name-back : on-name st back x ≡ after-back (is-letter (style-of (st .command)) x) 511 5 (advance (st .matched) x)
+  unfolding on-name
+  name-back = by (is-letter (style-of (st .command)) x)
+    where
+      by : (t : Bool) → on-name-by st x (cond t (into fresh) (bad of-escape)) ≡ after-back t 511 5 (advance (st .matched) x)
+      by true = rw (room-name 0 511 (st .len) refl)
+      by false = refl
 
 -- where a line or an item begins: the octets that begin no name or no word, and the others
 module _ (st : Scan) (x : ℕ) where

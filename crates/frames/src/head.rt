@@ -5,9 +5,9 @@ ghost use Prim.Native.Nat.{_+_, _<_};
 ghost use lib.Dec.{ltb};
 ghost use lib.ListN.{getD};
 ghost use Rattle.headers.specs.Lines.{content-length};
-ghost use Rattle.headers.specs.Text.{fresh, back};
-ghost use Rattle.frames.specs.Refusals.{numbered, long-line};
-ghost use Rattle.frames.specs.Scanning.{Bounded, in-line, invalid, advance, value-begins, body-begins, line-read, nameless-at};
+ghost use Rattle.headers.specs.Text.{fresh, is-letter};
+ghost use Rattle.frames.specs.Refusals.{numbered, long-line, wrong-escape};
+ghost use Rattle.frames.specs.Scanning.{Bounded, style-of, in-line, invalid, advance, value-begins, body-begins, line-read, nameless-at};
 ghost use Rattle.frames.specs.Scanning.{on-name, on-begin, on-value, on-digit, on-length};
 use crate::state::Scan;
 use crate::state::in_head;
@@ -41,7 +41,7 @@ pub(crate) fn length_letter(m: usize) -> u8
 }
 
 // One octet more of a name against content-length.
-fn advance(m: usize, x: u8) -> usize
+pub(crate) fn advance(m: usize, x: u8) -> usize
     ensures { λ r. ⌜ r ≡ advance m x ⌝ }
 {
     if m < 14 {
@@ -77,7 +77,7 @@ fn value_begins(st: Scan) -> Scan
     in_line(st, 7, 0, st.size, st.len + 1)
 }
 
-// One octet more of a line, while it is shorter than that.
+// One octet more of a line, where it has fewer than most.
 fn grow(st: Scan, most: usize, phase: u8, matched: usize) -> Scan
     requires { ⌜ Bounded st ⌝ }
     ensures { λ r. ⌜ r ≡ cond (ltb (st .len) most) (in-line st phase matched (st .size) (st .len + 1)) (invalid st (numbered long-line)) ⌝ }
@@ -109,14 +109,17 @@ pub(crate) fn on_name(st: Scan, x: u8) -> Scan
     grow(st, 511, 5, matched)
 }
 
-pub(crate) fn on_name_back(st: Scan, x: u8) -> Scan
+// An octet after a backslash: one more where it is the letter of an escape.
+pub(crate) fn on_back(st: Scan, most: usize, phase: u8, matched: usize, x: u8) -> Scan
     requires { ⌜ Bounded st ⌝ }
-    ensures { λ r. ⌜ r ≡ on-name st back x ⌝ }
+    ensures { λ r. ⌜ r ≡ cond (is-letter (style-of (st .command)) x)
+        (cond (ltb (st .len) most) (in-line st phase matched (st .size) (st .len + 1)) (invalid st (numbered long-line)))
+        (invalid st (numbered wrong-escape)) ⌝ }
 {
     if !headers::is_letter(style_of(st.command), x) {
         return refused(st, 3);
     }
-    grow(st, 511, 5, advance(st.matched, x))
+    grow(st, most, phase, matched)
 }
 
 // Whether no name can begin with the octet, or none at all.
@@ -174,17 +177,7 @@ pub(crate) fn on_value(st: Scan, x: u8) -> Scan
     grow(st, 512, 7, 0)
 }
 
-pub(crate) fn on_value_back(st: Scan, x: u8) -> Scan
-    requires { ⌜ Bounded st ⌝ }
-    ensures { λ r. ⌜ r ≡ on-value st back x ⌝ }
-{
-    if !headers::is_letter(style_of(st.command), x) {
-        return refused(st, 3);
-    }
-    grow(st, 512, 7, 0)
-}
-
-// An octet of the first content-length that is no stop, while the line is shorter than that.
+// An octet of the first content-length that is no stop, where its line has fewer than most.
 fn on_digit(st: Scan, most: usize, x: u8) -> Scan
     requires { ⌜ Bounded st ⌝ }
     ensures { λ r. ⌜ r ≡ cond (ltb (st .len) most) (on-digit st x) (invalid st (numbered long-line)) ⌝ }

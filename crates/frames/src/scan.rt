@@ -4,14 +4,14 @@ ghost use mathlib.Core.Bool.{true};
 ghost use Prim.Native.Nat.{_<_, _≤_};
 ghost use Rattle.frames.specs.Scanning.{Reached, Bounded, Valid, line-ends};
 ghost use Rattle.frames.specs.Scanning.{on-10, on-word, on-start, on-body, on-counted, scan-step};
+use crate::head::advance;
 use crate::head::body_begins;
 use crate::head::is_nameless;
+use crate::head::on_back;
 use crate::head::on_begin;
 use crate::head::on_length;
 use crate::head::on_name;
-use crate::head::on_name_back;
 use crate::head::on_value;
-use crate::head::on_value_back;
 use crate::state::Scan;
 use crate::state::frame_read;
 use crate::state::in_head;
@@ -99,10 +99,10 @@ fn step_line(st: Scan, x: u8) -> Scan
         return on_length(st, x);
     }
     if phase == 8 {
-        return on_value_back(st, x);
+        return on_back(st, 512, 7, 0, x);
     }
     if phase == 6 {
-        return on_name_back(st, x);
+        return on_back(st, 511, 5, advance(st.matched, x), x);
     }
     if (phase == 4) & is_nameless(st, x) {
         return on_begin(st, x);

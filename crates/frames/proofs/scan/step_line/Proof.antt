@@ -1,6 +1,6 @@
 -- `scan::step_line` meets its contract: the phase picks the step.
 use Rattle.frames.proofs.Bounds.{bounded}
-use Rattle.frames.proofs.Steps.{name-goes-on}
+use Rattle.frames.proofs.Steps.{value-back, name-back, name-goes-on}
 use Rattle.headers.proofs.Rows.{and-left, and-right}
 use mathlib.Core.Path.{_≡_, sym, _∙_}
 use lib.Dec.{eqb}
@@ -25,19 +25,22 @@ returns-2 : tie.Need-returns-2
 unfolding scan-step
 returns-2 c = simp (c .on-length .ensures, c .before .if2 .taken)
 
-on-value-back-requires : tie.Need-on-value-back-requires
-on-value-back-requires c κs = bounded _ (c .before .before .before .pre .0)
+on-back-requires : tie.Need-on-back-requires
+on-back-requires c κs = bounded _ (c .before .before .before .pre .0)
 
 returns-3 : tie.Need-returns-3
 unfolding scan-step
-returns-3 c = simp (c .on-value-back .ensures, c .before .if3 .taken)
+returns-3 c = simp (c .on-back .ensures, c .before .if3 .taken, value-back)
 
-on-name-back-requires : tie.Need-on-name-back-requires
-on-name-back-requires c κs = bounded _ (c .before .before .before .before .pre .0)
+advance-requires : tie.Need-advance-requires
+advance-requires c κs = search needs
+
+on-back-requires-2 : tie.Need-on-back-requires-2
+on-back-requires-2 c κs = bounded _ (c .before .before .before .before .before .pre .0)
 
 returns-4 : tie.Need-returns-4
 unfolding scan-step
-returns-4 c = simp (c .on-name-back .ensures, c .before .if4 .taken)
+returns-4 c = simp (c .on-back2 .ensures, c .before .advance .ensures, c .before .before .if4 .taken, name-back)
 
 is-nameless-requires : tie.Need-is-nameless-requires
 is-nameless-requires c κs = search needs
@@ -70,9 +73,10 @@ step-line-spec =
     returns
     on-length-requires
     returns-2
-    on-value-back-requires
+    on-back-requires
     returns-3
-    on-name-back-requires
+    advance-requires
+    on-back-requires-2
     returns-4
     is-nameless-requires
     on-begin-requires
