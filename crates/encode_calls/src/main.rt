@@ -3,7 +3,6 @@
 ghost use mathlib.Core.Path.{_≡_};
 ghost use Prim.Native.Nat.{_≤_, _<_};
 ghost use lib.ListN.{length};
-use frames::encode::Encoded;
 use libc::STDIN_FILENO;
 use libc::STDOUT_FILENO;
 
@@ -52,20 +51,6 @@ fn call_of(head: &[u8; 16]) -> Call
     }
 }
 
-// The answer in one number.
-fn packed(answer: Encoded) -> u64 {
-    match answer {
-        Encoded::Length(n) => n as u64,
-        Encoded::UnknownCommand => 65536 * 50,
-        Encoded::Malformed => 65536 * 51,
-        Encoded::TooManyLines => 65536 * 52,
-        Encoded::Unwritable(i) => 65536 * 53 + (i as u64) % 65536,
-        Encoded::BadBody => 65536 * 54,
-        Encoded::WrongLength => 65536 * 55,
-        Encoded::TooShort => 65536 * 56,
-    }
-}
-
 // Octet 170 everywhere.
 fn fill(d: &mut [u8])
     ensures { λ _. ⌜ length (now (d .exit)) ≡ length (now (d .entry)) ⌝ }
@@ -80,7 +65,7 @@ fn fill(d: &mut [u8])
 // One call and what it gives.
 fn answer(c: Call, block: &[u8], body: &[u8], target: &mut [u8]) {
     fill(target);
-    let a = packed(frames::encode::encode(c.command, block, body, target));
+    let a = frames::exports::stomp_encode(c.command, block, body, target);
     io::print_decimal(STDOUT_FILENO, a);
     io::write_all(STDOUT_FILENO, b"\n");
     io::write_all(STDOUT_FILENO, target);

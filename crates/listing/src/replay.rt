@@ -6,7 +6,6 @@ ghost use Rattle.listing.specs.Streams.{Room};
 use crate::line::put_number;
 use crate::line::put_word;
 use crate::stream::Progress;
-use frames::decode::Decoded;
 use frames::parse::Item;
 use frames::parse::Parsed;
 use sessions::session::MakingAnswer;
@@ -27,33 +26,20 @@ pub enum Replayed {
     Failed,
 }
 
-// A frame that the session was not given.
-fn not_given(session: Session, number: u32) -> Outcome {
-    Outcome {
-        session,
-        answer: SessionAnswer::Refused(number),
-    }
-}
-
-// A frame given to the session, with the n octets of its header block.
-fn give_frame(session: Session, command: u32, block: &[u8], n: usize) -> Outcome {
-    if block.len() < n {
-        return not_given(session, 21);
-    }
-    session.frame(command, &block[0..n], 0)
-}
-
-// An item given to the session. A frame that was parsed can always be decoded, where the block is large enough.
+// An item given to the session, or the refusal of a frame whose block was not decoded.
 fn give(session: Session, item: Item, octets: &[u8], block: &mut [u8]) -> Outcome {
     if item.kind == 1 {
         return session.heart_beat(0);
     }
-    match frames::decode::decode(octets, block) {
-        Decoded::Length(n) => give_frame(session, item.command, block, n),
-        Decoded::NotFrame => not_given(session, 20),
-        Decoded::TooShort => not_given(session, 21),
-        Decoded::TooLong => not_given(session, 23),
+    let decoded = crate::packed::decode(octets, block);
+    if decoded.code != 0 {
+        return Outcome {
+            session,
+            answer: SessionAnswer::Refused(decoded.code),
+        };
     }
+    let n = decoded.len;
+    session.frame(item.command, &block[0..n], 0)
 }
 
 // Whether an item is a frame that opens a session.

@@ -3,46 +3,10 @@ ghost use mathlib.Core.Path.{_≡_};
 ghost use Prim.Native.Nat.{_+_, _≤_, _<_};
 ghost use lib.ListN.{length};
 ghost use Rattle.listing.specs.Streams.{Room};
+use crate::packed::Written;
 use crate::stream::Progress;
-use frames::decode::Decoded;
-use frames::encode::Encoded;
 use frames::parse::Item;
 use frames::parse::Parsed;
-
-// What an item is again: how many octets, or the number of a refusal.
-struct Written {
-    len: usize,
-    code: u32,
-}
-
-// The number of an answer of encode, or 0.
-fn code_of(answer: Encoded) -> u32 {
-    match answer {
-        Encoded::Length(n) => 0,
-        Encoded::UnknownCommand => 50,
-        Encoded::Malformed => 51,
-        Encoded::TooManyLines => 52,
-        Encoded::Unwritable(i) => 53,
-        Encoded::BadBody => 54,
-        Encoded::WrongLength => 55,
-        Encoded::TooShort => 56,
-    }
-}
-
-// The octets of an image, or 0.
-fn length_of(answer: Encoded, room: usize) -> usize
-    ensures { λ r. ⌜ r ≤ room ⌝ }
-{
-    match answer {
-        Encoded::Length(n) => {
-            if room < n {
-                return 0;
-            }
-            n
-        }
-        _ => 0,
-    }
-}
 
 fn failed(code: u32) -> Written
     ensures { λ r. ⌜ r .len ≡ 0 ⌝ }
@@ -50,14 +14,11 @@ fn failed(code: u32) -> Written
     Written { len: 0, code }
 }
 
-// A frame encoded again at the front of out, from the n octets of its block and its body.
-fn encode_again(frame: &[u8], item: Item, block: &[u8], n: usize, out: &mut [u8]) -> Written
+// A frame encoded again at the front of out, from its block and its body.
+fn encode_again(frame: &[u8], item: Item, block: &[u8], out: &mut [u8]) -> Written
     ensures { λ r. ⌜ (r .len ≤ length (now (out .entry))) × (length (now (out .exit)) ≡ length (now (out .entry))) ⌝ }
 {
     let from = item.body;
-    if block.len() < n {
-        return failed(21);
-    }
     if frame.len() < from {
         return failed(20);
     }
@@ -65,11 +26,7 @@ fn encode_again(frame: &[u8], item: Item, block: &[u8], n: usize, out: &mut [u8]
         return failed(20);
     }
     let end = from + item.body_len;
-    let answer = frames::encode::encode(item.command, &block[0..n], &frame[from..end], out);
-    Written {
-        len: length_of(answer, out.len()),
-        code: code_of(answer),
-    }
+    crate::packed::encode(item.command, block, &frame[from..end], out)
 }
 
 // A frame decoded into the block and encoded again at the front of out.
@@ -79,12 +36,12 @@ fn recode(frame: &[u8], item: Item, block: &mut [u8], out: &mut [u8]) -> Written
         × (length (now (out .exit)) ≡ length (now (out .entry))) × (length (now (block .exit)) ≡ length (now (block .entry)))
         ⌝ }
 {
-    match frames::decode::decode(frame, block) {
-        Decoded::Length(n) => encode_again(frame, item, block, n, out),
-        Decoded::NotFrame => failed(20),
-        Decoded::TooShort => failed(21),
-        Decoded::TooLong => failed(23),
+    let decoded = crate::packed::decode(frame, block);
+    if decoded.code != 0 {
+        return failed(decoded.code);
     }
+    let n = decoded.len;
+    encode_again(frame, item, &block[0..n], out)
 }
 
 // The item at lo again, behind the octets laid out.

@@ -113,7 +113,7 @@ pub(crate) fn flush(out: &[u8], p: Progress) -> Progress
 }
 
 // The lesser of two numbers.
-fn lesser(a: u64, b: u64) -> u64
+pub(crate) fn lesser(a: u64, b: u64) -> u64
     ensures { λ r. ⌜ r ≡ min a b ⌝ }
 {
     if a < b { a } else { b }
