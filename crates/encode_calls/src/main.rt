@@ -1,10 +1,13 @@
 // Calls of encode, read from standard input, each as four numbers of four octets, high first, and then the block and the body. For each
 // call the answer, as stomp_encode gives it, in decimal, and the target, which held octet 170 everywhere; a line end behind each.
 ghost use mathlib.Core.Path.{_≡_};
-ghost use Prim.Native.Nat.{_≤_, _<_};
+ghost use Prim.Native.Nat.{_≤_};
 ghost use lib.ListN.{length};
 use libc::STDIN_FILENO;
 use libc::STDOUT_FILENO;
+use listing::calls::at_most;
+use listing::calls::number_at;
+use listing::calls::read_front;
 
 // The four numbers: command, lengths of block, body and target.
 struct Call {
@@ -12,32 +15,6 @@ struct Call {
     block: usize,
     body: usize,
     target: usize,
-}
-
-// An octet as a wider number.
-fn wide(x: u8) -> u32
-    ensures { λ r. ⌜ r < 256 ⌝ }
-{
-    x as u32
-}
-
-// The number of four octets at i, high first.
-fn number_at(head: &[u8; 16], i: usize) -> u32
-    requires { ⌜ i < 13 ⌝ }
-{
-    let high = wide(head[i]) * 256 + wide(head[i + 1]);
-    let low = wide(head[i + 2]) * 256 + wide(head[i + 3]);
-    high * 65536 + low
-}
-
-// A length, at most that of a buffer.
-fn at_most(n: u32) -> usize
-    ensures { λ r. ⌜ r ≤ 65536 ⌝ }
-{
-    if 65536 < n {
-        return 65536;
-    }
-    n as usize
 }
 
 fn call_of(head: &[u8; 16]) -> Call
@@ -70,14 +47,6 @@ fn answer(c: Call, block: &[u8], body: &[u8], target: &mut [u8]) {
     io::write_all(STDOUT_FILENO, b"\n");
     io::write_all(STDOUT_FILENO, target);
     io::write_all(STDOUT_FILENO, b"\n");
-}
-
-// n octets at the front of a buffer: whether there were as many.
-fn read_front(buf: &mut [u8], n: usize) -> bool
-    requires { ⌜ n ≤ length (now buf) ⌝ }
-    ensures { λ _. ⌜ length (now (buf .exit)) ≡ length (now (buf .entry)) ⌝ }
-{
-    io::read_full(STDIN_FILENO, &mut buf[0..n]) == n
 }
 
 // Reads a call and answers it: whether it was whole.
