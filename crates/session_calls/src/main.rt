@@ -2,13 +2,15 @@
 // high first. 0 make: the offers sends and wants, and three flags; 1 frame: command, time, length of the header block, and the block;
 // 2 heart-beat: time; 3 timed out: time; 4 set: a whole record, which becomes the session's. For each call a line with its answer and
 // the highest version shared, and the record after it, as kind 4 has it, with a line end behind.
-ghost use mathlib.Core.Path.{_≡_};
 ghost use Prim.Native.Nat.{_≤_, _<_};
-ghost use lib.ListN.{length};
 use libc::STDERR_FILENO;
 use libc::STDIN_FILENO;
 use libc::STDOUT_FILENO;
+use listing::calls::at_most;
+use listing::calls::number_at;
+use listing::calls::read_front;
 use sessions::session::MakingAnswer;
+use sessions::session::Outcome;
 use sessions::session::Session;
 use sessions::session::SessionAnswer;
 use sessions::session::TimedOut;
@@ -25,45 +27,11 @@ struct Head {
     whole: bool,
 }
 
-// An octet as a wider number.
-fn wide(x: u8) -> u32
-    ensures { λ r. ⌜ r < 256 ⌝ }
-{
-    x as u32
-}
-
-// The number of four octets at i, high first.
-fn number_at(head: &[u8; 27], i: usize) -> u32
-    requires { ⌜ i < 24 ⌝ }
-{
-    let high = wide(head[i]) * 256 + wide(head[i + 1]);
-    let low = wide(head[i + 2]) * 256 + wide(head[i + 3]);
-    high * 65536 + low
-}
-
 // The three flags at i.
 fn flags_at(head: &[u8; 27], i: usize) -> [bool; 3]
     requires { ⌜ i < 25 ⌝ }
 {
     [head[i] != 0, head[i + 1] != 0, head[i + 2] != 0]
-}
-
-// A length, at most that of a buffer.
-fn at_most(n: u32) -> usize
-    ensures { λ r. ⌜ r ≤ 65536 ⌝ }
-{
-    if 65536 < n {
-        return 65536;
-    }
-    n as usize
-}
-
-// n octets at the front of a buffer: whether there were as many.
-fn read_front(buf: &mut [u8], n: usize) -> bool
-    requires { ⌜ n ≤ length (now buf) ⌝ }
-    ensures { λ _. ⌜ length (now (buf .exit)) ≡ length (now (buf .entry)) ⌝ }
-{
-    io::read_full(STDIN_FILENO, &mut buf[0..n]) == n
 }
 
 fn read_head(n: usize) -> Head
@@ -203,80 +171,59 @@ fn say_timed_out(answer: TimedOut) {
     }
 }
 
-fn make(session: Session) -> State {
-    let h = read_head(11);
-    if !h.whole {
-        return cut(session);
-    }
-    let head = h.octets;
-    let made = Session::new(number_at(&head, 0), number_at(&head, 4), flags_at(&head, 8));
+// A session made anew.
+fn make(head: &[u8; 27]) -> State {
+    let made = Session::new(number_at(head, 0), number_at(head, 4), flags_at(head, 8));
     let answer = made.answer;
-    let after = made.session;
+    let session = made.session;
     say_made(answer);
-    answered(after)
-}
-
-fn frame(session: Session) -> State {
-    let h = read_head(12);
-    if !h.whole {
-        return cut(session);
-    }
-    let head = h.octets;
-    let mut block = io::large_buffer();
-    let n = at_most(number_at(&head, 8));
-    if !read_front(&mut block, n) {
-        return cut(session);
-    }
-    let outcome = session.frame(number_at(&head, 0), &block[0..n], number_at(&head, 4));
-    let answer = outcome.answer;
-    let after = outcome.session;
-    say_answer(answer);
-    answered(after)
-}
-
-fn heart_beat(session: Session) -> State {
-    let h = read_head(4);
-    if !h.whole {
-        return cut(session);
-    }
-    let head = h.octets;
-    let outcome = session.heart_beat(number_at(&head, 0));
-    let answer = outcome.answer;
-    let after = outcome.session;
-    say_answer(answer);
-    answered(after)
-}
-
-fn timed_out(session: Session) -> State {
-    let h = read_head(4);
-    if !h.whole {
-        return cut(session);
-    }
-    let head = h.octets;
-    say_timed_out(session.timed_out(number_at(&head, 0)));
     answered(session)
 }
 
-fn set(session: Session) -> State {
-    let h = read_head(27);
-    let head = h.octets;
+// What a frame or a heart-beat came to.
+fn came_to(outcome: Outcome) -> State {
+    let answer = outcome.answer;
+    let session = outcome.session;
+    say_answer(answer);
+    answered(session)
+}
+
+fn frame(session: Session, head: &[u8; 27]) -> State {
+    let mut block = io::large_buffer();
+    let n = at_most(number_at(head, 8));
+    if !read_front(&mut block, n) {
+        return cut(session);
+    }
+    came_to(session.frame(number_at(head, 0), &block[0..n], number_at(head, 4)))
+}
+
+fn heart_beat(session: Session, head: &[u8; 27]) -> State {
+    came_to(session.heart_beat(number_at(head, 0)))
+}
+
+fn timed_out(session: Session, head: &[u8; 27]) -> State {
+    say_timed_out(session.timed_out(number_at(head, 0)));
+    answered(session)
+}
+
+fn set(session: Session, head: &[u8; 27]) -> State {
     let mut subs = [0u8; 512];
     let mut sub_lens = [0u8; 16];
     let mut txs = [0u8; 128];
     let mut tx_lens = [0u8; 4];
     let has_subs = read_front(&mut subs, 512) & read_front(&mut sub_lens, 16);
     let has_txs = read_front(&mut txs, 128) & read_front(&mut tx_lens, 4);
-    if !(h.whole & (has_subs & has_txs)) {
+    if !(has_subs & has_txs) {
         return cut(session);
     }
-    let offered = flags_at(&head, 9);
-    let shared = flags_at(&head, 12);
+    let offered = flags_at(head, 9);
+    let shared = flags_at(head, 12);
     let after = Session {
-        sends: number_at(&head, 1),
-        wants: number_at(&head, 5),
-        inbound: number_at(&head, 15),
-        outbound: number_at(&head, 19),
-        last_heard: number_at(&head, 23),
+        sends: number_at(head, 1),
+        wants: number_at(head, 5),
+        inbound: number_at(head, 15),
+        outbound: number_at(head, 19),
+        last_heard: number_at(head, 23),
         subs,
         txs,
         sub_lens,
@@ -289,7 +236,35 @@ fn set(session: Session) -> State {
     answered(after)
 }
 
-// One call, by its kind; nothing more where the input ends.
+// How many octets stand behind a call's kind, before its block or its ids.
+fn head_length(kind: u8) -> usize
+    ensures { λ r. ⌜ r ≤ 27 ⌝ }
+{
+    match kind {
+        0 => 11,
+        1 => 12,
+        4 => 27,
+        _ => 4,
+    }
+}
+
+// What stands behind a kind up to 4, and the call.
+fn call_of(session: Session, kind: u8) -> State {
+    let h = read_head(head_length(kind));
+    let head = h.octets;
+    if !h.whole {
+        return cut(session);
+    }
+    match kind {
+        0 => make(&head),
+        1 => frame(session, &head),
+        2 => heart_beat(session, &head),
+        3 => timed_out(session, &head),
+        _ => set(session, &head),
+    }
+}
+
+// One call; nothing more where the input ends.
 fn call(state: State) -> State {
     let session = state.session;
     let mut kind = [0u8; 1];
@@ -299,15 +274,10 @@ fn call(state: State) -> State {
             more: false,
         };
     }
-    let k = kind[0];
-    match k {
-        0 => make(session),
-        1 => frame(session),
-        2 => heart_beat(session),
-        3 => timed_out(session),
-        4 => set(session),
-        _ => stopped(session, b"a call has an unknown kind"),
+    if 4 < kind[0] {
+        return stopped(session, b"a call has an unknown kind");
     }
+    call_of(session, kind[0])
 }
 
 fn main() {
