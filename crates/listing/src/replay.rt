@@ -134,10 +134,17 @@ fn put_turn(d: &mut [u8], start: u64, item: Item, outcome: Outcome) -> usize
     k + put_answer(&mut d[k..], answer, is_opening(item), session)
 }
 
-// One item more.
-fn replay_item(buf: &[u8], block: &mut [u8], out: &mut [u8], at: Replaying, item: Item) -> Replaying
+// One item more, which ends before place end.
+fn replay_item(
+    buf: &[u8],
+    end: usize,
+    block: &mut [u8],
+    out: &mut [u8],
+    at: Replaying,
+    item: Item,
+) -> Replaying
     requires { ⌜
-        (at .progress .lo + item .len ≤ at .progress .hi) × (at .progress .hi ≤ length (now buf))
+        (at .progress .lo ≤ end) × (end ≤ at .progress .hi) × (at .progress .hi ≤ length (now buf))
         × (at .progress .used + 192 ≤ length (now out))
         ⌝ }
     ensures { λ r. ⌜
@@ -148,13 +155,12 @@ fn replay_item(buf: &[u8], block: &mut [u8], out: &mut [u8], at: Replaying, item
     let p = at.progress;
     let session = at.session;
     let lo = p.lo;
-    let end = lo + item.len;
     let outcome = give(session, item, &buf[lo..end], block);
     let after = outcome.session;
     let used = p.used;
     let k = put_turn(&mut out[used..], p.start, item, outcome);
     Replaying {
-        progress: crate::stream::advance(p, item.len, k, false),
+        progress: crate::stream::advance(p, end - lo, k, false),
         session: after,
     }
 }
@@ -192,14 +198,16 @@ fn turn(fd: i32, buf: &mut [u8], block: &mut [u8], out: &mut [u8], at: Replaying
             session,
         };
     }
-    let reply = crate::stream::reply_to(buf, p.lo, p.hi);
+    let lo = p.lo;
+    let reply = crate::stream::reply_to(buf, lo, p.hi);
+    let end = lo + crate::stream::used_of(reply);
     let Parsed::Complete(item) = reply else {
         return Replaying {
             progress: no_item(fd, buf, out, p, reply),
             session,
         };
     };
-    replay_item(buf, block, out, at, item)
+    replay_item(buf, end, block, out, at, item)
 }
 
 // Replays the octets of fd with a session, with three buffers: whether the last line is written.

@@ -44,9 +44,9 @@ fn recode(frame: &[u8], item: Item, block: &mut [u8], out: &mut [u8]) -> Written
     encode_again(frame, item, &block[0..n], out)
 }
 
-// The item at lo again, behind the octets laid out.
-fn lay(buf: &[u8], lo: usize, item: Item, block: &mut [u8], out: &mut [u8], used: usize) -> Written
-    requires { ⌜ (lo + item .len ≤ length (now buf)) × (used < length (now out)) ⌝ }
+// An item again, behind the octets laid out.
+fn lay(octets: &[u8], item: Item, block: &mut [u8], out: &mut [u8], used: usize) -> Written
+    requires { ⌜ used < length (now out) ⌝ }
     ensures { λ r. ⌜
         (used + r .len ≤ length (now (out .entry)))
         × (length (now (out .exit)) ≡ length (now (out .entry))) × (length (now (block .exit)) ≡ length (now (block .entry)))
@@ -56,8 +56,7 @@ fn lay(buf: &[u8], lo: usize, item: Item, block: &mut [u8], out: &mut [u8], used
         out[used] = 10;
         return Written { len: 1, code: 0 };
     }
-    let end = lo + item.len;
-    recode(&buf[lo..end], item, block, &mut out[used..])
+    recode(octets, item, block, &mut out[used..])
 }
 
 // The first n octets of a text on standard error.
@@ -85,18 +84,11 @@ fn complain_unwritten(start: u64, code: u32) {
 }
 
 // Nothing more is read.
-fn stopped(p: Progress) -> Progress
+fn stopped(mut p: Progress) -> Progress
     ensures { λ r. ⌜ (r .lo ≡ p .lo) × (r .hi ≡ p .hi) × (r .used ≡ p .used) ⌝ }
 {
-    Progress {
-        lo: p.lo,
-        hi: p.hi,
-        used: p.used,
-        start: p.start,
-        ended: p.ended,
-        failed: p.failed,
-        done: true,
-    }
+    p.done = true;
+    p
 }
 
 // The reply is no item: more octets, or the end, with a message unless nothing is left.
@@ -120,21 +112,25 @@ fn no_item(fd: i32, buf: &mut [u8], p: Progress, reply: Parsed) -> Progress
 }
 
 // One item more, or nothing more where it cannot be written.
-fn rewrite_item(buf: &[u8], block: &mut [u8], out: &mut [u8], p: Progress, item: Item) -> Progress
-    requires { ⌜
-        (p .lo + item .len ≤ p .hi) × (p .hi ≤ length (now buf)) × (p .used < length (now out))
-        ⌝ }
+fn rewrite_item(
+    octets: &[u8],
+    block: &mut [u8],
+    out: &mut [u8],
+    p: Progress,
+    item: Item,
+) -> Progress
+    requires { ⌜ (p .lo + length (now octets) ≤ p .hi) × (p .used < length (now out)) ⌝ }
     ensures { λ r. ⌜
         (r .lo ≤ r .hi) × (r .hi ≡ p .hi) × (r .used ≤ length (now (out .entry)))
         × (length (now (out .exit)) ≡ length (now (out .entry))) × (length (now (block .exit)) ≡ length (now (block .entry)))
         ⌝ }
 {
-    let w = lay(buf, p.lo, item, block, out, p.used);
+    let w = lay(octets, item, block, out, p.used);
     if w.code != 0 {
         complain_unwritten(p.start, w.code);
         return stopped(p);
     }
-    crate::stream::advance(p, item.len, w.len, false)
+    crate::stream::advance(p, octets.len(), w.len, false)
 }
 
 // One item, or one reading, or one writing. The room that is kept is that of the longest frame.
@@ -150,11 +146,13 @@ fn turn(fd: i32, buf: &mut [u8], block: &mut [u8], out: &mut [u8], p: Progress) 
     if out.len() - used < 49228 {
         return crate::stream::flush(out, p);
     }
-    let reply = crate::stream::reply_to(buf, p.lo, p.hi);
+    let lo = p.lo;
+    let reply = crate::stream::reply_to(buf, lo, p.hi);
+    let end = lo + crate::stream::used_of(reply);
     let Parsed::Complete(item) = reply else {
         return no_item(fd, buf, p, reply);
     };
-    rewrite_item(buf, block, out, p, item)
+    rewrite_item(&buf[lo..end], block, out, p, item)
 }
 
 // Rewrites the octets of fd to standard output, with three buffers: whether reading and writing went well.

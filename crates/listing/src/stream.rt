@@ -95,21 +95,15 @@ pub(crate) fn refill(fd: i32, buf: &mut [u8], p: Progress) -> Progress
 }
 
 // The lines laid out are written.
-pub(crate) fn flush(out: &[u8], p: Progress) -> Progress
+pub(crate) fn flush(out: &[u8], mut p: Progress) -> Progress
     requires { ⌜ p .used ≤ length (now out) ⌝ }
     ensures { λ r. ⌜ (r .lo ≡ p .lo) × (r .hi ≡ p .hi) × (r .used ≡ 0) ⌝ }
 {
     let used = p.used;
     let written = io::write_all(1, &out[0..used]);
-    Progress {
-        lo: p.lo,
-        hi: p.hi,
-        used: 0,
-        start: p.start,
-        ended: p.ended,
-        failed: p.failed | !written,
-        done: p.done,
-    }
+    p.used = 0;
+    p.failed = p.failed | !written;
+    p
 }
 
 // The lesser of two numbers.
@@ -138,7 +132,7 @@ pub(crate) fn advance(p: Progress, n: usize, k: usize, last: bool) -> Progress
 }
 
 // The octets of the item that a reply tells of, or 0.
-fn used_of(reply: Parsed) -> usize
+pub(crate) fn used_of(reply: Parsed) -> usize
     ensures { λ r. ⌜ r ≡ used-of (parsed-says reply) ⌝ }
 {
     match reply {
