@@ -165,21 +165,6 @@ fn replay_item(
     }
 }
 
-// The reply is no item: more octets, or the last line.
-fn no_item(fd: i32, buf: &mut [u8], out: &mut [u8], p: Progress, reply: Parsed) -> Progress
-    requires { ⌜ Room (length (now buf)) (length (now out)) p ⌝ }
-    ensures { λ r. ⌜
-        Room (length (now (buf .entry))) (length (now (out .entry))) r
-        × (length (now (buf .exit)) ≡ length (now (buf .entry))) × (length (now (out .exit)) ≡ length (now (out .entry)))
-        ⌝ }
-{
-    if crate::stream::is_incomplete(reply) & !p.ended {
-        return crate::stream::refill(fd, buf, p);
-    }
-    let k = crate::stream::lay(out, p.used, p.start, reply, p.lo == p.hi);
-    crate::stream::advance(p, 0, k, true)
-}
-
 // One item, or one reading, or one writing.
 fn turn(fd: i32, buf: &mut [u8], block: &mut [u8], out: &mut [u8], at: Replaying) -> Replaying
     requires { ⌜ Room (length (now buf)) (length (now out)) (at .progress) ⌝ }
@@ -203,7 +188,7 @@ fn turn(fd: i32, buf: &mut [u8], block: &mut [u8], out: &mut [u8], at: Replaying
     let end = lo + crate::stream::used_of(reply);
     let Parsed::Complete(item) = reply else {
         return Replaying {
-            progress: no_item(fd, buf, out, p, reply),
+            progress: crate::stream::tell(fd, buf, out, p, reply, 0),
             session,
         };
     };

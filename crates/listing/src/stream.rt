@@ -74,7 +74,7 @@ fn fill(fd: i32, buf: &mut [u8], from: usize) -> Filled
 }
 
 // More octets to list.
-pub(crate) fn refill(fd: i32, buf: &mut [u8], p: Progress) -> Progress
+pub(crate) fn refill(fd: i32, buf: &mut [u8], mut p: Progress) -> Progress
     requires { ⌜ (p .lo ≤ p .hi) × (p .hi ≤ length (now buf)) ⌝ }
     ensures { λ r. ⌜
         (r .lo ≡ 0) × (r .hi ≤ length (now (buf .entry))) × (r .used ≡ p .used)
@@ -83,15 +83,12 @@ pub(crate) fn refill(fd: i32, buf: &mut [u8], p: Progress) -> Progress
 {
     let n = shift(buf, p.lo, p.hi);
     let f = fill(fd, buf, n);
-    Progress {
-        lo: 0,
-        hi: f.hi,
-        used: p.used,
-        start: p.start,
-        ended: f.ended,
-        failed: f.failed,
-        done: false,
-    }
+    p.lo = 0;
+    p.hi = f.hi;
+    p.ended = f.ended;
+    p.failed = f.failed;
+    p.done = false;
+    p
 }
 
 // The lines laid out are written.
@@ -114,21 +111,18 @@ pub(crate) fn lesser(a: u64, b: u64) -> u64
 }
 
 // A line of k octets is laid out, for n octets of the stream. Behind the largest position there is none, and counting fails.
-pub(crate) fn advance(p: Progress, n: usize, k: usize, last: bool) -> Progress
+pub(crate) fn advance(mut p: Progress, n: usize, k: usize, last: bool) -> Progress
     requires { ⌜ (p .lo + n ≤ p .hi) × (p .used + k < 18446744073709551616) ⌝ }
     ensures { λ r. ⌜ (r .lo ≡ p .lo + n) × (r .hi ≡ p .hi) × (r .used ≡ p .used + k) ⌝ }
 {
     let most = u64::MAX - p.start;
     let on = lesser(n as u64, most);
-    Progress {
-        lo: p.lo + n,
-        hi: p.hi,
-        used: p.used + k,
-        start: p.start + on,
-        ended: p.ended,
-        failed: on < (n as u64),
-        done: last,
-    }
+    p.lo += n;
+    p.used += k;
+    p.start += on;
+    p.failed = on < (n as u64);
+    p.done = last;
+    p
 }
 
 // The octets of the item that a reply tells of, or 0.
@@ -139,13 +133,6 @@ pub(crate) fn used_of(reply: Parsed) -> usize
         Parsed::Complete(i) => i.len,
         Parsed::Incomplete => 0,
         Parsed::Invalid(r) => 0,
-    }
-}
-
-fn is_complete(reply: Parsed) -> bool {
-    match reply {
-        Parsed::Complete(i) => true,
-        _ => false,
     }
 }
 
@@ -181,6 +168,28 @@ pub(crate) fn lay(
     crate::line::put_line(&mut out[used..], start, reply, nothing_left)
 }
 
+// More octets, or the line of a reply, whose item has n octets, or none where it is the last line.
+pub(crate) fn tell(
+    fd: i32,
+    buf: &mut [u8],
+    out: &mut [u8],
+    p: Progress,
+    reply: Parsed,
+    n: usize,
+) -> Progress
+    requires { ⌜ Room (length (now buf)) (length (now out)) p × (p .lo + n ≤ p .hi) ⌝ }
+    ensures { λ r. ⌜
+        Room (length (now (buf .entry))) (length (now (out .entry))) r
+        × (length (now (buf .exit)) ≡ length (now (buf .entry))) × (length (now (out .exit)) ≡ length (now (out .entry)))
+        ⌝ }
+{
+    if is_incomplete(reply) & !p.ended {
+        return refill(fd, buf, p);
+    }
+    let k = lay(out, p.used, p.start, reply, p.lo == p.hi);
+    advance(p, n, k, n == 0)
+}
+
 // One line, or one reading, or one writing.
 fn turn(fd: i32, buf: &mut [u8], out: &mut [u8], p: Progress) -> Progress
     requires { ⌜ Room (length (now buf)) (length (now out)) p ⌝ }
@@ -194,11 +203,7 @@ fn turn(fd: i32, buf: &mut [u8], out: &mut [u8], p: Progress) -> Progress
         return flush(out, p);
     }
     let reply = reply_to(buf, p.lo, p.hi);
-    if is_incomplete(reply) & !p.ended {
-        return refill(fd, buf, p);
-    }
-    let k = lay(out, used, p.start, reply, p.lo == p.hi);
-    advance(p, used_of(reply), k, !is_complete(reply))
+    tell(fd, buf, out, p, reply, used_of(reply))
 }
 
 // Before the first octet.
