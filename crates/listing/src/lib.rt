@@ -1,4 +1,4 @@
-// Streams, for programs: listed, a line for each item, rewritten, or replayed with a session.
+// For programs: streams, listed, a line for each item, rewritten, or replayed with a session; and the reading of calls.
 pub mod line; // one line of a listing
 pub mod stream; // a whole stream, listed
 mod packed; // answers in one number, taken apart

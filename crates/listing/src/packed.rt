@@ -3,7 +3,7 @@ ghost use mathlib.Core.Path.{_≡_};
 ghost use Prim.Native.Nat.{_≤_};
 ghost use lib.ListN.{length};
 
-// How many octets were written, or the number of a refusal, which is not 0.
+// The number of a refusal, or 0 where len octets were written.
 pub(crate) struct Written {
     pub len: usize,
     pub code: u32,
