@@ -28,7 +28,7 @@ unfolding first-from ids
 first-free w n j s [] f = refl
 first-free w n j s (l ∷ ls) f =
     let one : Before w n 1 w = record { passed = omega (arith, f .lens-long); starts = omega arith } in
-    let t : Turn w n s (l ∷ ls) 0 0 l = record { fits = f; stands = first-place w n; more = omega (arith, f .lens-long); read = refl } in
+    let t : Turn f (first-place w n) l = record { more = omega (arith, f .lens-long); read = refl } in
     ap (λ b. cond b (some j) (first-from empty (suc j) (ids w (drop w s) ls))) (empty-front l s (omega (arith, room t, length-fits t)))
     ∙ ap (cond (eqb l 0) (some j)) (first-free w (n - 1) (suc j) (drop w s) ls (part-fits f one))
 

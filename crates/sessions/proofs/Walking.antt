@@ -85,28 +85,26 @@ module _ {w n : ℕ} {s ls : List ℕ} {k at : ℕ} (fits : Fits w n s ls) (b : 
 
 -- ---- a turn that has read l, the length of place k
 
-pub record Turn (w n : ℕ) (s ls : List ℕ) (k at l : ℕ) : Type 0 where
-  pub fits : Fits w n s ls
-  pub stands : Before w n k at
+pub record Turn {w n : ℕ} {s ls : List ℕ} {k at : ℕ} (fits : Fits w n s ls) (stands : Before w n k at) (l : ℕ) : Type 0 where
   pub more : k < n
   pub read : l ≡ getD ls k 0
 
-module _ {w n : ℕ} {s ls : List ℕ} {k at l : ℕ} (t : Turn w n s ls k at l) where
+module _ {w n : ℕ} {s ls : List ℕ} {k at l : ℕ} {fits : Fits w n s ls} {stands : Before w n k at} (t : Turn fits stands l) where
   pub next-place : Before w n (k + 1) (at + w)
-  next-place = record { passed = omega (arith, t .more); starts = ap (_+ w) (t .stands .starts) ∙ sym (ap (_* w) (add-one k) ∙ suc-mul k w) }
+  next-place = record { passed = omega (arith, t .more); starts = ap (_+ w) (stands .starts) ∙ sym (ap (_* w) (add-one k) ∙ suc-mul k w) }
 
   pub room : at + w ≤ length s
-  room = omega (arith, place-after w k n (t .more), t .fits .store-long, t .stands .starts)
+  room = omega (arith, place-after w k n (t .more), fits .store-long, stands .starts)
 
   -- the store behind the place, as the code takes it
   pub behind-fits : Fits w (n - (k + 1)) (part-from (at + w) s) (part-from (k + 1) ls)
-  behind-fits = rw (part-drop (at + w) s, part-drop (k + 1) ls) (part-fits (t .fits) next-place)
+  behind-fits = rw (part-drop (at + w) s, part-drop (k + 1) ls) (part-fits fits next-place)
 
   lens-room : k < length ls
-  lens-room = omega (arith, t .more, t .fits .lens-long)
+  lens-room = omega (arith, t .more, fits .lens-long)
 
   pub length-fits : l ≤ w
-  length-fits = omega (arith, t .read, leb-true (getD ls k 0) w (every-at (λ x. leb x w) ls k lens-room (t .fits .lens-short)))
+  length-fits = omega (arith, t .read, leb-true (getD ls k 0) w (every-at (λ x. leb x w) ls k lens-room (fits .lens-short)))
 
   pub id-fits : at + l ≤ length s
   id-fits = omega (arith, room, length-fits)
