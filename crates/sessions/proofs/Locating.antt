@@ -2,10 +2,10 @@
 --     located-of, locates           what is located, by the answer
 --     no-value                      the answers that locate nothing
 --     present-has, lacks-not        whether a header is there, and whether a needed one is missing
---     value-absent, value-present   the first value, by what is located
+--     read-located                  what is read of the first value, by whether one is located
 use mathlib.Core.Path.{_≡_, refl, sym, _∙_, ap}
 use mathlib.Core.Bool.{Bool, true, false, cond, not}
-use mathlib.Core.Option.{none, some}
+use mathlib.Core.Option.{Option, none, some}
 use mathlib.Core.List.{List, [], _∷_}
 use Prim.Native.Nat.{ℕ, _+_, _-_}
 use native.Mathlib.Omega.{arith}
@@ -59,15 +59,13 @@ present-some : {A : Type 0} (p : Bool) (v : A) → is-some (cond p (some v) none
 present-some true v = refl
 present-some false v = refl
 
-module _ (block : List ℕ) (h : Header) (r : Located) (l : Locates block h r) where
+module _ {block : List ℕ} {h : Header} {r : Located} (l : Locates block h r) where
   pub present-has : r .present ≡ has h (listed (entries block))
   present-has = sym (present-some (r .present) (value-at block r)) ∙ ap is-some (l .first)
 
-  pub value-absent : r .present ≡ false → value-of h (listed (entries block)) ≡ none
-  value-absent e = sym (l .first) ∙ ap (λ p. cond p (some (value-at block r)) none) e
-
-  pub value-present : r .present ≡ true → value-of h (listed (entries block)) ≡ some (value-at block r)
-  value-present e = sym (l .first) ∙ ap (λ p. cond p (some (value-at block r)) none) e
+  -- what a function reads of the first value
+  pub read-located : {B : Type 0} (f : Option (List ℕ) → B) (p : Bool) → r .present ≡ p → f (cond p (some (value-at block r)) none) ≡ f (value-of h (listed (entries block)))
+  read-located f p e = ap f (ap (λ q. cond q (some (value-at block r)) none) (sym e) ∙ l .first)
 
 -- of any header but none
 pub lacks-not : (h : Header) (es : List Entry) → OneOf (1 ∷ 2 ∷ 3 ∷ 4 ∷ 5 ∷ 6 ∷ 7 ∷ []) (tagOf header.the-type h) → lacks h es ≡ not (has h es)

@@ -8,7 +8,7 @@ locate-requires : tie.Need-locate-requires
 locate-requires c κs = search needs
 
 returns : tie.Need-returns
-returns c = present-has _ _ _ (c .locate .ensures)
+returns c = present-has (c .locate .ensures)
 
 pub has-spec : {M : Type 1} → statement M
 has-spec = tie.close (tie.spec locate-requires returns)
