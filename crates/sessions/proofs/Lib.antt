@@ -14,3 +14,4 @@ pub mod Naming
 pub mod Keeping
 pub mod Histories
 pub mod Closing
+pub mod InPlace
