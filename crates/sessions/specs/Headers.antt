@@ -6,6 +6,7 @@ use Prim.Native.Nat.{ℕ}
 use lib.Dec.{eqb, ltb}
 use Rattle.headers.specs.Block.{Entry, first-value}
 use Rattle.frames.specs.Grammar.{Command, number, ABORT, ACK, BEGIN, COMMIT, CONNECT, CONNECTED, DISCONNECT, ERROR, MESSAGE, NACK, RECEIPT, SEND, STOMP, SUBSCRIBE, UNSUBSCRIBE}
+use Rattle.sessions.specs.Stores.{enters, wants-live}
 use Rattle.sessions.specs.declared.store.Use.{Use}
 use Rattle.sessions.specs.declared.store.Use.the-variants.{Nothing, Need, Enter, Free}
 use Rattle.sessions.specs.declared.command.Header.{Header}
@@ -86,12 +87,9 @@ abbrev pub names : Kind → Header
 names Subscriptions = Id
 names Transactions = Transaction
 
--- a use is of an id
+-- a use is of an id: of a new one or a live one
 abbrev pub names-id : Use → Bool
-names-id Nothing = false
-names-id Need = true
-names-id Enter = true
-names-id Free = true
+names-id u = enters u || wants-live u
 
 abbrev pub naming-of : Kind → Use → Naming
 naming-of k u = record { kind = k; usage = u }

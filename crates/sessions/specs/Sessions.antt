@@ -77,57 +77,35 @@ abbrev pub with-ids : Kind → Session → List (List ℕ) → Session
 with-ids Subscriptions s is = with-stores s (laid id-max is) (lengths is) (s .txs) (s .«tx_lens»)
 with-ids Transactions s is = with-stores s (s .subs) (s .«sub_lens») (laid id-max is) (lengths is)
 
--- the session in a phase; with what the opening came to; heard from at a time
-abbrev pub with-phase : Session → ℕ → Session
-with-phase s p = record {
-  sends = s .sends;
-  wants = s .wants;
-  inbound = s .inbound;
-  outbound = s .outbound;
-  «last_heard» = s .«last_heard»;
-  subs = s .subs;
-  txs = s .txs;
-  «sub_lens» = s .«sub_lens»;
-  «tx_lens» = s .«tx_lens»;
-  offered = s .offered;
-  shared = s .shared;
-  phase = p;
-}
-
-abbrev pub closed : Session → Session
-closed s = with-phase s closed-phase
-
-abbrev pub opened : Session → List Bool → ℕ → ℕ → Session
-opened s shared inbound outbound = record {
+-- the session with its offers and its ids, and these other fields
+abbrev pub with-state : Session → ℕ → ℕ → ℕ → List Bool → ℕ → Session
+with-state s inbound outbound last-heard shared phase = record {
   sends = s .sends;
   wants = s .wants;
   inbound = inbound;
   outbound = outbound;
-  «last_heard» = s .«last_heard»;
+  «last_heard» = last-heard;
   subs = s .subs;
   txs = s .txs;
   «sub_lens» = s .«sub_lens»;
   «tx_lens» = s .«tx_lens»;
   offered = s .offered;
   shared = shared;
-  phase = open-phase;
+  phase = phase;
 }
 
+-- in a phase; closed; with what the opening came to; heard from at a time
+abbrev pub with-phase : Session → ℕ → Session
+with-phase s p = with-state s (s .inbound) (s .outbound) (s .«last_heard») (s .shared) p
+
+abbrev pub closed : Session → Session
+closed s = with-phase s closed-phase
+
+abbrev pub opened : Session → List Bool → ℕ → ℕ → Session
+opened s shared inbound outbound = with-state s inbound outbound (s .«last_heard») shared open-phase
+
 abbrev pub heard : Session → ℕ → Session
-heard s time = record {
-  sends = s .sends;
-  wants = s .wants;
-  inbound = s .inbound;
-  outbound = s .outbound;
-  «last_heard» = time;
-  subs = s .subs;
-  txs = s .txs;
-  «sub_lens» = s .«sub_lens»;
-  «tx_lens» = s .«tx_lens»;
-  offered = s .offered;
-  shared = s .shared;
-  phase = s .phase;
-}
+heard s time = with-state s (s .inbound) (s .outbound) time (s .shared) (s .phase)
 
 -- A valid record, which document 01 calls not unsound: 38 is given for "unknown phase, length over 32, two equal live ids of one
 -- kind, non-zero unused octets, offer or interval over the limit, marks that making refuses unless closed". The marks are the
