@@ -13,8 +13,8 @@ use Rattle.headers.specs.Answers.{accepted, refused, Check, settle}
 use Rattle.headers.proofs.Rows.{and-left, and-right, or-false-right}
 use Rattle.sessions.specs.Stores.{ids, valid-store, used, bad-length, use-checks}
 use Rattle.sessions.specs.Sessions.{subscriptions-max, transactions-max, id-max, ids-of, with-stores, with-ids, heard, valid-numbers, valid-ids, is-valid, Sized}
-use Rattle.sessions.specs.Places.{Fits, stored, Settles}
-use Rattle.sessions.specs.Steps.{closed-by, accepted-by, subscription-put, transaction-put, count-of, put-of, GivesUse}
+use Rattle.sessions.specs.Places.{Fits, stored, Settles, put-in}
+use Rattle.sessions.specs.Steps.{closed-by, accepted-by, count-of, put-of, GivesUse}
 use Rattle.sessions.specs.declared.store.Use.{Use}
 use Rattle.sessions.specs.declared.store.Use.the-variants.{Nothing, Need, Enter, Free}
 use Rattle.sessions.specs.declared.store.Settled.{Settled}
@@ -113,14 +113,13 @@ module _ (k : Kind) (s : Session) (u : Use) (id : List ℕ) (receipt : Bool) (ti
     pub put-asked : (i n : ℕ) → Settles id-max u id (ids-of k s) (Settled.Put i) → n ≡ stored u (length id) → (i < count-of k) × (length (take (n - 0) (drop 0 id)) ≤ id-max)
     put-asked i n (e, h, f) p = (omega (arith, h, count-ids s sized valid k), rw (stored-part u id n p) (stored-fits id-max u id (ids-of k s) e))
 
--- a session with an id put in a place, as it is stored
-pub subscription-stored : (s : Session) (i : ℕ) (id store : List ℕ) (m : ℕ) → store ≡ subscription-put s i id .subs → m ≡ length id
-    → with-stores s store (set (s .«sub_lens») i m) (s .txs) (s .«tx_lens») ≡ subscription-put s i id
-subscription-stored s i id store m e l = rw (e, l)
+-- a session with an id put in a place of a kind, as it is stored
+module _ (s : Session) (i : ℕ) (id store : List ℕ) (m : ℕ) (l : m ≡ length id) (k : Kind) where
+  pub subscription-stored : k ≡ Subscriptions → store ≡ put-in id-max (s .subs) i id → with-stores s store (set (s .«sub_lens») i m) (s .txs) (s .«tx_lens») ≡ put-of k s i id
+  subscription-stored is e = rw (is, e, l)
 
-pub transaction-stored : (s : Session) (i : ℕ) (id store : List ℕ) (m : ℕ) → store ≡ transaction-put s i id .txs → m ≡ length id
-    → with-stores s (s .subs) (s .«sub_lens») store (set (s .«tx_lens») i m) ≡ transaction-put s i id
-transaction-stored s i id store m e l = rw (e, l)
+  pub transaction-stored : k ≡ Transactions → store ≡ put-in id-max (s .txs) i id → with-stores s (s .subs) (s .«sub_lens») store (set (s .«tx_lens») i m) ≡ put-of k s i id
+  transaction-stored is e = rw (is, e, l)
 
 -- the interval of a valid session is small
 pub small-inbound : (s : Session) → is-valid s ≡ true → s .inbound ≤ 3600000

@@ -45,21 +45,14 @@ phase-number phase n =
     (cond (from-server n) 41
     (cond (cond (opens n) (not (eqb phase fresh-phase)) (not (eqb phase open-phase))) 42 0))
 
--- a session with an id put in a place
-abbrev pub subscription-put : Session → ℕ → List ℕ → Session
-subscription-put s k id = with-stores s (put-in id-max (s .subs) k id) (set (s .«sub_lens») k (length id)) (s .txs) (s .«tx_lens»)
-
-abbrev pub transaction-put : Session → ℕ → List ℕ → Session
-transaction-put s k id = with-stores s (s .subs) (s .«sub_lens») (put-in id-max (s .txs) k id) (set (s .«tx_lens») k (length id))
-
--- the same by the kind of id, and how many places a kind has
+-- how many places a kind of id has, and the session with an id put in one of them
 abbrev pub count-of : Kind → ℕ
 count-of Subscriptions = subscriptions-max
 count-of Transactions = transactions-max
 
 abbrev pub put-of : Kind → Session → ℕ → List ℕ → Session
-put-of Subscriptions = subscription-put
-put-of Transactions = transaction-put
+put-of Subscriptions s k id = with-stores s (put-in id-max (s .subs) k id) (set (s .«sub_lens») k (length id)) (s .txs) (s .«tx_lens»)
+put-of Transactions s k id = with-stores s (s .subs) (s .«sub_lens») (put-in id-max (s .txs) k id) (set (s .«tx_lens») k (length id))
 
 -- an id of a kind used
 abbrev pub GivesUse : Kind → Session → Use → List ℕ → Bool → ℕ → Outcome → Type 0

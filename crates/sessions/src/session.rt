@@ -6,11 +6,11 @@ ghost use lib.ListN.{length};
 ghost use Rattle.headers.specs.Block.{entries, listed};
 ghost use Rattle.headers.specs.Answers.{is-block};
 ghost use Rattle.sessions.specs.Opening.{highest, interval};
-ghost use Rattle.sessions.specs.Sessions.{subscriptions-max, transactions-max, id-max, fresh, ids-of, closed, opened, valid-numbers, valid-ids, is-valid};
+ghost use Rattle.sessions.specs.Sessions.{id-max, fresh, ids-of, closed, opened, valid-numbers, valid-ids, is-valid};
 ghost use Rattle.sessions.specs.Answers.{answer-says, making-says, timed-out-says};
 ghost use Rattle.sessions.specs.Calls.{making-answer, made, frame-answer, frame-session, beat-answer, beat-session, timed-out-answer};
 ghost use Rattle.sessions.specs.Places.{Settles};
-ghost use Rattle.sessions.specs.Steps.{kept-by, closed-by, accepted-by, subscription-put, transaction-put, count-of, put-of, GivesUse, GivesOpening, GivesNaming, GivesEntries};
+ghost use Rattle.sessions.specs.Steps.{kept-by, closed-by, accepted-by, count-of, put-of, GivesUse, GivesOpening, GivesNaming, GivesEntries};
 use crate::command::DISCONNECT;
 use crate::command::Header;
 use crate::command::Kind;
@@ -276,39 +276,26 @@ impl Session {
         self.opened(shared, beats).accepted(false, time)
     }
 
-    // The session with an id in a place of the subscriptions.
-    fn with_subscription(mut self, index: usize, id: &[u8]) -> Session
-        requires { ⌜ (index < subscriptions-max) × (length (now id) ≤ id-max) ⌝ }
-        ensures { λ r. ⌜ r ≡ subscription-put self index (now (id .entry)) ⌝ }
-    {
-        let mut subs = self.subs;
-        crate::store::put(&mut subs, index, Session::ID, id);
-        self.subs = subs;
-        self.sub_lens[index] = (id.len() % 256) as u8;
-        self
-    }
-
-    // The same of the transactions.
-    fn with_transaction(mut self, index: usize, id: &[u8]) -> Session
-        requires { ⌜ (index < transactions-max) × (length (now id) ≤ id-max) ⌝ }
-        ensures { λ r. ⌜ r ≡ transaction-put self index (now (id .entry)) ⌝ }
-    {
-        let mut txs = self.txs;
-        crate::store::put(&mut txs, index, Session::ID, id);
-        self.txs = txs;
-        self.tx_lens[index] = (id.len() % 256) as u8;
-        self
-    }
-
-    // The same by the kind of id.
-    fn with_id(self, kind: Kind, index: usize, id: &[u8]) -> Session
+    // The session with an id in a place of a kind.
+    fn with_id(mut self, kind: Kind, index: usize, id: &[u8]) -> Session
         requires { ⌜ (index < count-of kind) × (length (now id) ≤ id-max) ⌝ }
         ensures { λ r. ⌜ r ≡ put-of kind self index (now (id .entry)) ⌝ }
     {
         match kind {
-            Kind::Subscriptions => self.with_subscription(index, id),
-            Kind::Transactions => self.with_transaction(index, id),
+            Kind::Subscriptions => {
+                let mut subs = self.subs;
+                crate::store::put(&mut subs, index, Session::ID, id);
+                self.subs = subs;
+                self.sub_lens[index] = (id.len() % 256) as u8;
+            }
+            Kind::Transactions => {
+                let mut txs = self.txs;
+                crate::store::put(&mut txs, index, Session::ID, id);
+                self.txs = txs;
+                self.tx_lens[index] = (id.len() % 256) as u8;
+            }
         }
+        self
     }
 
     // What becomes of a use of an id of a kind.
