@@ -20,7 +20,8 @@ use Rattle.headers.specs.declared.text.Style.{Style}
 use Rattle.headers.specs.declared.text.Field.{Field}
 use Rattle.headers.proofs.Rows.{and-left, and-right, every-append, any-key}
 use Rattle.headers.proofs.Coding.{decode-short}
-use Rattle.headers.proofs.Blocks.{length-image, Finds, find-finds}
+use Rattle.headers.proofs.Blocks.{length-image}
+use Rattle.headers.proofs.Finding.{Finds, find-finds}
 use Rattle.frames.specs.Grammar.{Version, Command, word, style, end, Line, line, lines, LineOk, Head, HeadOk, frame, octets, Valid}
 use Rattle.frames.specs.Scanning.{span, plain-in}
 use Rattle.frames.specs.Layout.{stop-span, behind-end, front-name, behind-colon, front-value, at-end, behind-line, front-line, front-lines, behind-word}

@@ -26,7 +26,7 @@ use Rattle.headers.specs.declared.text.Field.{Field}
 use Rattle.headers.proofs.Rows.{cond-case, and-left, and-right, empty-not, every-left, every-right, every-append, any-key}
 use Rattle.headers.proofs.Coding.{decode-means, encode-decode, decode-short}
 use Rattle.headers.proofs.Numerals.{numeral-octets}
-use Rattle.headers.proofs.Blocks.{entries-image}
+use Rattle.headers.proofs.LaidOut.{entries-image}
 use Rattle.headers.proofs.Settling.{raw-long, can}
 use Rattle.frames.specs.Grammar.{Version, Command, number, word, style, lines-max, most, end, Line, line, lines, LineOk, declared, LengthOk, BodyOk, Head, head, Tree, frame, octets, Valid}
 use Rattle.frames.specs.Open.{entry}

@@ -3,6 +3,7 @@ pub mod Reading
 pub mod Coding
 pub mod Numerals
 pub mod Blocks
+pub mod LaidOut
 pub mod Finding
 pub mod Put
 pub mod Settling

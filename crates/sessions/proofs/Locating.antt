@@ -17,7 +17,7 @@ use Rattle.headers.specs.Block.{Entry, Block, entries, first-value, listed}
 use Rattle.headers.specs.Answers.{found-says, find-answer, is-block}
 use Rattle.headers.specs.declared.block.Found.{Found}
 use Rattle.headers.proofs.block.Found as found
-use Rattle.headers.proofs.Blocks.{block-entries, is-block-sound}
+use Rattle.headers.proofs.LaidOut.{block-entries, is-block-sound}
 use Rattle.headers.proofs.FirstValues.{find-absent, find-value, find-accepts}
 use Rattle.sessions.specs.Headers.{name-of, value-of, is-some, has, lacks}
 use Rattle.sessions.specs.Reads.{value-at, Locates}

@@ -11,7 +11,8 @@ use Rattle.headers.specs.Rows.{same}
 use Rattle.headers.specs.Block.{Entry, entries, spans}
 use Rattle.headers.specs.Answers.{accepted, refused, find-answer, find-from}
 use Rattle.headers.specs.declared.block.Lengths.{Lengths}
-use Rattle.headers.proofs.Blocks.{Placed, placed, told-entry, told-end, told-malformed, find-passes, find-stops}
+use Rattle.headers.proofs.Blocks.{Placed, placed, told-entry, told-end, told-malformed}
+use Rattle.headers.proofs.Finding.{find-passes, find-stops}
 use Rattle.headers.proofs.block.find.Statement.{statement}
 use Rattle.headers.proofs.block.find.Tie as tie
 
