@@ -13,7 +13,7 @@ use Rattle.headers.specs.Rows.{same, every, empty, All}
 use Rattle.headers.proofs.Rows.{every-left, empty-not, and-left, and-right, or-false-left, or-false-right, implied, implied-not}
 use Rattle.headers.specs.Lines.{content-length, line-max}
 use Rattle.headers.specs.Numbers.{Amount, decimal, is-digit}
-use Rattle.headers.proofs.Numerals.{decimal-left}
+use Rattle.headers.proofs.Decimals.{decimal-left}
 use Rattle.frames.specs.Machine.{go, run, finished}
 use Rattle.headers.specs.Text.{Part, fresh, owes, into, reads}
 use Rattle.headers.specs.declared.text.Field.the-variants.{Name as in-name, Value as in-value}

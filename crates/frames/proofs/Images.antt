@@ -27,7 +27,8 @@ use Rattle.headers.specs.declared.text.Field.the-variants.{Name as in-name, Val
 use Rattle.headers.proofs.Rows.{cond-case, and-left, and-right, and-no, not-empty, cons-some, every-left, every-right, every-append, every-snoc, any-key}
 use Rattle.headers.proofs.Coding.{decode-encode, encode-decode, encode-text, decode-bare, bare, content-length-bare}
 use Rattle.headers.proofs.Reading.{digits-text, is-text-text}
-use Rattle.headers.proofs.Numerals.{digit-range, shortest-digits, length-shortest, size-least, amount-record, amount-shortest}
+use Rattle.headers.proofs.Numerals.{size-least}
+use Rattle.headers.proofs.Decimals.{digit-range, shortest-digits, length-shortest, amount-record, amount-shortest}
 use Rattle.headers.proofs.LaidOut.{entries-block}
 use Rattle.headers.proofs.Settling.{raw-long}
 use Rattle.frames.specs.Grammar.{Version, Command, number, word, style, most, lines-max, body-max, end, Line, lines, LineOk, declared, LengthOk, BodyOk, Head, head, Tree, frame, octets, Shaped, Valid}

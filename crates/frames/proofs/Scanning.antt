@@ -15,7 +15,7 @@ use Rattle.headers.specs.Numbers.{is-digit, decimal}
 use Rattle.headers.specs.Lines.{content-length}
 use Rattle.headers.specs.declared.text.Field.the-variants.{Name as in-name, Value as in-value}
 use Rattle.headers.proofs.Rows.{and-left, and-right, same-eq, cond-case, every-right, every-last, empty-eqb, begins-snoc, begins-front, front-of}
-use Rattle.headers.proofs.Numerals.{decimal-none, decimal-snoc}
+use Rattle.headers.proofs.Decimals.{decimal-none, decimal-snoc}
 use Rattle.frames.specs.Machine.{Next, go, done, refuse, Run, run, going, finished, stopped, after}
 use Rattle.frames.specs.Grammar.{Version, Shaped, Command, number, word, style, most, Head, Tree, heart-beat, frame, octets, declared, head, end}
 use Rattle.frames.specs.Open.{Open, start, heart-beat-13, command, command-13, begin, name, value, line-13, blank-13, body, all, opened, entry, unseen, watched, partial-amount, so-far, Ok, ValueOk}

@@ -13,7 +13,7 @@ use Rattle.headers.specs.Rows.{same, every, begins, empty, All}
 use Rattle.headers.proofs.Rows.{same-eq, every-snoc, begins-rest, not-empty, snoc-some, unless, and-false, cond-case, and-left, and-right}
 use Rattle.headers.specs.Lines.{content-length, line-max}
 use Rattle.headers.specs.Numbers.{Amount, decimal, is-digit}
-use Rattle.headers.proofs.Numerals.{decimal-none}
+use Rattle.headers.proofs.Decimals.{decimal-none}
 use Rattle.frames.specs.Machine.{Next, go, done}
 use Rattle.frames.proofs.Recognizer.{After}
 use Rattle.headers.specs.Text.{Part, fresh, owes, Raw, Into, into, bad, stop, reads}

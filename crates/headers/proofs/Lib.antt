@@ -2,6 +2,7 @@ pub mod Rows
 pub mod Reading
 pub mod Coding
 pub mod Numerals
+pub mod Decimals
 pub mod Blocks
 pub mod LaidOut
 pub mod Finding

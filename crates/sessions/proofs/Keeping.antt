@@ -17,7 +17,7 @@ use Rattle.headers.specs.Numbers.{amount}
 use Rattle.headers.specs.Block.{Entry, entries, listed}
 use Rattle.headers.specs.Answers.{Answer, accepted, refused, settle}
 use Rattle.headers.proofs.Rows.{cond-case, and-left, and-right, or-false-left, or-false-right}
-use Rattle.headers.proofs.Numerals.{amount-record}
+use Rattle.headers.proofs.Decimals.{amount-record}
 use Rattle.frames.specs.Grammar.{DISCONNECT}
 use Rattle.sessions.specs.Stores.{distinct, valid-store, used, use-checks}
 use Rattle.sessions.specs.Places.{Fits}

@@ -1,7 +1,8 @@
 -- `encode::image_length` meets its contract.
 use borrow.Author.Needs.{needs}
 use native.Mathlib.Omega.{arith}
-use Rattle.headers.proofs.Numerals.{length-shortest, size-least}
+use Rattle.headers.proofs.Numerals.{size-least}
+use Rattle.headers.proofs.Decimals.{length-shortest}
 use Rattle.frames.proofs.Words.{short}
 use Rattle.frames.proofs.encode.image_length.Statement.{statement}
 use Rattle.frames.proofs.encode.image_length.Tie as tie

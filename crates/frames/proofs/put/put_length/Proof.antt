@@ -6,7 +6,7 @@ use native.Mathlib.Omega.{arith}
 use lib.ListN.{length, replicate}
 use Rattle.headers.specs.Numbers.{shortest}
 use Rattle.headers.specs.Answers.{decimal-says}
-use Rattle.headers.proofs.Numerals.{shortest-twenty}
+use Rattle.headers.proofs.Decimals.{shortest-twenty}
 use Rattle.headers.proofs.Settling.{decimal-length, decimal-never}
 use Rattle.frames.proofs.Putting.{said-never, said-put}
 use Rattle.frames.proofs.put.put_length.Statement.{statement}

@@ -4,7 +4,8 @@ use Prim.Native.Nat.{suc, _≤_, _+_}
 use native.Mathlib.Omega.{arith}
 use mathlib.Core.Path.{_≡_}
 use Rattle.headers.specs.Numbers.{size}
-use Rattle.headers.proofs.Numerals.{size-one, size-step, length-shortest}
+use Rattle.headers.proofs.Numerals.{size-one, size-step}
+use Rattle.headers.proofs.Decimals.{length-shortest}
 use Rattle.headers.proofs.decimal.decimal_length.Statement.{statement}
 use Rattle.headers.proofs.decimal.decimal_length.Tie as tie
 

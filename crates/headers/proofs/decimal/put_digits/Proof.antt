@@ -7,7 +7,7 @@ use mathlib.Core.List.{_++_}
 use mathlib.Core.Path.{_≡_, refl, _∙_}
 use lib.ListN.{length, drop, length-set}
 use Rattle.headers.specs.Numbers.{digits}
-use Rattle.headers.proofs.Numerals.{put-digit, put-none}
+use Rattle.headers.proofs.Decimals.{put-digit, put-none}
 use Rattle.headers.proofs.decimal.put_digits.Statement.{statement}
 use Rattle.headers.proofs.decimal.put_digits.Tie as tie
 

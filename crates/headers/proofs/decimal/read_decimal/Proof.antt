@@ -5,7 +5,7 @@ use Prim.Native.Nat.{_≤_, _-_}
 use mathlib.Core.Path.{_≡_, sym, _∙_}
 use lib.ListN.{length}
 use Rattle.headers.specs.Numbers.{amount}
-use Rattle.headers.proofs.Numerals.{amount-at, amount-empty, amount-start, amount-other, amount-digit, amount-over, amount-end, digit-low, digit-high, digit-between}
+use Rattle.headers.proofs.Decimals.{amount-at, amount-empty, amount-start, amount-other, amount-digit, amount-over, amount-end, digit-low, digit-high, digit-between}
 use Rattle.headers.proofs.decimal.read_decimal.Statement.{statement}
 use Rattle.headers.proofs.decimal.read_decimal.Tie as tie
 

@@ -9,7 +9,7 @@ use borrow.Author.Needs.{needs}
 use borrow.Author.Tests.{lt-ltb, le-ltb}
 use Rattle.headers.specs.Numbers.{digits, shortest}
 use Rattle.headers.specs.Answers.{accepted, refused, left-in, decimal-answer}
-use Rattle.headers.proofs.Numerals.{digits-shortest}
+use Rattle.headers.proofs.Decimals.{digits-shortest}
 use Rattle.headers.proofs.decimal.write_decimal.Statement.{statement}
 use Rattle.headers.proofs.decimal.write_decimal.Tie as tie
 

@@ -7,7 +7,7 @@ use native.Mathlib.Omega.{arith}
 use lib.ListN.{length, length-append}
 use Rattle.headers.specs.Numbers.{shortest}
 use Rattle.headers.specs.Answers.{decimal-says}
-use Rattle.headers.proofs.Numerals.{shortest-twenty}
+use Rattle.headers.proofs.Decimals.{shortest-twenty}
 use Rattle.headers.proofs.Settling.{decimal-length, decimal-never}
 use Rattle.listing.proofs.Rows.{decimal-behind}
 use Rattle.listing.proofs.line.put_number.Statement.{statement}

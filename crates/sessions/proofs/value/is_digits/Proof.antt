@@ -6,7 +6,7 @@ use lib.ListN.{length, drop}
 use Rattle.headers.specs.Rows.{every}
 use Rattle.headers.specs.Numbers.{is-digit}
 use Rattle.headers.proofs.Rows.{every-step, every-end}
-use Rattle.headers.proofs.Numerals.{digit-low, digit-high, digit-between}
+use Rattle.headers.proofs.Decimals.{digit-low, digit-high, digit-between}
 use Rattle.sessions.specs.Values.{some-digits}
 use Rattle.sessions.proofs.Values.{digits-none, digits-some}
 use Rattle.sessions.proofs.value.is_digits.Statement.{statement}
