@@ -2,8 +2,8 @@
 use borrow.Author.Needs.{needs}
 use Prim.Native.Nat.{_≤_, _-_}
 use lib.ListN.{length}
-use Rattle.header_examples.proofs.octets.Statement.{statement}
-use Rattle.header_examples.proofs.octets.Tie as tie
+use Rattle.header_examples.proofs.show.octets.Statement.{statement}
+use Rattle.header_examples.proofs.show.octets.Tie as tie
 
 abbrev Inv-loop : tie.InvT-loop
 Inv-loop s i₀ t3 t4 i = i ≤ length s

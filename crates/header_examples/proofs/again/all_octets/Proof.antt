@@ -3,8 +3,8 @@ use borrow.Author.Needs.{needs}
 use Prim.Native.Nat.{_≤_, _-_}
 use lib.ListN.{length}
 use mathlib.Core.Path.{_≡_}
-use Rattle.header_examples.proofs.all_octets.Statement.{statement}
-use Rattle.header_examples.proofs.all_octets.Tie as tie
+use Rattle.header_examples.proofs.again.all_octets.Statement.{statement}
+use Rattle.header_examples.proofs.again.all_octets.Tie as tie
 
 abbrev Inv-loop : tie.InvT-loop
 Inv-loop all₀ i₀ all i = (i ≤ 256) × (length all ≡ 256)

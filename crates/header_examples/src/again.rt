@@ -1,0 +1,76 @@
+// Every octet in a value, written as a line and read back from it.
+use crate::calls::length;
+use crate::calls::lengths;
+use crate::show::number;
+use crate::show::say;
+use crate::show::yes_or_no;
+use headers::EntryAt;
+use headers::Field;
+use headers::LineWritten;
+use headers::Style;
+
+// The octets 0 to 255.
+fn all_octets() -> [u8; 256] {
+    let mut all = [0u8; 256];
+    let mut i: usize = 0;
+    while i < 256 {
+        all[i] = i as u8;
+        i += 1;
+    }
+    all
+}
+
+// The octets 0 to 255 as a value: encoded, decoded again, and compared.
+pub(crate) fn every_octet() {
+    let all = all_octets();
+    let value: &[u8] = &all;
+    lengths(b"every octet: ", value);
+    again(value);
+    length(b"every octet, no escapes: ", value, false);
+}
+
+// A value written as a line, its raw value made a record, and the record's value compared with it.
+fn again(value: &[u8]) {
+    let mut raw = [0u8; 600];
+    let n = line_of(&mut raw, value);
+    if 3 <= n {
+        if n <= 600 {
+            let last = n - 1;
+            raw_again(&raw[2..last], value);
+        }
+    }
+}
+
+// Writes the line of a value, whose name has one octet: its length, or 0.
+fn line_of(d: &mut [u8], value: &[u8]) -> usize {
+    match headers::write_line(d, b"x", value, Style { escapes: true }) {
+        LineWritten::Length(n) => n,
+        LineWritten::Unwritable => 0,
+        LineWritten::TooShort => 0,
+    }
+}
+
+// A raw value made a record, and the record's value compared with another.
+fn raw_again(text: &[u8], value: &[u8]) {
+    say(b"its raw value: ");
+    number(text.len() as u64);
+    say(b" ");
+    yes_or_no(headers::is_raw(text, Style { escapes: true }, Field::Value));
+    let mut block = [0u8; 600];
+    headers::write_record(&mut block, b"x", text, Style { escapes: true });
+    compare(&block, value);
+}
+
+// Whether the value of the first record of a buffer, whose name has one octet, is this one.
+fn compare(block: &[u8], value: &[u8]) {
+    if let EntryAt::Entry(l) = headers::entry_at(block, 0) {
+        if 7 <= block.len() {
+            let rest = &block[7..];
+            let n = l.value;
+            if n <= rest.len() {
+                say(b"decoded again: ");
+                yes_or_no(headers::equal(&rest[0..n], value));
+            }
+        }
+    }
+}
