@@ -7,6 +7,7 @@ use lib.Seq.{take-suc-set, drop-set-lt, drop-cons, set-at, append-snoc, take-suc
 use native.Mathlib.Numerals.{add-one}
 use native.Mathlib.Omega.{arith}
 use borrow.Rule.Slice.PartMut.{putMid, midOf}
+use Rattle.headers.specs.Answers.{Puts}
 
 module _ (a n : ℕ) (xs ys R : List ℕ) (long : length R ≡ n) (fits : a + n ≤ length xs) (is : ys ≡ R ++ drop n (midOf a (length xs - a) xs)) where
   pub put-whole : putMid a (length xs - a) xs ys ≡ take a xs ++ (R ++ drop (a + n) xs)
@@ -51,8 +52,7 @@ put-done a d d₀ todo whole w e k =
     ∙ ap (λ z. z ++ drop a d₀) (sym (append-nil (take a d)) ∙ ap (λ z. take a d ++ z) (sym e) ∙ w)
 
 -- the same with how much was written
-pub put-whole-done : (a : ℕ) (d d₀ todo whole : List ℕ) → take a d ++ todo ≡ whole → a + length todo ≡ length whole → todo ≡ [] → drop a d ≡ drop a d₀
-    → (a ≡ length whole) × (d ≡ whole ++ drop (length whole) d₀)
+pub put-whole-done : (a : ℕ) (d d₀ todo whole : List ℕ) → take a d ++ todo ≡ whole → a + length todo ≡ length whole → todo ≡ [] → drop a d ≡ drop a d₀ → Puts whole a d₀ d
 put-whole-done a d d₀ todo whole w l e k =
     let all : a ≡ length whole = omega (arith, ap length e) in
     (all, put-done a d d₀ todo whole w e k ∙ ap (λ z. whole ++ drop z d₀) all)

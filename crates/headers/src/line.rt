@@ -1,13 +1,12 @@
 // One raw header line, written from an entry's name and value.
 ghost use mathlib.Core.Path.{_≡_};
-ghost use mathlib.Core.List.{_++_};
 ghost use Prim.Native.Nat.{_+_, _≤_};
 ghost use lib.ListN.{length, take, drop};
 ghost use lib.Dec.{leb};
 ghost use Rattle.headers.specs.Rows.{every};
 ghost use Rattle.headers.specs.Escapes.{writable, encode};
 ghost use Rattle.headers.specs.Lines.{entry-of, written-line};
-ghost use Rattle.headers.specs.Answers.{left-in, writable-answer, length-answer, length-says, encoded-answer, line-answer, line-says};
+ghost use Rattle.headers.specs.Answers.{left-in, Puts, writable-answer, length-answer, length-says, encoded-answer, line-answer, line-says};
 use crate::octets::both_fit;
 use crate::text::Field;
 use crate::text::Style;
@@ -91,11 +90,7 @@ pub fn entry_length(text: &[u8], name: usize, style: Style) -> LineLength
 // The raw line of an entry, with octet 10 behind it, at the front of d; its length.
 fn put_line(d: &mut [u8], name: &[u8], value: &[u8], style: Style) -> usize
     requires { ⌜ length (written-line style (entry-of (now name) (now value))) ≤ length (now d) ⌝ }
-    ensures { λ r. ⌜
-        (r ≡ length (written-line style (entry-of (now (name .entry)) (now (value .entry)))))
-        × (now (d .exit) ≡ written-line style (entry-of (now (name .entry)) (now (value .entry)))
-        ++ drop (length (written-line style (entry-of (now (name .entry)) (now (value .entry))))) (now (d .entry)))
-        ⌝ }
+    ensures { λ r. ⌜ Puts (written-line style (entry-of (now (name .entry)) (now (value .entry)))) r (now (d .entry)) (now (d .exit)) ⌝ }
 {
     let n = put_encoded(d, name, style);
     d[n] = 58;

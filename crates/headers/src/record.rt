@@ -6,7 +6,7 @@ ghost use lib.ListN.{length, drop};
 ghost use lib.Dec.{leb};
 ghost use Rattle.headers.specs.Escapes.{decode};
 ghost use Rattle.headers.specs.Block.{record-head};
-ghost use Rattle.headers.specs.Answers.{left-in, written-record, decoded-answer, record-answer, record-says};
+ghost use Rattle.headers.specs.Answers.{left-in, Puts, written-record, decoded-answer, record-answer, record-says};
 use crate::octets::both_fit;
 use crate::text::Field;
 use crate::text::Style;
@@ -39,10 +39,7 @@ fn put_head(d: &mut [u8], name: usize, value: usize)
 // The record of a header line at the front of d, from the line's raw name and value; its length.
 fn put_record(d: &mut [u8], name: &[u8], value: &[u8], style: Style) -> usize
     requires { ⌜ 6 + length (decode style (now name)) + length (decode style (now value)) ≤ length (now d) ⌝ }
-    ensures { λ r. ⌜
-        (r ≡ length (written-record style (now (name .entry)) (now (value .entry))))
-        × (now (d .exit) ≡ written-record style (now (name .entry)) (now (value .entry)) ++ drop (length (written-record style (now (name .entry)) (now (value .entry)))) (now (d .entry)))
-        ⌝ }
+    ensures { λ r. ⌜ Puts (written-record style (now (name .entry)) (now (value .entry))) r (now (d .entry)) (now (d .exit)) ⌝ }
 {
     let n = put_decoded(&mut d[6..], name, style);
     let e = 6 + n;

@@ -1,12 +1,12 @@
 // Raw header text: tests on it, its decoding and encoding.
 ghost use mathlib.Core.Path.{_≡_};
 ghost use mathlib.Core.Bool.{cond, not};
-ghost use mathlib.Core.List.{_++_};
 ghost use Prim.Native.Nat.{_+_, _≤_, _<_};
 ghost use lib.ListN.{length, drop};
 ghost use Rattle.headers.specs.Rows.{every};
 ghost use Rattle.headers.specs.Text.{stops, opens, is-letter, is-text};
 ghost use Rattle.headers.specs.Escapes.{at-escape, width, octet-at, meaning, letter-of, escaped, writable, decode, encode-octet, encode};
+ghost use Rattle.headers.specs.Answers.{Puts};
 
 // What a command makes of header text.
 pub struct Style {
@@ -152,10 +152,7 @@ pub fn decoded_length(raw: &[u8], style: Style) -> usize
 // The raw text, decoded, at the front of d; its length decoded.
 pub(crate) fn put_decoded(d: &mut [u8], raw: &[u8], style: Style) -> usize
     requires { ⌜ length (decode style (now raw)) ≤ length (now d) ⌝ }
-    ensures { λ r. ⌜
-        (r ≡ length (decode style (now (raw .entry))))
-        × (now (d .exit) ≡ decode style (now (raw .entry)) ++ drop (length (decode style (now (raw .entry)))) (now (d .entry)))
-        ⌝ }
+    ensures { λ r. ⌜ Puts (decode style (now (raw .entry))) r (now (d .entry)) (now (d .exit)) ⌝ }
 {
     let mut n = 0usize;
     let mut i = 0usize;
@@ -200,10 +197,7 @@ pub fn encoded_length(text: &[u8], style: Style) -> usize
 // An octet, encoded, at the front of d; its length encoded.
 fn put_octet(d: &mut [u8], x: u8, style: Style) -> usize
     requires { ⌜ length (encode-octet style x) ≤ length (now d) ⌝ }
-    ensures { λ r. ⌜
-        (r ≡ length (encode-octet style x))
-        × (now (d .exit) ≡ encode-octet style x ++ drop (length (encode-octet style x)) (now (d .entry)))
-        ⌝ }
+    ensures { λ r. ⌜ Puts (encode-octet style x) r (now (d .entry)) (now (d .exit)) ⌝ }
 {
     if is_escaped(style, x) {
         d[0] = 92;
@@ -217,10 +211,7 @@ fn put_octet(d: &mut [u8], x: u8, style: Style) -> usize
 // The text, encoded, at the front of d; its length encoded.
 pub(crate) fn put_encoded(d: &mut [u8], text: &[u8], style: Style) -> usize
     requires { ⌜ length (encode style (now text)) ≤ length (now d) ⌝ }
-    ensures { λ r. ⌜
-        (r ≡ length (encode style (now (text .entry))))
-        × (now (d .exit) ≡ encode style (now (text .entry)) ++ drop (length (encode style (now (text .entry)))) (now (d .entry)))
-        ⌝ }
+    ensures { λ r. ⌜ Puts (encode style (now (text .entry))) r (now (d .entry)) (now (d .exit)) ⌝ }
 {
     let mut n = 0usize;
     let mut i = 0usize;
