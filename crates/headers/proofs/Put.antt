@@ -1,7 +1,13 @@
--- What a slice holds when a callee has written R at the front of the part from a on.
+-- What a slice holds when a callee has written R at the front of the part from a on. Assumes nothing.
+--     put-whole, put-more, put-kept, put-done    such a write by itself, in a loop, and where nothing is left to write
+--     copy-more                                  one octet more of a copy
+--     put-grow, put-front, store-grow            a list that begins with what is written and goes on as before
+--     store-more, store-kept                     a store in a loop
+--     put-marks                                  two writes, each with an octet stored behind it
+--     Partly, partly-..                          some parts written, and the others left to write
 use Prim.Native.Nat.{ℕ, suc, _+_, _-_, _≤_, _<_}
 use mathlib.Core.List.{List, [], _∷_, _++_, append-assoc, append-nil}
-use mathlib.Core.Path.{_≡_, ap, sym, _∙_}
+use mathlib.Core.Path.{_≡_, refl, ap, sym, _∙_}
 use lib.ListN.{length, take, drop, set, getD, drop-of-length-le, take-append-drop, length-append, length-take, length-drop, length-set}
 use lib.Seq.{take-suc-set, drop-set-lt, drop-cons, set-at, append-snoc, take-suc, take-all, drop-drop, take-at, drop-at, length-take-le}
 use native.Mathlib.Numerals.{add-one}
@@ -114,3 +120,70 @@ module _ (d l ys N W : List ℕ) (n v x : ℕ) (nl : n ≡ length N) (wl : v ≡
   pub put-marks : (l₂ : List ℕ) (y k : ℕ) → l₂ ≡ putMid (n + 1) (length (set l n x) - (n + 1)) (set l n x) ys → k ≡ n + 1 + v + 1
       → (length l₂ ≡ length d) × (length (set l₂ (n + 1 + v) y) ≡ length d) × (set l₂ (n + 1 + v) y ≡ (N ++ (x ∷ (W ++ (y ∷ [])))) ++ drop k d)
   put-marks l₂ y k e q = rw e (pair-long, length-set (putMid (n + 1) (length (set l n x) - (n + 1)) (set l n x) ys) (n + 1 + v) y ∙ pair-long, marked y k q)
+
+-- ## Parts one behind another
+
+-- of whole, todo is left to write from place at on; what is before it stands in d, which is as d₀ from there on
+pub record Partly (whole todo d₀ d : List ℕ) (at : ℕ) : Type 0 where
+  pub room : length whole ≤ length d₀
+  pub as-long : length d ≡ length d₀
+  pub long : at + length todo ≡ length whole
+  pub parts : take at d ++ todo ≡ whole
+  pub kept : drop at d ≡ drop at d₀
+
+-- where nothing is written yet, and where R is, at the front
+pub partly-none : (whole d : List ℕ) → length whole ≤ length d → Partly whole whole d d 0
+partly-none whole d h = record { room = h; as-long = refl; long = omega arith; parts = refl; kept = refl }
+
+pub partly-first : (whole R rest d₀ d : List ℕ) (n : ℕ) → length whole ≤ length d₀ → R ++ rest ≡ whole → n ≡ length R → d ≡ R ++ drop n d₀ → Partly whole rest d₀ d n
+partly-first whole R rest d₀ d n h e l w =
+    let long : length R + length rest ≡ length whole = sym (length-append R rest) ∙ ap length e in
+    record {
+      room = h;
+      as-long = ap length w ∙ simp (length-append, length-drop) (omega arith);
+      long = omega arith;
+      parts = ap (_++ rest) (ap (take n) w ∙ take-at R (drop n d₀) n (sym l)) ∙ e;
+      kept = ap (drop n) w ∙ drop-at R (drop n d₀) n (sym l);
+    }
+
+module _ {whole todo d₀ d : List ℕ} {at : ℕ} (so : Partly whole todo d₀ d at) where
+  pub partly-inside : at ≤ length d
+  partly-inside = omega (arith, so .room, so .as-long, so .long)
+
+  pub partly-done : todo ≡ [] → Puts whole at d₀ d
+  partly-done e = put-whole-done at d d₀ todo whole (so .parts) (so .long) e (so .kept)
+
+  -- R written next, by a callee
+  module _ (R rest : List ℕ) (next : todo ≡ R ++ rest) where
+    todo-long : length todo ≡ length R + length rest
+    todo-long = ap length next ∙ length-append R rest
+
+    pub partly-fits : length R ≤ length (midOf at (length d - at) d)
+    partly-fits = simp (length-take, length-drop) (omega (arith, so .room, so .as-long, so .long, todo-long))
+
+    pub partly-put : (n : ℕ) (ys : List ℕ) → n ≡ length R → ys ≡ R ++ drop (length R) (midOf at (length d - at) d) → Partly whole rest d₀ (putMid at (length d - at) d ys) (at + n)
+    partly-put n ys e w =
+        let fits : at + n ≤ length d = omega (arith, so .room, so .as-long, so .long, todo-long) in
+        let put : ys ≡ R ++ drop n (midOf at (length d - at) d) = w ∙ ap (λ z. R ++ drop z (midOf at (length d - at) d)) (sym e) in
+        record {
+          room = so .room;
+          as-long = put-length at n d ys R (sym e) fits put ∙ so .as-long;
+          long = omega (arith, so .long, todo-long);
+          parts = put-more at n d ys R (sym e) fits put todo rest (so .parts) next;
+          kept = put-kept at n d ys R (sym e) fits put d₀ (so .kept);
+        }
+
+  -- v stored next
+  module _ (v : ℕ) (rest : List ℕ) (next : todo ≡ v ∷ rest) where
+    pub partly-here : at < length d
+    partly-here = omega (arith, so .room, so .as-long, so .long, ap length next)
+
+    pub partly-store : Partly whole rest d₀ (set d at v) (at + 1)
+    partly-store =
+        record {
+          room = so .room;
+          as-long = length-set d at v ∙ so .as-long;
+          long = omega (arith, so .long, ap length next);
+          parts = store-more at v d partly-here rest (ap (take at d ++_) (sym next) ∙ so .parts);
+          kept = store-kept at v d partly-here d₀ (so .kept);
+        }

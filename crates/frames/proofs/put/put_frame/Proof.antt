@@ -10,7 +10,7 @@ use Rattle.headers.specs.Block.{entries, listed}
 use Rattle.frames.specs.Scanning.{word-of}
 use Rattle.frames.specs.Encoding.{written-lines}
 use Rattle.frames.specs.Writing.{added-octets, image-of}
-use Rattle.frames.proofs.Putting.{Partly, partly-first, partly-inside, partly-done, partly-fits, partly-put, partly-here, partly-store}
+use Rattle.headers.proofs.Put.{Partly, partly-first, partly-inside, partly-done, partly-fits, partly-put, partly-here, partly-store}
 use Rattle.frames.proofs.put.put_frame.Statement.{statement}
 use Rattle.frames.proofs.put.put_frame.Tie as tie
 

@@ -5,7 +5,8 @@ use native.Mathlib.Omega.{arith}
 use lib.ListN.{length}
 use borrow.Rule.Slice.PartMut.{putMid}
 use Rattle.headers.proofs.Blocks.{Placed, place-behind, told-entry}
-use Rattle.frames.proofs.Putting.{partly-none, partly-inside, Lines, lines-end, line-never, lines-more}
+use Rattle.headers.proofs.Put.{partly-none, partly-inside}
+use Rattle.frames.proofs.Putting.{Lines, lines-end, line-never, lines-more}
 use Rattle.frames.proofs.put.put_lines.Statement.{statement}
 use Rattle.frames.proofs.put.put_lines.Tie as tie
 

@@ -1,25 +1,24 @@
 -- `text::put_decoded` meets its contract: what is written and what is left to decode make the whole.
 use borrow.Author.Needs.{needs}
-use mathlib.Core.Path.{_≡_, refl, sym, ap, _∙_}
-use mathlib.Core.List.{List, _++_}
+use mathlib.Core.Path.{_≡_, sym, ap, _∙_}
 use mathlib.Core.Logic.{⊎-elim}
-use Prim.Native.Nat.{_+_, _≤_, _<_, _-_}
+use Prim.Native.Nat.{_+_, _≤_, _-_}
 use native.Mathlib.Omega.{arith}
-use lib.ListN.{length, take, drop, set, length-set}
+use lib.ListN.{length, drop, set}
 use Rattle.headers.specs.Escapes.{decode, octet-at, width}
 use Rattle.headers.proofs.Coding.{decode-step, decode-end, width-fits, width-some, plain-octet, plain-width}
-use Rattle.headers.proofs.Put.{store-more, store-kept, put-whole-done}
+use Rattle.headers.proofs.Put.{Partly, partly-none, partly-done, partly-here, partly-store}
 use Rattle.headers.proofs.text.put_decoded.Statement.{statement}
 use Rattle.headers.proofs.text.put_decoded.Tie as tie
 
 abbrev Inv-loop : tie.InvT-loop
-Inv-loop d₀ raw style n₀ i₀ d n i = (length d ≡ length d₀) × (i ≤ length raw) × (n + length (decode style (drop i raw)) ≡ length (decode style raw)) × (take n d ++ decode style (drop i raw) ≡ decode style raw) × (drop n d ≡ drop n d₀)
+Inv-loop d₀ raw style n₀ i₀ d n i = (i ≤ length raw) × Partly (decode style raw) (decode style (drop i raw)) d₀ d n
 
 abbrev μ-loop : tie.MeasureT-loop
 μ-loop d₀ raw style n₀ i₀ d n i = length raw - i
 
 loop-holds : tie.Need-loop-holds Inv-loop μ-loop
-loop-holds c = (refl, omega arith, omega arith, refl, refl)
+loop-holds c = (omega arith, partly-none _ _ (c .before .before .pre))
 
 shared-slice-read-x : tie.Need-shared-slice-read-x Inv-loop μ-loop
 shared-slice-read-x c = search needs
@@ -33,7 +32,7 @@ decoded-at-requires c κs = search needs
 slice-write-d : tie.Need-slice-write-d Inv-loop μ-loop
 slice-write-d c = let l = c .before .before .before .before .before .loop in
     let a = c .before .before .before .before .before .before .before .before .args in
-    omega (arith, ap length (decode-step (a .style) (a .raw .now) (l .i) (c .before .before .before .before .loop-test .taken)), l .inv, c .before .before .before .before .before .before .before .before .pre)
+    partly-here (l .inv .1) _ _ (decode-step (a .style) (a .raw .now) (l .i) (c .before .before .before .before .loop-test .taken))
 
 width-at-requires : tie.Need-width-at-requires Inv-loop μ-loop
 width-at-requires c κs = search needs
@@ -46,7 +45,7 @@ add-i c = let l = c .before .before .before .before .before .before .loop in
 slice-write-d-2 : tie.Need-slice-write-d-2 Inv-loop μ-loop
 slice-write-d-2 c = let l = c .before .before .before .before .loop in
     let a = c .before .before .before .before .before .before .before .args in
-    omega (arith, ap length (decode-step (a .style) (a .raw .now) (l .i) (c .before .before .before .loop-test .taken)), l .inv, c .before .before .before .before .before .before .before .pre)
+    partly-here (l .inv .1) _ _ (decode-step (a .style) (a .raw .now) (l .i) (c .before .before .before .loop-test .taken))
 
 add-i-2 : tie.Need-add-i-2 Inv-loop μ-loop
 add-i-2 c = search needs
@@ -71,7 +70,7 @@ turned c =
 add-n : tie.Need-add-n Inv-loop μ-loop
 add-n c = let l = c .before .before .before .before .loop in
     let a = c .before .before .before .before .before .before .before .args in
-    omega (arith, ap length (decode-step (a .style) (a .raw .now) (l .i) (c .before .before .before .loop-test .taken)), l .inv, c .before .before .before .before .before .before .before .pre)
+    omega (arith, partly-here (l .inv .1) _ _ (decode-step (a .style) (a .raw .now) (l .i) (c .before .before .before .loop-test .taken)))
 
 loop-less : tie.Need-loop-less Inv-loop μ-loop
 loop-less c = let l = c .before .before .before .before .loop in
@@ -82,26 +81,16 @@ loop-again : tie.Need-loop-again Inv-loop μ-loop
 loop-again c = let l = c .before .before .before .before .loop in
     let a = c .before .before .before .before .before .before .before .args in
     let t = c .before .before .before .loop-test .taken in
-    let s = a .style in
-    let xs = a .raw .now in
-    let step = decode-step s xs (l .i) t in
-    let room : l .n < length (l .d) = omega (arith, ap length step, l .inv, c .before .before .before .before .before .before .before .pre) in
-    rw (turned c .0, turned c .1) (
-      length-set (l .d) (l .n) (octet-at s (drop (l .i) xs)) ∙ l .inv .0,
-      width-fits s xs (l .i) t,
-      omega (arith, ap length step, l .inv .2),
-      store-more (l .n) (octet-at s (drop (l .i) xs)) (l .d) room _ (ap (take (l .n) (l .d) ++_) (sym step) ∙ l .inv .3),
-      store-kept (l .n) (octet-at s (drop (l .i) xs)) (l .d) room _ (l .inv .4),
-    )
+    rw (turned c .0, turned c .1) (width-fits (a .style) (a .raw .now) (l .i) t, partly-store (l .inv .1) _ _ (decode-step (a .style) (a .raw .now) (l .i) t))
 
 same-length : tie.Need-same-length Inv-loop μ-loop
-same-length c = search needs
+same-length c = c .before .loop .inv .1 .as-long
 
 returns : tie.Need-returns Inv-loop μ-loop
 returns c =
     let l = c .before .loop in
     let a = c .before .before .before .before .args in
-    put-whole-done (l .n) (l .d) (a .d .now) _ _ (l .inv .3) (l .inv .2) (decode-end (a .style) (a .raw .now) (l .i) (c .loop-test .left)) (l .inv .4)
+    partly-done (l .inv .1) (decode-end (a .style) (a .raw .now) (l .i) (c .loop-test .left))
 
 pub put-decoded-spec : {M : Type 1} → statement M
 put-decoded-spec =

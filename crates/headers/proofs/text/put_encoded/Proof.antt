@@ -1,30 +1,29 @@
 -- `text::put_encoded` meets its contract: what is written and what is left to encode make the whole.
 use borrow.Author.Needs.{needs}
-use mathlib.Core.Path.{_≡_, refl, ap, _∙_}
-use mathlib.Core.List.{_++_}
+use mathlib.Core.Path.{ap}
 use Prim.Native.Nat.{_+_, _≤_, _-_}
 use native.Mathlib.Omega.{arith}
-use lib.ListN.{length, take, drop, getD, length-append, length-take, length-drop}
+use lib.ListN.{length, drop, getD, length-append}
 use Rattle.headers.specs.Escapes.{encode, encode-octet}
 use Rattle.headers.proofs.Coding.{encode-step, encode-end}
-use Rattle.headers.proofs.Put.{put-length, put-more, put-kept, put-whole-done}
+use Rattle.headers.proofs.Put.{Partly, partly-none, partly-inside, partly-done, partly-fits, partly-put}
 use Rattle.headers.proofs.text.put_encoded.Statement.{statement}
 use Rattle.headers.proofs.text.put_encoded.Tie as tie
 
 abbrev Inv-loop : tie.InvT-loop
-Inv-loop d₀ text style n₀ i₀ d n i = (length d ≡ length d₀) × (i ≤ length text) × (n + length (encode style (drop i text)) ≡ length (encode style text)) × (take n d ++ encode style (drop i text) ≡ encode style text) × (drop n d ≡ drop n d₀)
+Inv-loop d₀ text style n₀ i₀ d n i = (i ≤ length text) × Partly (encode style text) (encode style (drop i text)) d₀ d n
 
 abbrev μ-loop : tie.MeasureT-loop
 μ-loop d₀ text style n₀ i₀ d n i = length text - i
 
 loop-holds : tie.Need-loop-holds Inv-loop μ-loop
-loop-holds c = (refl, omega arith, omega arith, refl, refl)
+loop-holds c = (omega arith, partly-none _ _ (c .before .before .pre))
 
 sub-put-octet : tie.Need-sub-put-octet Inv-loop μ-loop
-sub-put-octet c = omega (arith, c .before .before .before .before .pre)
+sub-put-octet c = partly-inside (c .before .loop .inv .1)
 
 part-put-octet-start : tie.Need-part-put-octet-start Inv-loop μ-loop
-part-put-octet-start c = omega (arith, c .before .before .before .before .pre)
+part-put-octet-start c = partly-inside (c .before .loop .inv .1)
 
 part-put-octet-end : tie.Need-part-put-octet-end Inv-loop μ-loop
 part-put-octet-end c = search needs
@@ -35,14 +34,14 @@ shared-slice-read-put-octet c = search needs
 put-octet-requires : tie.Need-put-octet-requires Inv-loop μ-loop
 put-octet-requires c κs = let l = c .before .before .before .loop in
     let a = c .before .before .before .before .before .before .args in
-    let step = encode-step (a .style) (a .text .now) (l .i) (c .before .before .loop-test .taken) in
-    simp (length-take, length-drop) (omega (arith, simp length-append at (ap length step), l .inv, c .before .before .before .before .before .before .pre))
+    let xs = a .text .now in
+    partly-fits (l .inv .1) (encode-octet (a .style) (getD xs (l .i) 0)) (encode (a .style) (drop (l .i + 1) xs)) (encode-step (a .style) xs (l .i) (c .before .before .loop-test .taken))
 
 add-n : tie.Need-add-n Inv-loop μ-loop
 add-n c = let l = c .before .before .before .before .before .before .loop in
     let a = c .before .before .before .before .before .before .before .before .before .args in
     let step = encode-step (a .style) (a .text .now) (l .i) (c .before .before .before .before .before .loop-test .taken) in
-    omega (arith, simp length-append at (ap length step), l .inv, c .before .before .before .before .before .before .before .before .before .pre, c .before .before .put-octet .ensures .0)
+    omega (arith, simp length-append at (ap length step), l .inv .1 .long, l .inv .1 .room, c .before .before .put-octet .ensures .0)
 
 add-i : tie.Need-add-i Inv-loop μ-loop
 add-i c = search needs
@@ -54,27 +53,18 @@ loop-again : tie.Need-loop-again Inv-loop μ-loop
 loop-again c = let l = c .before .before .before .before .before .before .loop in
     let a = c .before .before .before .before .before .before .before .before .before .args in
     let p = c .before .before .put-octet in
-    let s = a .style in
     let xs = a .text .now in
-    let R = encode-octet s (getD xs (l .i) 0) in
-    let step = encode-step s xs (l .i) (c .before .before .before .before .before .loop-test .taken) in
-    let room : l .n + length R ≤ length (l .d) = omega (arith, simp length-append at (ap length step), l .inv, c .before .before .before .before .before .before .before .before .before .pre) in
-    rw (p .ensures .0) (
-      put-length (l .n) (length R) (l .d) _ R refl room (p .ensures .1) ∙ l .inv .0,
-      omega arith,
-      omega (arith, simp length-append at (ap length step), l .inv .2),
-      put-more (l .n) (length R) (l .d) _ R refl room (p .ensures .1) _ _ (l .inv .3) step,
-      put-kept (l .n) (length R) (l .d) _ R refl room (p .ensures .1) _ (l .inv .4),
-    )
+    let step = encode-step (a .style) xs (l .i) (c .before .before .before .before .before .loop-test .taken) in
+    (omega arith, partly-put (l .inv .1) (encode-octet (a .style) (getD xs (l .i) 0)) (encode (a .style) (drop (l .i + 1) xs)) step (p .result) (p .last .0) (p .ensures .0) (p .ensures .1))
 
 same-length : tie.Need-same-length Inv-loop μ-loop
-same-length c = search needs
+same-length c = c .before .loop .inv .1 .as-long
 
 returns : tie.Need-returns Inv-loop μ-loop
 returns c =
     let l = c .before .loop in
     let a = c .before .before .before .before .args in
-    put-whole-done (l .n) (l .d) (a .d .now) _ _ (l .inv .3) (l .inv .2) (encode-end (a .style) (a .text .now) (l .i) (c .loop-test .left)) (l .inv .4)
+    partly-done (l .inv .1) (encode-end (a .style) (a .text .now) (l .i) (c .loop-test .left))
 
 pub put-encoded-spec : {M : Type 1} → statement M
 put-encoded-spec =
