@@ -68,7 +68,7 @@ worded c =
     (omega (arith, s .before .before .before .before .pre .2, ap length (whole-is s)))
     (append-assoc W (10 ∷ []) (behind-word s))
     (p .ensures .0 ∙ sym (length-append W (10 ∷ [])))
-    (p .ensures .1 ∙ ap (λ z. (W ++ (10 ∷ [])) ++ drop z (target s)) (sym (p .ensures .0)))
+    (p .ensures .1 ∙ ap (λ z. (W ++ (10 ∷ [])) ++ drop z (target s)) (sym (length-append W (10 ∷ []))))
 
 abbrev lines-end : tie.After-put-lines → ℕ
 lines-end c = c .before .before .before .before .put-word .result + c .put-lines .result
