@@ -1,3 +1,4 @@
+/* Whether all parsers give the same answers: on the written examples, on streams, and on cases from a seed. */
 #include "answers.h"
 
 #include <stdio.h>

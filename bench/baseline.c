@@ -1,3 +1,4 @@
+/* Parsing by hand, octet by octet. */
 #include "baseline.h"
 
 #include <string.h>

@@ -1,3 +1,4 @@
+/* Header blocks, written down or made from a seed, and the calls that are tried on them. */
 #include "blocks.h"
 
 #include <stdio.h>

@@ -1,3 +1,4 @@
+/* Compares what decode and encode answer and leave in buffers of several lengths with the baseline. */
 #include "buffers.h"
 
 #include <stdio.h>

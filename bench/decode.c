@@ -1,3 +1,4 @@
+/* Decoding by hand: a frame's lines as a header block. */
 #include "baseline.h"
 #include "rules.h"
 

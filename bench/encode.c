@@ -1,3 +1,4 @@
+/* Encoding by hand: a frame's octets from a command, a header block and a body. */
 #include "baseline.h"
 
 #include <string.h>

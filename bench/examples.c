@@ -1,3 +1,4 @@
+/* The written examples of parsing. */
 #include "examples.h"
 
 #define MORE 0

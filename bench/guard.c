@@ -1,3 +1,4 @@
+/* Buffers that end where no memory is, and octets shown to a reader. */
 #define _DEFAULT_SOURCE
 
 #include "guard.h"

@@ -1,3 +1,4 @@
+/* Compares answers and buffers, then measures: the program of bench/run for the calls for C. */
 #define _DEFAULT_SOURCE
 
 #include <stdbool.h>

@@ -1,3 +1,4 @@
+/* A row of octets put together piece by piece, and damaged. */
 #include "row.h"
 
 #include <string.h>

@@ -1,3 +1,4 @@
+/* A session by hand: the checks and changes of its calls. */
 #include "session.h"
 
 #include <string.h>

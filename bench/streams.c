@@ -1,3 +1,4 @@
+/* Makes the five streams. */
 #include "streams.h"
 
 #include <stdio.h>

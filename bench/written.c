@@ -1,3 +1,4 @@
+/* The written examples of decode and encode. */
 #include "written.h"
 
 #define DECODE(...) .input = {__VA_ARGS__}

@@ -1,3 +1,4 @@
+-- The laws of frames that other crates may cite, by file.
 pub mod Commands
 pub mod Recognizer
 pub mod Trichotomy

@@ -1,3 +1,4 @@
+-- The laws of sessions that other crates may cite, by file.
 pub mod Rows
 pub mod Searching
 pub mod Walking

@@ -1,3 +1,4 @@
+-- The definitions of versions, heart-beats, the clock and a session, by file.
 pub mod Stores
 pub mod Values
 pub mod Opening

@@ -1,66 +1,52 @@
+-- `exports::pack_item` meets its contract: each field fits its bits.
 use mathlib.Core.Path.{refl}
 use borrow.Author.Needs.{needs}
 use borrow.Author.Tests.{ne-eqb}
 use Rattle.frames.proofs.exports.pack_item.Statement.{statement}
 use Rattle.frames.proofs.exports.pack_item.Tie as tie
 
--- src/exports.rt:17:20
 mul-result : tie.Need-mul-result
 mul-result c = search needs
 
--- src/exports.rt:17:16
 add-result : tie.Need-add-result
 add-result c = search needs
 
--- src/exports.rt:17:9
 returns : tie.Need-returns
 returns c = rw (c .if1 .taken) refl
 
--- src/exports.rt:19:34
 mul-body : tie.Need-mul-body
 mul-body c = search needs
 
--- src/exports.rt:19:16
 add-body : tie.Need-add-body
 add-body c = search needs
 
--- src/exports.rt:20:17
 cast-rest : tie.Need-cast-rest
 cast-rest c = search needs
 
--- src/exports.rt:20:64
 mul-rest : tie.Need-mul-rest
 mul-rest c = search needs
 
--- src/exports.rt:20:43
 add-rest : tie.Need-add-rest
 add-rest c = search needs
 
--- src/exports.rt:20:37
 mul-rest-2 : tie.Need-mul-rest-2
 mul-rest-2 c = search needs
 
--- src/exports.rt:20:16
 add-rest-2 : tie.Need-add-rest-2
 add-rest-2 c = search needs
 
--- src/exports.rt:21:31
 mul-result-2 : tie.Need-mul-result-2
 mul-result-2 c = search needs
 
--- src/exports.rt:21:14
 add-result-2 : tie.Need-add-result-2
 add-result-2 c = search needs
 
--- src/exports.rt:21:9
 mul-result-3 : tie.Need-mul-result-3
 mul-result-3 c = search needs
 
--- src/exports.rt:21:5
 add-result-3 : tie.Need-add-result-3
 add-result-3 c = search needs
 
--- src/exports.rt:12:1
 returns-2 : tie.Need-returns-2
 returns-2 c = rw (ne-eqb _ _ (c .before .if1 .left)) refl
 

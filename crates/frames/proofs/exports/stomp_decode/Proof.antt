@@ -16,69 +16,53 @@ told c f e =
     let a = c .before .before .before .before .args in
     subst (λ g. Decodes v1-2 (a .frame .now) (a .block .now) (decoded-says g) (c .decode .last .1 .0)) e (c .decode .ensures)
 
--- src/exports.rt:74:11
 decode-requires : tie.Need-decode-requires
 decode-requires c κs = search needs
 
--- src/exports.rt:75:25
 enum-known-n : tie.Need-enum-known-n
 enum-known-n c = search needs
 
--- src/exports.rt:76:30
 enum-told : tie.Need-enum-told
 enum-told c = search needs
 
--- src/exports.rt:76:30
 mul-result : tie.Need-mul-result
 mul-result c = search needs
 
--- src/exports.rt:77:30
 enum-told-2 : tie.Need-enum-told-2
 enum-told-2 c = search needs
 
--- src/exports.rt:77:30
 mul-result-2 : tie.Need-mul-result-2
 mul-result-2 c = search needs
 
--- src/exports.rt:78:29
 enum-told-3 : tie.Need-enum-told-3
 enum-told-3 c = search needs
 
--- src/exports.rt:78:29
 mul-result-3 : tie.Need-mul-result-3
 mul-result-3 c = search needs
 
--- src/exports.rt:67:1
 same-length : tie.Need-same-length
 same-length c = search needs
 
--- src/exports.rt:67:1
 returns : tie.Need-returns
 returns c =
     let d = told (c .before .before .before .before .before) _ (c .before .n .given .1) in
     rw (accepted-back _ (decode-small v1-2 _ d)) (d, refl)
 
--- src/exports.rt:67:1
 same-length-2 : tie.Need-same-length-2
 same-length-2 c = search needs
 
--- src/exports.rt:67:1
 returns-2 : tie.Need-returns-2
 returns-2 c = (told (c .before .before .before .before) _ (c .enum-told .given .1), refl)
 
--- src/exports.rt:67:1
 same-length-3 : tie.Need-same-length-3
 same-length-3 c = search needs
 
--- src/exports.rt:67:1
 returns-3 : tie.Need-returns-3
 returns-3 c = (told (c .before .before .before .before) _ (c .enum-told2 .given .1), refl)
 
--- src/exports.rt:67:1
 same-length-4 : tie.Need-same-length-4
 same-length-4 c = search needs
 
--- src/exports.rt:67:1
 returns-4 : tie.Need-returns-4
 returns-4 c = (told (c .before .before .before .before) _ (c .enum-told3 .given .1), refl)
 

@@ -1,3 +1,4 @@
+-- `exports::stomp_parse` meets its contract: the reply's numbers are small, so that they read back.
 use mathlib.Core.Path.{_≡_, refl, sym, _∙_, ap, subst}
 use Prim.Native.Nat.{ℕ}
 use Rattle.frames.specs.Grammar.{v1-2}
@@ -19,39 +20,30 @@ gives c p n e q =
     let k = q ∙ ap packed h in
     (k, ap unpacked k ∙ packed-back _ (subst Small h (small c p e)))
 
--- src/exports.rt:37:11
 parse-requires : tie.Need-parse-requires
 parse-requires c κs = search needs
 
--- src/exports.rt:38:26
 enum-known-i : tie.Need-enum-known-i
 enum-known-i c = search needs
 
--- src/exports.rt:38:32
 pack-item-requires : tie.Need-pack-item-requires
 pack-item-requires c κs = item-numbers (small (c .before .before .before) _ (c .before .i .given .1))
 
--- src/exports.rt:39:31
 enum-told : tie.Need-enum-told
 enum-told c = search needs
 
--- src/exports.rt:40:25
 enum-known-r : tie.Need-enum-known-r
 enum-known-r c = search needs
 
--- src/exports.rt:40:31
 pack-refusal-requires : tie.Need-pack-refusal-requires
 pack-refusal-requires c κs = refusal-numbers (small (c .before .before .before) _ (c .before .r .given .1))
 
--- src/exports.rt:33:1
 returns : tie.Need-returns
 returns c = gives (c .before .before .before .before) _ _ (c .before .before .i .given .1) (c .pack-item .ensures)
 
--- src/exports.rt:33:1
 returns-2 : tie.Need-returns-2
 returns-2 c = gives (c .before .before) _ _ (c .enum-told .given .1) refl
 
--- src/exports.rt:33:1
 returns-3 : tie.Need-returns-3
 returns-3 c = gives (c .before .before .before .before) _ _ (c .before .before .r .given .1) (c .pack-refusal .ensures)
 

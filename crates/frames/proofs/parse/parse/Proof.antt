@@ -1,3 +1,4 @@
+-- `parse::parse` meets its contract: the reply is read off the state after all octets.
 use borrow.Author.Needs.{needs}
 use native.Mathlib.Omega.{arith}
 use mathlib.Core.Path.{_≡_, refl, sym, _∙_, ap, subst}
@@ -12,11 +13,9 @@ use Rattle.frames.proofs.Running.{replied}
 use Rattle.frames.proofs.parse.parse.Statement.{statement}
 use Rattle.frames.proofs.parse.parse.Tie as tie
 
--- src/parse.rt:47:41
 nothing-read-requires : tie.Need-nothing-read-requires
 nothing-read-requires c κs = search needs
 
--- src/parse.rt:47:9
 run-requires : tie.Need-run-requires
 run-requires c κs = (omega arith, subst Valid (sym (c .nothing-read .ensures)) valid-nothing)
 
@@ -26,27 +25,21 @@ from-run c r =
     let xs = c .before .before .before .args .octets .now in
     replied xs (λ i. omega (arith, c .before .before .shared-slice-known .given i)) (c .run .result) (c .run .ensures .0 ∙ ap (λ z. scan z xs) (c .before .nothing-read .ensures)) r
 
--- src/parse.rt:50:9
 returns : tie.Need-returns
 returns c = from-run (c .before) _ (rw (c .if1 .taken) refl)
 
--- src/parse.rt:60:25
 less-requires : tie.Need-less-requires
 less-requires c κs = search needs
 
--- src/parse.rt:60:13
 less-requires-2 : tie.Need-less-requires-2
 less-requires-2 c κs = search needs
 
--- src/parse.rt:61:9
 returns-2 : tie.Need-returns-2
 returns-2 c = from-run (c .before .before .before .before) _ (rw (c .before .before .if2 .taken, c .less2 .ensures, c .before .less .ensures) refl)
 
--- src/parse.rt:71:9
 returns-3 : tie.Need-returns-3
 returns-3 c = from-run (c .before .before .before) _ (rw (c .if3 .taken) refl)
 
--- src/parse.rt:41:1
 returns-4 : tie.Need-returns-4
 returns-4 c = from-run (c .before .before .before) _ (rw (ne-eqb _ _ (c .if3 .left), ne-eqb _ _ (c .before .if2 .left), ne-eqb _ _ (c .before .before .if1 .left)) refl)
 

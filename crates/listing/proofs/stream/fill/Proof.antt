@@ -1,3 +1,4 @@
+-- `stream::fill` meets its contract: what was read stays inside the buffer.
 use borrow.Author.Needs.{needs}
 use Prim.Native.Nat.{_≤_, _-_}
 use lib.ListN.{length}
@@ -11,55 +12,42 @@ Inv-loop fd buf₀ from hi₀ buf hi = (hi ≤ length buf₀) × (length buf ≡
 abbrev μ-loop : tie.MeasureT-loop
 μ-loop fd buf₀ from hi₀ buf hi = length buf₀ - hi
 
--- src/stream.rt:54:5
 loop-holds : tie.Need-loop-holds Inv-loop μ-loop
 loop-holds c = search needs
 
--- src/stream.rt:55:20
 sub-part : tie.Need-sub-part Inv-loop μ-loop
 sub-part c = search needs
 
--- src/stream.rt:55:20
 part-part-start : tie.Need-part-part-start Inv-loop μ-loop
 part-part-start c = search needs
 
--- src/stream.rt:55:20
 part-part-end : tie.Need-part-part-end Inv-loop μ-loop
 part-part-end c = search needs
 
--- src/stream.rt:56:13
 read-requires : tie.Need-read-requires Inv-loop μ-loop
 read-requires c κs = search needs
 
--- src/stream.rt:57:13
 count-requires : tie.Need-count-requires Inv-loop μ-loop
 count-requires c κs = search needs
 
--- src/stream.rt:59:13
 same-length : tie.Need-same-length Inv-loop μ-loop
 same-length c = search needs
 
--- src/stream.rt:59:13
 returns : tie.Need-returns Inv-loop μ-loop
 returns c = search needs
 
--- src/stream.rt:65:9
 add-hi : tie.Need-add-hi Inv-loop μ-loop
 add-hi c = search needs
 
--- src/stream.rt:54:5
 loop-less : tie.Need-loop-less Inv-loop μ-loop
 loop-less c = search needs
 
--- src/stream.rt:54:5
 loop-again : tie.Need-loop-again Inv-loop μ-loop
 loop-again c = search needs
 
--- src/stream.rt:49:1
 same-length-2 : tie.Need-same-length-2 Inv-loop μ-loop
 same-length-2 c = search needs
 
--- src/stream.rt:49:1
 returns-2 : tie.Need-returns-2 Inv-loop μ-loop
 returns-2 c = search needs
 

@@ -1,3 +1,4 @@
+-- `stream::lay` meets its contract: the line fits what is left of the buffer.
 use Prim.Native.Nat.{_≤_, _-_}
 use native.Mathlib.Omega.{arith}
 use lib.ListN.{length, take, drop, length-take, length-drop}
@@ -9,27 +10,21 @@ use borrow.Author.Needs.{needs}
 use Rattle.listing.proofs.stream.lay.Statement.{statement}
 use Rattle.listing.proofs.stream.lay.Tie as tie
 
--- src/stream.rt:181:27
 sub-put-line : tie.Need-sub-put-line
 sub-put-line c = search needs
 
--- src/stream.rt:181:27
 part-put-line-start : tie.Need-part-put-line-start
 part-put-line-start c = search needs
 
--- src/stream.rt:181:27
 part-put-line-end : tie.Need-part-put-line-end
 part-put-line-end c = search needs
 
--- src/stream.rt:181:5
 put-line-requires : tie.Need-put-line-requires
 put-line-requires c κs = search needs
 
--- src/stream.rt:177:1
 same-length : tie.Need-same-length
 same-length c = search needs
 
--- src/stream.rt:177:1
 returns : tie.Need-returns
 returns c =
     let a = c .before .before .before .before .before .args in

@@ -1,3 +1,4 @@
+-- `stream::list_in` meets its contract: each turn keeps what is read and laid out inside the buffers.
 use borrow.Author.Needs.{needs}
 use lib.ListN.{length}
 use mathlib.Core.Path.{_≡_}

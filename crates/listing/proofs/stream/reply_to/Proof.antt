@@ -1,3 +1,4 @@
+-- `stream::reply_to` meets its contract: an item lies within the octets that were parsed.
 use Prim.Native.Nat.{_≤_, _-_}
 use native.Mathlib.Omega.{arith}
 use lib.ListN.{length, take, drop, length-take, length-drop}
@@ -7,23 +8,18 @@ use borrow.Author.Needs.{needs}
 use Rattle.listing.proofs.stream.reply_to.Statement.{statement}
 use Rattle.listing.proofs.stream.reply_to.Tie as tie
 
--- src/stream.rt:173:26
 sub-parse : tie.Need-sub-parse
 sub-parse c = search needs
 
--- src/stream.rt:173:26
 part-parse-start : tie.Need-part-parse-start
 part-parse-start c = search needs
 
--- src/stream.rt:173:26
 part-parse-end : tie.Need-part-parse-end
 part-parse-end c = search needs
 
--- src/stream.rt:173:5
 parse-requires : tie.Need-parse-requires
 parse-requires c κs = search needs
 
--- src/stream.rt:166:1
 returns : tie.Need-returns
 returns c =
     let a = c .before .before .before .args in

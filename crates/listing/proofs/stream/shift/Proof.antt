@@ -1,3 +1,4 @@
+-- `stream::shift` meets its contract: after i turns, i octets stand at the front.
 use borrow.Author.Needs.{needs}
 use mathlib.Core.List.{List}
 use Prim.Native.Nat.{ℕ, _≤_, _-_, _+_}
@@ -15,35 +16,27 @@ Inv-loop buf₀ lo hi n i₀ buf i = (n ≡ hi - lo) × (i ≤ n) × (buf ≡ mo
 abbrev μ-loop : tie.MeasureT-loop
 μ-loop buf₀ lo hi n i₀ buf i = n - i
 
--- src/stream.rt:32:13
 sub-n : tie.Need-sub-n Inv-loop μ-loop
 sub-n c = search needs
 
--- src/stream.rt:34:5
 loop-holds : tie.Need-loop-holds Inv-loop μ-loop
 loop-holds c = (refl, omega arith, refl, refl)
 
--- src/stream.rt:35:22
 add-buf : tie.Need-add-buf Inv-loop μ-loop
 add-buf c = search needs
 
--- src/stream.rt:35:18
 slice-read-buf : tie.Need-slice-read-buf Inv-loop μ-loop
 slice-read-buf c = search needs
 
--- src/stream.rt:35:9
 slice-write-buf : tie.Need-slice-write-buf Inv-loop μ-loop
 slice-write-buf c = search needs
 
--- src/stream.rt:36:9
 add-i : tie.Need-add-i Inv-loop μ-loop
 add-i c = search needs
 
--- src/stream.rt:34:5
 loop-less : tie.Need-loop-less Inv-loop μ-loop
 loop-less c = search needs
 
--- src/stream.rt:34:5
 loop-again : tie.Need-loop-again Inv-loop μ-loop
 loop-again c =
     let l = c .before .before .loop in
@@ -52,11 +45,9 @@ loop-again c =
     let kept : length (z (l .buf)) ≡ length (a .buf .now) = length-set (l .buf) (l .i) _ ∙ l .inv .3 in
     (refl, omega arith, ap z (l .inv .2) ∙ moved-more (a .lo) (a .buf .now) (l .i) (omega (arith, c .before .before .before .pre)), kept)
 
--- src/stream.rt:28:1
 same-length : tie.Need-same-length Inv-loop μ-loop
 same-length c = search needs
 
--- src/stream.rt:28:1
 returns : tie.Need-returns Inv-loop μ-loop
 returns c =
     let l = c .before .loop in
