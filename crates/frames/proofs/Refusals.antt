@@ -9,7 +9,7 @@ use native.Mathlib.Omega.{arith}
 use lib.ListN.{length}
 use lib.Dec.{eqb, leb, ltb}
 use borrow.Author.Tests.{eqb-true, leb-true, leb-false, ltb-true, ltb-false, le-leb, lt-leb, lt-ltb, le-ltb}
-use Rattle.headers.specs.Rows.{same, every, begins, empty}
+use Rattle.headers.specs.Rows.{same, every, any, begins, empty}
 use Rattle.headers.proofs.Rows.{cond-case, and-left, and-no, every-last, empty-not, or-false-left, or-false-right}
 use Rattle.headers.specs.Text.{Part, fresh, owes, Into, into, bad, stop, reads, of-escape, owing}
 use Rattle.headers.specs.declared.text.Field.the-variants.{Name as in-name, Value as in-value}
@@ -20,7 +20,7 @@ use Rattle.frames.specs.Machine.{Next, go, done, refuse}
 use Rattle.frames.specs.Grammar.{Version, Command, number, word, style, most, Head, Tree, heart-beat, frame, lines-max, declared, LengthOk, HeadOk}
 use Rattle.frames.specs.Parsing.{first, word-end, word-next, at-word, at-start, name-next, at-name, at-begin, value-next, at-value, body-next, step}
 use Rattle.frames.specs.Parsing as P
-use Rattle.frames.specs.Refusals.{Reason, numbered, no-command, no-10, long-line, many-lines, bad-length, past-body, any, some-command, ends, spoils, used-up, fits, number-of, refusal}
+use Rattle.frames.specs.Refusals.{Reason, numbered, no-command, no-10, long-line, many-lines, bad-length, past-body, some-command, ends, spoils, used-up, fits, number-of, refusal}
 use Rattle.frames.specs.Open.{Open, start, heart-beat-13, command, command-13, begin, name, value, line-13, blank-13, body, all, opened, new, entry, watched, partial-amount, Ok, NameOk, ValueOk, BodyPart}
 
 -- the number with which a step refuses

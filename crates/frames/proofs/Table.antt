@@ -7,12 +7,12 @@ use mathlib.Core.List.{List, [], _∷_, _++_}
 use Prim.Native.Nat.{ℕ, suc, _+_, _-_}
 use native.Mathlib.Omega.{arith}
 use lib.ListN.{length, length-append}
-use Rattle.headers.specs.Rows.{All}
+use Rattle.headers.specs.Rows.{first-of, All}
 use Rattle.frames.specs.Machine.{Next, go, done, refuse, Run, run, going, finished, stopped}
 use Rattle.frames.specs.Grammar.{Version, Tree, heart-beat, frame, octets, Shaped}
 use Rattle.frames.specs.Parsing.{step, answer, parsed}
 use Rattle.frames.specs.Replies.{Invalid, told}
-use Rattle.frames.specs.Refusals.{Reason, no-command, no-10, wrong-escape, nameless, second-colon, no-colon, long-line, many-lines, bad-length, past-body, numbered, fits, order, pick, number-of, refusal, First}
+use Rattle.frames.specs.Refusals.{Reason, no-command, no-10, wrong-escape, nameless, second-colon, no-colon, long-line, many-lines, bad-length, past-body, numbered, fits, order, number-of, refusal, First}
 use Rattle.frames.proofs.Trichotomy.{Came, came, run-append}
 use Rattle.frames.proofs.Recognizing.{recognizes}
 use Rattle.frames.proofs.Refusals.{refuses, table}
@@ -32,23 +32,23 @@ each P h bad-length = h .1 .1 .1 .1 .1 .1 .1 .1 .0
 each P h past-body = h .1 .1 .1 .1 .1 .1 .1 .1 .1 .0
 
 module _ (f : Reason → Bool) where
-  pick-none : (rs : List Reason) → number-of (pick f rs) ≡ none → All (λ r. f r ≡ false) rs
+  pick-none : (rs : List Reason) → number-of (first-of f rs) ≡ none → All (λ r. f r ≡ false) rs
   pick-none [] h = tt
   pick-none (r ∷ rs) h = by (f r) refl h (pick-none rs)
     where
-      by : (t : Bool) → f r ≡ t → number-of (cond t (some r) (pick f rs)) ≡ none → (number-of (pick f rs) ≡ none → All (λ r. f r ≡ false) rs) → (f r ≡ false) × All (λ r. f r ≡ false) rs
+      by : (t : Bool) → f r ≡ t → number-of (cond t (some r) (first-of f rs)) ≡ none → (number-of (first-of f rs) ≡ none → All (λ r. f r ≡ false) rs) → (f r ≡ false) × All (λ r. f r ≡ false) rs
       by true e h ih = let z : _≡_ {A = ℕ} 0 1 = cc in absurd (omega arith)
       by false e h ih = (e, ih h)
 
-  pick-first : (rs : List Reason) (k : ℕ) → number-of (pick f rs) ≡ some k → (a : List Reason) × (r : Reason) × (b : List Reason) × (rs ≡ a ++ (r ∷ b)) × (f r ≡ true) × (numbered r ≡ k) × All (λ r. f r ≡ false) a
+  pick-first : (rs : List Reason) (k : ℕ) → number-of (first-of f rs) ≡ some k → (a : List Reason) × (r : Reason) × (b : List Reason) × (rs ≡ a ++ (r ∷ b)) × (f r ≡ true) × (numbered r ≡ k) × All (λ r. f r ≡ false) a
   pick-first [] k h = let z : _≡_ {A = ℕ} 0 1 = cc in absurd (omega arith)
   pick-first (r ∷ rs) k h = by (f r) refl h (pick-first rs k)
     where
-      by : (t : Bool) → f r ≡ t → number-of (cond t (some r) (pick f rs)) ≡ some k → (number-of (pick f rs) ≡ some k → (a : List Reason) × (r : Reason) × (b : List Reason) × (rs ≡ a ++ (r ∷ b)) × (f r ≡ true) × (numbered r ≡ k) × All (λ r. f r ≡ false) a) → (a : List Reason) × (q : Reason) × (b : List Reason) × (r ∷ rs ≡ a ++ (q ∷ b)) × (f q ≡ true) × (numbered q ≡ k) × All (λ r. f r ≡ false) a
+      by : (t : Bool) → f r ≡ t → number-of (cond t (some r) (first-of f rs)) ≡ some k → (number-of (first-of f rs) ≡ some k → (a : List Reason) × (r : Reason) × (b : List Reason) × (rs ≡ a ++ (r ∷ b)) × (f r ≡ true) × (numbered r ≡ k) × All (λ r. f r ≡ false) a) → (a : List Reason) × (q : Reason) × (b : List Reason) × (r ∷ rs ≡ a ++ (q ∷ b)) × (f q ≡ true) × (numbered q ≡ k) × All (λ r. f r ≡ false) a
       by true e h ih = ([], r, rs, refl, e, cc, tt)
       by false e h ih = let (a, q, b, o, t, n, l) = ih h in (r ∷ a, q, b, ap (r ∷_) o, t, n, (e, l))
 
-  pub picked : (k : ℕ) → number-of (pick f order) ≡ some k → First f k
+  pub picked : (k : ℕ) → number-of (first-of f order) ≡ some k → First f k
   picked k h =
       let (a, r, b, o, t, n, l) = pick-first order k h in
       record { earlier = a; reason = r; later = b; ordered = o; fitting = t; number = n; none-earlier = l }

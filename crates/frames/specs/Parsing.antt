@@ -6,7 +6,7 @@ use mathlib.Core.List.{List, [], _∷_, _++_}
 use Prim.Native.Nat.{ℕ, _+_, _-_}
 use lib.ListN.{length}
 use lib.Dec.{eqb, leb, ltb}
-use Rattle.headers.specs.Rows.{same, begins, empty}
+use Rattle.headers.specs.Rows.{same, begins, empty, first-of}
 use Rattle.headers.specs.Lines.{line-max}
 use Rattle.headers.specs.Numbers.{decimal}
 use Rattle.frames.specs.Replies.{Reply, Incomplete, Invalid, told}
@@ -19,8 +19,7 @@ use Rattle.frames.specs.Refusals.{numbered, faulty, no-command, no-10, n
 
 -- the first command of the row that passes the test
 abbrev pub first : (List ℕ → Bool) → List Command → Option Command
-first f [] = none
-first f (c ∷ cs) = cond (f (word c)) (some c) (first f cs)
+first f cs = first-of (λ c. f (word c)) cs
 
 abbrev pub at-10 : Next Open Tree → ℕ → Next Open Tree
 at-10 n x = cond (eqb x 10) n (refuse (numbered no-10))

@@ -8,7 +8,7 @@ use mathlib.Core.List.{List, [], _∷_, _++_}
 use Prim.Native.Nat.{ℕ, _+_, _≤_}
 use lib.ListN.{length}
 use lib.Dec.{eqb, leb, ltb}
-use Rattle.headers.specs.Rows.{begins, empty, All}
+use Rattle.headers.specs.Rows.{begins, empty, any, first-of, All}
 use Rattle.headers.specs.Text.{Part, fresh, Fault, of-escape, fault, owing}
 use Rattle.headers.specs.declared.text.Field.{Field}
 use Rattle.headers.specs.declared.text.Field.the-variants.{Name as in-name, Value as in-value}
@@ -72,10 +72,6 @@ at-body (in-body h b) f = f h b
 -- a line end, or the 13 that begins one
 abbrev pub ends : ℕ → Bool
 ends x = eqb x 10 || eqb x 13
-
-abbrev pub any : (Command → Bool) → List Command → Bool
-any f [] = false
-any f (c ∷ cs) = f c || any f cs
 
 -- the octets begin some command with the first octet of its line end
 unfoldable pub some-command : List ℕ → Bool
@@ -166,18 +162,13 @@ module _ (ver : Version) where
   -- 7: stands where only octet 0 can: empty body, 32,768 octets read, or content-length used up
   fits s x past-body = at-body (position s) (λ h b. not (eqb x 0) && (eqb (most (h .command)) 0 || leb 32768 (length b) || used-up (declared (h .entries)) b))
 
--- the first reason of a row that fits
-abbrev pub pick : (Reason → Bool) → List Reason → Option Reason
-pick f [] = none
-pick f (r ∷ rs) = cond (f r) (some r) (pick f rs)
-
 abbrev pub number-of : Option Reason → Option ℕ
 number-of none = none
 number-of (some r) = some (numbered r)
 
 -- The number that x gets after what s has read, or none.
 unfoldable pub refusal : Version → Open → ℕ → Option ℕ
-refusal ver s x = number-of (pick (fits ver s x) order)
+refusal ver s x = number-of (first-of (fits ver s x) order)
 
 -- k is the number of the first reason in the order that fits.
 pub record First (f : Reason → Bool) (k : ℕ) : Type 0 where
