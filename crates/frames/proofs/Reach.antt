@@ -10,7 +10,7 @@ use lib.ListN.{length, length-append}
 use lib.Dec.{eqb, leb}
 use borrow.Author.Tests.{leb-true, lt-ltb, not-true, eq-eqb, ne-eqb}
 use Rattle.headers.specs.Rows.{every, begins, empty, All}
-use Rattle.headers.proofs.Rows.{and-left, empty-not, implied-not, every-right}
+use Rattle.headers.proofs.Rows.{and-left, empty-not, implied-not, every-right, begins-front, first-none}
 use Rattle.headers.specs.Text.{Part, fresh}
 use Rattle.headers.specs.declared.text.Field.the-variants.{Name as in-name, Value as in-value}
 use Rattle.headers.proofs.Reading.{raw-fresh, text-feeds, raw-feeds}
@@ -27,24 +27,12 @@ use Rattle.frames.specs.Open.{Open, start, heart-beat-13, command, comma
 letters : (c : Command) → every (leb 65) (word c) ≡ true
 letters = each-test (λ c. every (leb 65) (word c)) refl
 
-first-none : (f : List ℕ → Bool) (cs : List Command) → first f cs ≡ none → All (λ c. f (word c) ≡ false) cs
-first-none f [] h = tt
-first-none f (c ∷ cs) h = by (f (word c)) refl h (first-none f cs)
-  where
-    by : (t : Bool) → f (word c) ≡ t → cond t (some c) (first f cs) ≡ none → (first f cs ≡ none → All (λ c. f (word c) ≡ false) cs) → (f (word c) ≡ false) × All (λ c. f (word c) ≡ false) cs
-    by true k h ih = let z : _≡_ {A = ℕ} 0 1 = cc in absurd (omega arith)
-    by false k h ih = (k, ih h)
-
-begins-append : (xs ys : List ℕ) → begins xs (xs ++ ys) ≡ true
-begins-append [] ys = refl
-begins-append (x ∷ xs) ys = rw (eq-eqb x x refl) (begins-append xs ys)
-
 pub finds : (f : List ℕ → Bool) (c : Command) → f (word c) ≡ true → (e : Command) × (first f all ≡ some e)
 finds f c h = by (first f all) refl
   where
     by : (o : Option Command) → first f all ≡ o → (e : Command) × (first f all ≡ some e)
     by (some e) k = (e, k)
-    by none k = let l = each (λ d. f (word d) ≡ false) (first-none f all k) c in let z : _≡_ {A = ℕ} 0 1 = cc in absurd (omega arith)
+    by none k = let l = each (λ d. f (word d) ≡ false) (first-none (λ d. f (word d)) all k) c in let z : _≡_ {A = ℕ} 0 1 = cc in absurd (omega arith)
 
 all-split : {A : Type 0} (P : A → Type 0) (xs : List A) (x : A) → All P (xs ++ (x ∷ [])) → All P xs × P x
 all-split P [] x h = (tt, h .0)
@@ -64,7 +52,7 @@ module _ (ver : Version) where
   word-step : (c : Command) (raw : List ℕ) (x : ℕ) (w : List ℕ) → word c ≡ (raw ++ (x ∷ [])) ++ w → at-word raw x ≡ go (command (raw ++ (x ∷ [])))
   unfolding at-word
   word-step c raw x w e =
-      let (d, k) = finds (begins (raw ++ (x ∷ []))) c (rw e (begins-append (raw ++ (x ∷ [])) w)) in
+      let (d, k) = finds (begins (raw ++ (x ∷ []))) c (rw e (begins-front (raw ++ (x ∷ [])) w)) in
       rw k
 
   reads-word : (c : Command) (xs raw w : List ℕ) → word c ≡ (raw ++ xs) ++ w → run (step ver) (command raw) xs ≡ going (command (raw ++ xs))

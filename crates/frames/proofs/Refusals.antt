@@ -10,7 +10,7 @@ use lib.ListN.{length}
 use lib.Dec.{eqb, leb, ltb}
 use borrow.Author.Tests.{eqb-true, leb-true, leb-false, ltb-true, ltb-false, le-leb, lt-leb, lt-ltb, le-ltb}
 use Rattle.headers.specs.Rows.{same, every, any, begins, empty}
-use Rattle.headers.proofs.Rows.{cond-case, and-left, and-no, every-last, empty-not, or-false-left, or-false-right}
+use Rattle.headers.proofs.Rows.{cond-case, and-left, and-no, and-yes, or-yes, every-last, empty-not, or-false-left, or-false-right}
 use Rattle.headers.specs.Text.{Part, fresh, owes, Into, into, bad, stop, reads, of-escape, owing}
 use Rattle.headers.specs.declared.text.Field.the-variants.{Name as in-name, Value as in-value}
 use Rattle.headers.specs.Numbers.{is-digit, decimal}
@@ -30,10 +30,6 @@ refuses (done r) = none
 refuses (refuse k) = some k
 
 -- Commands
-or-true : (a : Bool) → a || true ≡ true
-or-true true = refl
-or-true false = refl
-
 or-either : (b s t : Bool) → s || t ≡ true → (b || s) || (b || t) ≡ true
 or-either true s t h = refl
 or-either false s t h = h
@@ -43,11 +39,7 @@ begins-some [] x = refl
 begins-some (u ∷ xs) x = refl
 
 begins-snoc : (xs w : List ℕ) (x y : ℕ) → begins (xs ++ (x ∷ [])) (w ++ (y ∷ [])) ≡ begins (xs ++ (x ∷ [])) w || (same xs w && eqb x y)
-begins-snoc [] [] x y = by (eqb x y)
-  where
-    by : (t : Bool) → t && true ≡ t
-    by true = refl
-    by false = refl
+begins-snoc [] [] x y = and-yes (eqb x y)
 begins-snoc [] (z ∷ w) x y = by (eqb x z)
   where
     by : (t : Bool) → t && true ≡ t && true || false
@@ -71,7 +63,7 @@ first-any f g (d ∷ cs) c h e = by (f (word d)) refl e (first-any f g cs c h)
   where
     by : (t : Bool) → f (word d) ≡ t → cond t (some d) (first f cs) ≡ some c → (first f cs ≡ some c → any g cs ≡ true) → g d || any g cs ≡ true
     by true k e′ ih = rw (h d k)
-    by false k e′ ih = rw (ih e′) (or-true (g d))
+    by false k e′ ih = rw (ih e′) (or-yes (g d))
 
 -- where neither f₁ nor f₂ finds one, and g fails where both do, g holds of none
 none-any : (f₁ f₂ : List ℕ → Bool) (g : Command → Bool) (cs : List Command) → ((d : Command) → f₁ (word d) ≡ false → f₂ (word d) ≡ false → g d ≡ false) → first f₁ cs ≡ none → first f₂ cs ≡ none → any g cs ≡ false
@@ -190,7 +182,7 @@ row-7 t (some v) h e b x ok part = by (ltb (length b) (decimal 0 v)) (eqb x 0) r
     by true true k = refl
     by false true k = refl
     by true false k = rw (under t (ok .small) (ltb-true _ _ k), leb-ltb (decimal 0 v) (length b), k)
-    by false false k = rw (leb-ltb (decimal 0 v) (length b), k, or-true)
+    by false false k = rw (leb-ltb (decimal 0 v) (length b), k, or-yes)
 
 no-stops : (a b c : Bool) → a || b || c ≡ false → (a ≡ false) × (b ≡ false) × (c ≡ false)
 no-stops a b c h =

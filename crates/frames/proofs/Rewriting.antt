@@ -23,7 +23,7 @@ use Rattle.headers.specs.Lines.{can-write, content-length}
 use Rattle.headers.specs.Answers.{Answer, accepted, refused, settle}
 use Rattle.headers.specs.declared.text.Style.{Style}
 use Rattle.headers.specs.declared.text.Field.{Field}
-use Rattle.headers.proofs.Rows.{cond-case, and-left, and-right, empty-not, every-left, every-right, every-append, any-key}
+use Rattle.headers.proofs.Rows.{cond-case, and-left, and-right, or-yes, empty-not, every-left, every-right, every-append, any-key}
 use Rattle.headers.proofs.Coding.{decode-means, encode-decode, decode-short}
 use Rattle.headers.proofs.Numerals.{numeral-octets}
 use Rattle.headers.proofs.LaidOut.{entries-image}
@@ -46,10 +46,6 @@ command-again : (c : Command) → command-of (number c) ≡ some c
 command-again = each-same (λ c. command-of (number c)) some refl
 
 -- ## The entries of valid lines
-
-or-yes : (a : Bool) → a || true ≡ true
-or-yes true = refl
-or-yes false = refl
 
 -- what text stands for can be written
 means-writable : {s : Style} {f : Field} {xs : List ℕ} (t : Text s f xs) → every (writable s f) (means t) ≡ true

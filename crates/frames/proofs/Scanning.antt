@@ -14,7 +14,7 @@ use Rattle.headers.specs.Text.{Part, fresh, back, owes, Into, into, bad, stop, 
 use Rattle.headers.specs.Numbers.{is-digit, decimal}
 use Rattle.headers.specs.Lines.{content-length}
 use Rattle.headers.specs.declared.text.Field.the-variants.{Name as in-name, Value as in-value}
-use Rattle.headers.proofs.Rows.{and-left, and-right, same-eq, cond-case, every-right, every-last, empty-eqb, begins-snoc, begins-front, front-of}
+use Rattle.headers.proofs.Rows.{and-left, and-right, same-eq, cond-case, every-right, every-last, empty-eqb, begins-snoc, begins-front, front-of, first-some}
 use Rattle.headers.proofs.Decimals.{decimal-none, decimal-snoc}
 use Rattle.frames.specs.Machine.{Next, go, done, refuse, Run, run, going, finished, stopped, after}
 use Rattle.frames.specs.Grammar.{Version, Shaped, Command, number, word, style, most, Head, Tree, heart-beat, frame, octets, declared, head, end}
@@ -24,7 +24,7 @@ use Rattle.frames.specs.Replies as reply
 use Rattle.frames.specs.Parsing.{first, word-end, word-next, at-word, at-start, name-next, at-name, at-begin, value-next, at-value, body-next, at-body, step, answer, parsed}
 use Rattle.frames.specs.declared.state.Scan.{Scan}
 use Rattle.frames.specs.Scanning.{number-of, word-of, next-command, whole-command, advance, name-phase, value-phase, on-word, on-start, on-name-by, on-name, on-begin, on-value-by, on-value, on-length-by, on-length, on-body, on-counted, scan-step, scan, nothing-read, scan-reply, invalid}
-use Rattle.frames.proofs.Sound.{sound, declared-append, first-some}
+use Rattle.frames.proofs.Sound.{sound, declared-append}
 use Rattle.frames.proofs.Commands.{each-same}
 use Rattle.frames.proofs.Reach.{finds}
 use Rattle.frames.proofs.Recognizing.{exact-run}
@@ -93,7 +93,7 @@ some-number = each-same (λ c. eqb (number c) 0) (λ c. false) refl
 word-read : (ver : Version) (raw : List ℕ) → Ok ver (command raw) → take (length raw) (word-of (number-of (first (begins raw) all))) ≡ raw
 word-read ver raw (c, w, e, ne) =
     let (d, k) = finds (begins raw) c (rw e (begins-front raw w)) in
-    rw (k, word-number) (front-of raw (word d) (first-some (begins raw) all d k))
+    rw (k, word-number) (front-of raw (word d) (first-some (λ c. begins raw (word c)) all d k))
 
 -- ---- names against content-length
 

@@ -10,7 +10,7 @@ use lib.ListN.{length, length-append}
 use lib.Dec.{eqb, leb, ltb, leb·zero}
 use borrow.Author.Tests.{eqb-true, leb-true, ltb-true, ltb-false}
 use Rattle.headers.specs.Rows.{same, every, begins, empty, All}
-use Rattle.headers.proofs.Rows.{same-eq, every-snoc, begins-rest, not-empty, snoc-some, unless, and-false, cond-case, and-left, and-right}
+use Rattle.headers.proofs.Rows.{same-eq, every-snoc, begins-rest, first-some, not-empty, snoc-some, unless, and-false, cond-case, and-left, and-right}
 use Rattle.headers.specs.Lines.{content-length, line-max}
 use Rattle.headers.specs.Numbers.{Amount, decimal, is-digit}
 use Rattle.headers.proofs.Decimals.{decimal-none}
@@ -59,14 +59,6 @@ len-snoc : (m : ℕ) (d : Option (List ℕ)) (n v : List ℕ) (e : Bool) → Len
 len-snoc m none n v e h am = cond-case (LengthOk m) (same n content-length) (λ t. am t) (λ t. tt)
 len-snoc m (some u) n v e h am = h
 
-pub first-some : (f : List ℕ → Bool) (cs : List Command) (c : Command) → first f cs ≡ some c → f (word c) ≡ true
-first-some f [] c h = let z : _≡_ {A = ℕ} 0 1 = cc in absurd (omega arith)
-first-some f (d ∷ cs) c h = by (f (word d)) refl h (first-some f cs c)
-  where
-    by : (t : Bool) → f (word d) ≡ t → cond t (some d) (first f cs) ≡ some c → (first f cs ≡ some c → f (word c) ≡ true) → f (word c) ≡ true
-    by true e k ih = cc
-    by false e k ih = ih k
-
 pub body-none : (m : ℕ) (d : Option (List ℕ)) → BodyPart m d []
 body-none m none = (omega arith, refl)
 body-none m (some v) = omega arith
@@ -98,14 +90,14 @@ module _ (ver : Version) where
       ended : (o : Option Command) → first (same raw) all ≡ o → Right raw x (word-end o x)
       ended none e = tt
       ended (some c) e =
-          let w : raw ≡ word c = same-eq raw (word c) (first-some (same raw) all c e) in
+          let w : raw ≡ word c = same-eq raw (word c) (first-some (λ d. same raw (word d)) all c e) in
           cond-case (Right raw x) (eqb x 10) (λ t. (new-ok c false, rw (w, eqb-true x 10 t)))
           (λ f. cond-case (Right raw x) (eqb x 13) (λ t. (tt, rw (w, eqb-true x 13 t))) (λ t. tt))
 
       longer : (o : Option Command) → first (begins (raw ++ (x ∷ []))) all ≡ o → Right raw x (word-next o raw x)
       longer none e = ended (first (same raw) all) refl
       longer (some c) e =
-          let (w, k) = begins-rest (raw ++ (x ∷ [])) (word c) (first-some (begins (raw ++ (x ∷ []))) all c e) in
+          let (w, k) = begins-rest (raw ++ (x ∷ [])) (word c) (first-some (λ d. begins (raw ++ (x ∷ [])) (word d)) all c e) in
           ((c, w, k, snoc-some raw x), refl)
 
   right-start : (x : ℕ) → Right [] x (at-start x)

@@ -8,6 +8,7 @@ use Prim.Native.Nat.{ℕ, suc, _+_, _-_}
 use native.Mathlib.Omega.{arith}
 use lib.ListN.{length, length-append}
 use Rattle.headers.specs.Rows.{first-of, All}
+use Rattle.headers.proofs.Rows.{first-none, first-place}
 use Rattle.frames.specs.Machine.{Next, go, done, refuse, Run, run, going, finished, stopped}
 use Rattle.frames.specs.Grammar.{Version, Tree, heart-beat, frame, octets, Shaped}
 use Rattle.frames.specs.Parsing.{step, answer, parsed}
@@ -31,27 +32,20 @@ each P h many-lines = h .1 .1 .1 .1 .1 .1 .1 .0
 each P h bad-length = h .1 .1 .1 .1 .1 .1 .1 .1 .0
 each P h past-body = h .1 .1 .1 .1 .1 .1 .1 .1 .1 .0
 
-module _ (f : Reason → Bool) where
-  pick-none : (rs : List Reason) → number-of (first-of f rs) ≡ none → All (λ r. f r ≡ false) rs
-  pick-none [] h = tt
-  pick-none (r ∷ rs) h = by (f r) refl h (pick-none rs)
-    where
-      by : (t : Bool) → f r ≡ t → number-of (cond t (some r) (first-of f rs)) ≡ none → (number-of (first-of f rs) ≡ none → All (λ r. f r ≡ false) rs) → (f r ≡ false) × All (λ r. f r ≡ false) rs
-      by true e h ih = let z : _≡_ {A = ℕ} 0 1 = cc in absurd (omega arith)
-      by false e h ih = (e, ih h)
+-- a number is given exactly for a reason
+no-reason : (o : Option Reason) → number-of o ≡ none → o ≡ none
+no-reason none h = refl
+no-reason (some r) h = let z : _≡_ {A = ℕ} 0 1 = cc in absurd (omega arith)
 
-  pick-first : (rs : List Reason) (k : ℕ) → number-of (first-of f rs) ≡ some k → (a : List Reason) × (r : Reason) × (b : List Reason) × (rs ≡ a ++ (r ∷ b)) × (f r ≡ true) × (numbered r ≡ k) × All (λ r. f r ≡ false) a
-  pick-first [] k h = let z : _≡_ {A = ℕ} 0 1 = cc in absurd (omega arith)
-  pick-first (r ∷ rs) k h = by (f r) refl h (pick-first rs k)
-    where
-      by : (t : Bool) → f r ≡ t → number-of (cond t (some r) (first-of f rs)) ≡ some k → (number-of (first-of f rs) ≡ some k → (a : List Reason) × (r : Reason) × (b : List Reason) × (rs ≡ a ++ (r ∷ b)) × (f r ≡ true) × (numbered r ≡ k) × All (λ r. f r ≡ false) a) → (a : List Reason) × (q : Reason) × (b : List Reason) × (r ∷ rs ≡ a ++ (q ∷ b)) × (f q ≡ true) × (numbered q ≡ k) × All (λ r. f r ≡ false) a
-      by true e h ih = ([], r, rs, refl, e, cc, tt)
-      by false e h ih = let (a, q, b, o, t, n, l) = ih h in (r ∷ a, q, b, ap (r ∷_) o, t, n, (e, l))
+reason-of : (o : Option Reason) (k : ℕ) → number-of o ≡ some k → (r : Reason) × (o ≡ some r) × (numbered r ≡ k)
+reason-of none k h = let z : _≡_ {A = ℕ} 0 1 = cc in absurd (omega arith)
+reason-of (some r) k h = (r, refl, cc)
 
-  pub picked : (k : ℕ) → number-of (first-of f order) ≡ some k → First f k
-  picked k h =
-      let (a, r, b, o, t, n, l) = pick-first order k h in
-      record { earlier = a; reason = r; later = b; ordered = o; fitting = t; number = n; none-earlier = l }
+picked : (f : Reason → Bool) (k : ℕ) → number-of (first-of f order) ≡ some k → First f k
+picked f k h =
+    let (r, o, n) = reason-of (first-of f order) k h in
+    let (a, b, p, t, l) = first-place f order r o in
+    record { earlier = a; reason = r; later = b; ordered = p; fitting = t; number = n; none-earlier = l }
 
 -- rows of one length that begin one row are the same
 split : (a b c d : List ℕ) → length a ≡ length b → a ++ c ≡ b ++ d → (a ≡ b) × (c ≡ d)
@@ -66,7 +60,7 @@ split (x ∷ a) (y ∷ b) c d l e =
 module _ (ver : Version) where
   pub fits-none : (s : Open) (x : ℕ) → refusal ver s x ≡ none → (r : Reason) → fits ver s x r ≡ false
   unfolding refusal
-  fits-none s x h = each (λ r. fits ver s x r ≡ false) (pick-none (fits ver s x) order h)
+  fits-none s x h = each (λ r. fits ver s x r ≡ false) (first-none (fits ver s x) order (no-reason (first-of (fits ver s x) order) h))
 
   refuses-step : (n : Next Open Tree) (k : ℕ) → refuses n ≡ some k → n ≡ refuse k
   refuses-step (go s) k h = let z : _≡_ {A = ℕ} 0 1 = cc in absurd (omega arith)

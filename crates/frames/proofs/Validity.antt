@@ -13,7 +13,7 @@ use Rattle.headers.specs.Rows.{begins}
 use Rattle.headers.specs.Text.{Part, fresh, back, Into, into, bad, stop, reads}
 use Rattle.headers.specs.Numbers.{is-digit, digit-value}
 use Rattle.headers.specs.declared.text.Field.the-variants.{Name as in-name, Value as in-value}
-use Rattle.headers.proofs.Rows.{and-right, cond-case, begins-rest, front-of}
+use Rattle.headers.proofs.Rows.{and-right, cond-case, begins-rest, front-of, first-some}
 use Rattle.frames.specs.Grammar.{Command, number, word}
 use Rattle.frames.specs.Open.{all}
 use Rattle.frames.specs.Parsing.{first}
@@ -21,7 +21,6 @@ use Rattle.frames.specs.Refusals.{numbered, faulty}
 use Rattle.frames.specs.declared.state.Scan.{Scan}
 use Rattle.frames.specs.Scanning.{style-of, most-of, word-of, number-of, next-command, whole-command, advance, to-phase, in-head, in-line, frame-read, invalid, body-begins, on-10, on-word, on-start, on-name-by, on-name, on-begin, line-read, on-value-by, on-value, grows, on-length-by, on-length, on-body, on-counted, scan-step, nothing-read, Reached, len-max, line-open, outside, Valid}
 use Rattle.frames.proofs.Commands.{each-le}
-use Rattle.frames.proofs.Sound.{first-some}
 use Rattle.frames.proofs.Scanning.{word-number}
 use Rattle.frames.proofs.Words.{small}
 
@@ -51,7 +50,7 @@ reached-next c k x r n = by (first (begins (take k (word-of c) ++ (x ∷ []))) a
     by : (o : Option Command) → first (begins raw) all ≡ o → eqb (number-of o) 0 ≡ false → Reached (number-of o) (k + 1) × (k + 1 ≤ 11)
     by none e q = let z : _≡_ {A = ℕ} 0 1 = cc in absurd (omega arith)
     by (some d) e q =
-        let b = first-some (begins raw) all d e in
+        let b = first-some (λ c. begins raw (word c)) all d e in
         let (w, split) = begins-rest raw (word d) b in
         let fits : k + 1 ≤ length (word d) = omega (arith, ap length split, length-append raw w, long) in
         let front : take (k + 1) (word-of (number d)) ≡ raw = ap (λ z. take z (word-of (number d))) (sym long) ∙ ap (take (length raw)) (word-number d) ∙ front-of raw (word d) b in (

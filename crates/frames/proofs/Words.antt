@@ -10,7 +10,7 @@ use lib.Seq.{length-take-le}
 use lib.Dec.{eqb, leb, ltb}
 use borrow.Author.Tests.{eqb-true, lt-ltb, le-leb, eq-eqb}
 use Rattle.headers.specs.Rows.{begins}
-use Rattle.headers.proofs.Rows.{refuted, begins-snoc}
+use Rattle.headers.proofs.Rows.{refuted, begins-snoc, none-first}
 use Rattle.frames.proofs.Upto.{upto, upto-at, upto-le}
 use Rattle.frames.specs.Grammar.{Command, number, word}
 use Rattle.frames.specs.Open.{all}
@@ -129,13 +129,9 @@ parts-at c k r h d =
     upto-at (parts c k) 16 (number d) (at-reached (λ i j. upto (parts i j) 16) refl c k r h)
     (omega (arith, number-small d))
 
-none-first : (f : List ℕ → Bool) (cs : List Command) → ((d : Command) → f (word d) ≡ false) → first f cs ≡ none
-none-first f [] h = refl
-none-first f (d ∷ cs) h = rw (h d) (none-first f cs h)
-
 pub next-none : (c k x : ℕ) → Reached c k × (0 < k) × (x ≡ getD (word-of c) k 64 → ⊥) → parting (key c k x) ≡ false → next-command c k x ≡ 0
 unfolding next-command
-next-none c k x (r, h, ne) w = ap number-of (none-first (begins (take k (word-of c) ++ (x ∷ []))) all (λ d. refuted _ (other d)))
+next-none c k x (r, h, ne) w = ap number-of (none-first (λ d. begins (take k (word-of c) ++ (x ∷ [])) (word d)) all (λ d. refuted _ (other d)))
   where
     by : (y : ℕ) (t : Bool) → x ≡ y → eqb y (getD (word-of c) k 64) ≡ t → t || parting (key c k y) ≡ true → ⊥
     by y true e i p = ne (e ∙ eqb-true y _ i)

@@ -1,7 +1,8 @@
 -- Laws of choices by a test, and of rows. Assumes nothing.
-use mathlib.Core.Path.{_≡_, refl, sym, ap, ap₂}
+use mathlib.Core.Path.{_≡_, refl, sym, ap, ap₂, subst}
 use mathlib.Core.Logic.{_≢_}
 use mathlib.Core.Bool.{Bool, true, false, cond, _&&_, _||_, not}
+use mathlib.Core.Option.{Option, none, some}
 use mathlib.Core.List.{List, [], _∷_, _++_}
 use Prim.Native.Nat.{ℕ, zero, suc, _+_, _≤_, _<_}
 use native.Mathlib.Numerals.{add-one}
@@ -10,7 +11,7 @@ use lib.Dec.{eqb, ltb, eqb·suc-zero, leb·suc-suc}
 use lib.ListN.{length, getD, take, drop, replicate, take-append-drop, drop-of-length-le}
 use lib.Seq.{drop-cons, take-at}
 use borrow.Author.Tests.{eqb-true, eq-eqb, ltb-true, lt-ltb}
-use Rattle.headers.specs.Rows.{same, begins, empty, every, any, All, is-octet}
+use Rattle.headers.specs.Rows.{same, begins, empty, every, any, first-of, All, is-octet}
 
 -- what holds of both choices, each with its test
 pub cond-case : {A : Type 0} (P : A → Type 0) (t : Bool) {a b : A} → (t ≡ true → P a) → (t ≡ false → P b) → P (cond t a b)
@@ -162,6 +163,10 @@ pub and-yes : (a : Bool) → a && true ≡ a
 and-yes true = refl
 and-yes false = refl
 
+pub or-yes : (a : Bool) → a || true ≡ true
+or-yes true = refl
+or-yes false = refl
+
 -- a test on every element, where only the last is not yet known to pass
 pub every-last : (f : ℕ → Bool) (xs : List ℕ) (x : ℕ) → every f xs ≡ true → every f (xs ++ (x ∷ [])) ≡ f x
 every-last f [] x h = and-yes (f x)
@@ -191,6 +196,30 @@ begins-front (x ∷ xs) w = rw (eq-eqb x x refl) (begins-front xs w)
 -- a row that begins another is its front
 pub front-of : (xs ys : List ℕ) → begins xs ys ≡ true → take (length xs) ys ≡ xs
 front-of xs ys h = let (w, e) = begins-rest xs ys h in rw e (take-at xs w (length xs) refl)
+
+-- the first that passes a test: none where none does, and otherwise all before it fail
+pub none-first : {A : Type 0} (f : A → Bool) (xs : List A) → ((x : A) → f x ≡ false) → first-of f xs ≡ none
+none-first f [] h = refl
+none-first f (x ∷ xs) h = rw (h x) (none-first f xs h)
+
+pub first-none : {A : Type 0} (f : A → Bool) (xs : List A) → first-of f xs ≡ none → All (λ x. f x ≡ false) xs
+first-none f [] h = tt
+first-none f (x ∷ xs) h = by (f x) refl h (first-none f xs)
+  where
+    by : (t : Bool) → f x ≡ t → cond t (some x) (first-of f xs) ≡ none → (first-of f xs ≡ none → All (λ y. f y ≡ false) xs) → (f x ≡ false) × All (λ y. f y ≡ false) xs
+    by true e h ih = let z : _≡_ {A = ℕ} 0 1 = cc in absurd (omega arith)
+    by false e h ih = (e, ih h)
+
+pub first-place : {A : Type 0} (f : A → Bool) (xs : List A) (x : A) → first-of f xs ≡ some x → (a : List A) × (b : List A) × (xs ≡ a ++ (x ∷ b)) × (f x ≡ true) × All (λ y. f y ≡ false) a
+first-place f [] x h = let z : _≡_ {A = ℕ} 0 1 = cc in absurd (omega arith)
+first-place {A = A} f (y ∷ ys) x h = by (f y) refl h (first-place f ys x)
+  where
+    by : (t : Bool) → f y ≡ t → cond t (some y) (first-of f ys) ≡ some x → (first-of f ys ≡ some x → (a : List A) × (b : List A) × (ys ≡ a ++ (x ∷ b)) × (f x ≡ true) × All (λ z. f z ≡ false) a) → (a : List A) × (b : List A) × (y ∷ ys ≡ a ++ (x ∷ b)) × (f x ≡ true) × All (λ z. f z ≡ false) a
+    by true e h ih = let n : y ≡ x = cc in ([], ys, ap (_∷ ys) n, subst (λ z. f z ≡ true) n e, tt)
+    by false e h ih = let (a, b, o, t, l) = ih h in (y ∷ a, b, ap (y ∷_) o, t, (e, l))
+
+pub first-some : {A : Type 0} (f : A → Bool) (xs : List A) (x : A) → first-of f xs ≡ some x → f x ≡ true
+first-some f xs x h = let (a, b, o, t, l) = first-place f xs x h in t
 
 -- what a test says of the numbers below n, computed at once; two tests that say the same agree at each of them
 abbrev pub table : (ℕ → Bool) → ℕ → List Bool
