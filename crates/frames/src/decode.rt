@@ -6,6 +6,7 @@ ghost use Prim.Native.Nat.{_+_, _≤_};
 ghost use lib.Dec.{ltb};
 ghost use lib.ListN.{length, drop};
 ghost use Rattle.headers.specs.Rows.{any};
+ghost use Rattle.headers.specs.Answers.{Puts};
 ghost use Rattle.headers.specs.Block.{image};
 ghost use Rattle.headers.specs.Lines.{line-max};
 ghost use Rattle.frames.specs.Grammar.{v1-2};
@@ -76,9 +77,7 @@ fn put_records(s: &[u8], from: usize, n: usize, style: Style, block: &mut [u8]) 
         × (any too-long (line-entries style (front-lines n (drop from (now s)))) ≡ false)
         ⌝ }
     ensures { λ r. ⌜
-        (r ≡ length (image (line-entries style (front-lines n (drop from (now (s .entry)))))))
-        × (now (block .exit) ≡ image (line-entries style (front-lines n (drop from (now (s .entry)))))
-        ++ drop (length (image (line-entries style (front-lines n (drop from (now (s .entry))))))) (now (block .entry)))
+        Puts (image (line-entries style (front-lines n (drop from (now (s .entry)))))) r (now (block .entry)) (now (block .exit))
         ⌝ }
 {
     let mut used = 0usize;

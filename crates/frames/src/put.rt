@@ -5,7 +5,7 @@ ghost use mathlib.Core.List.{[], _∷_, _++_};
 ghost use Prim.Native.Nat.{_+_, _≤_, _<_};
 ghost use lib.ListN.{length, drop};
 ghost use Rattle.headers.specs.Block.{entries, listed};
-ghost use Rattle.headers.specs.Answers.{is-block};
+ghost use Rattle.headers.specs.Answers.{is-block, Puts};
 ghost use Rattle.frames.specs.Scanning.{word-of};
 ghost use Rattle.frames.specs.Encoding.{written-lines};
 ghost use Rattle.frames.specs.Writing.{length-octets, added-octets, image-of};
@@ -35,11 +35,7 @@ fn put_word(d: &mut [u8], command: u32) -> usize
 // The lines of the entries of a block.
 fn put_lines(d: &mut [u8], block: &[u8], style: Style) -> usize
     requires { ⌜ (is-block (now block) ≡ true) × (length (written-lines style (listed (entries (now block)))) ≤ length (now d)) ⌝ }
-    ensures { λ r. ⌜
-        (r ≡ length (written-lines style (listed (entries (now (block .entry))))))
-        × (now (d .exit) ≡ written-lines style (listed (entries (now (block .entry))))
-        ++ drop (length (written-lines style (listed (entries (now (block .entry)))))) (now (d .entry)))
-        ⌝ }
+    ensures { λ r. ⌜ Puts (written-lines style (listed (entries (now (block .entry))))) r (now (d .entry)) (now (d .exit)) ⌝ }
 {
     let mut used = 0usize;
     let mut at = 0usize;
@@ -66,10 +62,7 @@ fn put_lines(d: &mut [u8], block: &[u8], style: Style) -> usize
 // The line that says a body's length.
 fn put_length(d: &mut [u8], body: usize, style: Style) -> usize
     requires { ⌜ length (length-octets style body) ≤ length (now d) ⌝ }
-    ensures { λ r. ⌜
-        (r ≡ length (length-octets style body))
-        × (now (d .exit) ≡ length-octets style body ++ drop (length (length-octets style body)) (now (d .entry)))
-        ⌝ }
+    ensures { λ r. ⌜ Puts (length-octets style body) r (now (d .entry)) (now (d .exit)) ⌝ }
 {
     let mut digits = [0u8; 20];
     let DecimalWritten::Length(k) = headers::write_decimal(&mut digits, body as u64) else {
@@ -85,10 +78,7 @@ fn put_length(d: &mut [u8], body: usize, style: Style) -> usize
 // The same where it is added, and nothing where it is not.
 fn put_added(d: &mut [u8], adds: bool, body: usize, style: Style) -> usize
     requires { ⌜ length (added-octets style adds body) ≤ length (now d) ⌝ }
-    ensures { λ r. ⌜
-        (r ≡ length (added-octets style adds body))
-        × (now (d .exit) ≡ added-octets style adds body ++ drop (length (added-octets style adds body)) (now (d .entry)))
-        ⌝ }
+    ensures { λ r. ⌜ Puts (added-octets style adds body) r (now (d .entry)) (now (d .exit)) ⌝ }
 {
     if adds {
         return put_length(d, body, style);
