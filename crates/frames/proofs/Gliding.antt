@@ -1,7 +1,7 @@
 -- Plain stretches at a go: the front of a row that passes a test, and the states that pass it unchanged but for their counts.
 -- Assumes nothing.
 use mathlib.Core.Path.{_≡_, refl, sym, _∙_, ap, subst}
-use mathlib.Core.Bool.{Bool, true, false, _&&_, _||_, not, and-assoc, and-true}
+use mathlib.Core.Bool.{Bool, true, false, _&&_, not, and-assoc, and-true}
 use mathlib.Core.List.{List, [], _∷_, _++_}
 use mathlib.Core.Logic.{_⊎_, inl, inr}
 use Prim.Native.Nat.{ℕ, _+_, _-_, _≤_, _<_, min}

@@ -1,6 +1,6 @@
 -- Where the parts of a frame's head stand, read off its octets: what decoding goes by. That these are the parts of the parse tree is
 -- proofs/Heads.antt. Assumes nothing.
-use mathlib.Core.Bool.{Bool, false, cond}
+use mathlib.Core.Bool.{false, cond}
 use mathlib.Core.List.{List, [], _∷_}
 use Prim.Native.Nat.{ℕ, zero, suc, _+_}
 use lib.ListN.{take, drop, getD}

@@ -14,7 +14,7 @@ use Rattle.headers.specs.declared.text.Field.{Field}
 use Rattle.headers.specs.declared.text.Field.the-variants.{Name as in-name, Value as in-value}
 use Rattle.headers.specs.Numbers.{is-digit, decimal}
 use Rattle.headers.specs.Lines.{line-max}
-use Rattle.frames.specs.Grammar.{Version, Command, word, style, most, Head, lines-max, declared}
+use Rattle.frames.specs.Grammar.{Version, word, style, most, Head, lines-max, declared}
 use Rattle.frames.specs.Open.{Open, start, heart-beat-13, command, command-13, begin, name, value, line-13, blank-13, body, all, watched}
 
 -- a header line as far as it is read; no value before the colon

@@ -1,14 +1,13 @@
 // Decoding: the entries of a frame, as a header block.
 ghost use mathlib.Core.Path.{_≡_};
 ghost use mathlib.Core.Bool.{false};
-ghost use mathlib.Core.List.{_++_};
 ghost use Prim.Native.Nat.{_+_, _≤_};
 ghost use lib.Dec.{ltb};
 ghost use lib.ListN.{length, drop};
 ghost use Rattle.headers.specs.Rows.{any};
-ghost use Rattle.headers.specs.Answers.{Puts};
 ghost use Rattle.headers.specs.Block.{image};
 ghost use Rattle.headers.specs.Lines.{line-max};
+ghost use Rattle.headers.specs.Answers.{Puts};
 ghost use Rattle.frames.specs.Grammar.{v1-2};
 ghost use Rattle.frames.specs.Layout.{front-lines};
 ghost use Rattle.frames.specs.Decoding.{line-entries, too-long, Decodes};

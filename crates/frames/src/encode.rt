@@ -1,19 +1,15 @@
 // Encoding: the octets of a frame, from a command, a header block and a body.
 ghost use mathlib.Core.Path.{_≡_};
-ghost use mathlib.Core.Bool.{Bool, true, _&&_, not};
-ghost use mathlib.Core.List.{List, [], _∷_, _++_};
+ghost use mathlib.Core.Bool.{true, _&&_, not};
 ghost use Prim.Native.Nat.{_+_, _≤_, _<_};
 ghost use lib.Dec.{eqb};
-ghost use lib.ListN.{length, take, drop};
-ghost use Rattle.headers.specs.Rows.{any, every};
+ghost use lib.ListN.{length};
 ghost use Rattle.headers.specs.Numbers.{decimal, is-amount};
 ghost use Rattle.headers.specs.Block.{entries, listed};
-ghost use Rattle.headers.specs.Lines.{written-line, can-write};
 ghost use Rattle.headers.specs.Answers.{is-block, left-in};
 ghost use Rattle.frames.specs.Grammar.{v1-2};
-ghost use Rattle.frames.specs.Scanning.{word-of, style-of};
-ghost use Rattle.frames.specs.Encoding.{Call, first-unwritable, length-entry, written-lines, encode-answer, encode-image, encode-index, indexed};
-ghost use Rattle.frames.specs.Writing.{Told, Sums, lengths-of, image-of};
+ghost use Rattle.frames.specs.Encoding.{encode-answer, encode-image, encode-index, indexed};
+ghost use Rattle.frames.specs.Writing.{Told, Sums, lengths-of};
 ghost use Rattle.frames.specs.Answers.{encoded-says};
 use headers::DecimalRead;
 use headers::DecimalWritten;

@@ -1,20 +1,18 @@
 -- The opening frame: what each of its checks comes to, by what was read of the headers; and the timed-out question. Assumes nothing.
 use mathlib.Core.Path.{_≡_, refl, sym, ap, _∙_}
-use mathlib.Core.Bool.{Bool, true, false, cond, not}
+use mathlib.Core.Bool.{Bool, true, false, cond}
 use mathlib.Core.Option.{Option, none, some}
 use mathlib.Core.List.{List, []}
 use Prim.Native.Nat.{ℕ, _*_}
 use native.Mathlib.Omega.{arith}
-use lib.Dec.{eqb, ltb}
+use lib.Dec.{ltb}
 use borrow.Author.Tests.{eq-eqb, ne-eqb}
 use Rattle.headers.specs.Block.{Entry}
-use Rattle.sessions.specs.Values.{Beats}
 use Rattle.sessions.specs.Opening.{shared-flags, none-shared, interval, passed}
-use Rattle.sessions.specs.Headers.{is-some}
 use Rattle.sessions.specs.Sessions.{opened}
 use Rattle.sessions.specs.Reads.{versions-say, beats-say}
-use Rattle.sessions.specs.Calls.{client-versions, client-beats, shared-by, opened-by, opening, is-timed-out}
-use Rattle.sessions.specs.Steps.{closed-by, accepted-by, opening-checks, GivesOpening}
+use Rattle.sessions.specs.Calls.{client-versions, client-beats, shared-by, opening, is-timed-out}
+use Rattle.sessions.specs.Steps.{closed-by, accepted-by, GivesOpening}
 use Rattle.sessions.specs.declared.value.VersionsRead.{VersionsRead}
 use Rattle.sessions.specs.declared.value.BeatsRead.{BeatsRead}
 use Rattle.sessions.specs.declared.session.Session.{Session}

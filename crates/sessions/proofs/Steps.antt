@@ -1,9 +1,9 @@
 -- What the parts of a session's calls come to: checks one after another, and the groups of Steps put together to the answers and
 -- sessions of Calls. Assumes nothing.
 use mathlib.Core.Path.{_≡_, refl, sym, ap, _∙_}
-use mathlib.Core.Bool.{Bool, true, false, cond, _&&_, _||_, not}
+use mathlib.Core.Bool.{Bool, true, false, cond, _||_, not}
 use mathlib.Core.Logic.{_⊎_, inl, inr, ⊎-elim}
-use mathlib.Core.Option.{Option, none, some}
+use mathlib.Core.Option.{none, some}
 use mathlib.Core.List.{List, [], _∷_}
 use Prim.Native.Nat.{ℕ}
 use native.Mathlib.Omega.{arith}
@@ -12,15 +12,14 @@ use lib.Dec.{eqb, ltb}
 use borrow.Author.Tests.{eqb-true}
 use Rattle.headers.specs.Rows.{every}
 use Rattle.headers.specs.Block.{Entry, entries, listed}
-use Rattle.headers.specs.Answers.{Answer, accepted, refused, Check, settle, is-block}
+use Rattle.headers.specs.Answers.{accepted, refused, Check, settle}
 use Rattle.headers.proofs.Rows.{and-left, and-right, and-no}
-use Rattle.frames.specs.Grammar.{DISCONNECT}
 use Rattle.sessions.specs.Values.{beat-max}
 use Rattle.sessions.specs.Opening.{only-1-2}
-use Rattle.sessions.specs.Headers.{has, is, unknown, opens, naming}
+use Rattle.sessions.specs.Headers.{has, opens, naming}
 use Rattle.sessions.specs.Sessions.{fresh, closed, heard, is-valid}
 use Rattle.sessions.specs.Answers.{bit, answer-says}
-use Rattle.sessions.specs.Calls.{left-by, usage-of, named-id, naming-effect, naming-checks, lacks-needed, entry-checks, frame-checks, owes-receipt, frame-answer, effect, frame-session, beat-checks, beat-answer, beat-session, making-answer, made, is-timed-out, timed-out-answer}
+use Rattle.sessions.specs.Calls.{usage-of, named-id, naming-effect, lacks-needed, frame-checks, owes-receipt, frame-answer, effect, frame-session, beat-checks, beat-answer, beat-session, making-answer, made, is-timed-out, timed-out-answer}
 use Rattle.sessions.specs.Steps.{kept-by, closed-by, accepted-by, Gives, opening-checks, GivesUse, GivesOpening, GivesNaming, GivesEntries}
 use Rattle.sessions.specs.declared.command.Header.the-variants.{Receipt}
 use Rattle.sessions.specs.declared.session.Session.{Session}

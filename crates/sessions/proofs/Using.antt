@@ -1,18 +1,18 @@
 -- Ids used: what a session becomes where an id is refused, kept, entered or freed, over the kind of id. Assumes nothing.
 use mathlib.Core.Path.{_≡_, refl, sym, ap, ap₂, _∙_}
-use mathlib.Core.Bool.{Bool, true, false, cond, _&&_, _||_}
-use mathlib.Core.List.{List, [], _∷_}
-use Prim.Native.Nat.{ℕ, _+_, _-_, _*_, _≤_, _<_, min}
+use mathlib.Core.Bool.{Bool, true}
+use mathlib.Core.List.{List, []}
+use Prim.Native.Nat.{ℕ, _-_, _≤_, _<_}
 use native.Mathlib.Omega.{arith}
 use native.Mathlib.Nat.{le-refl, sub-zero}
-use lib.Dec.{eqb, leb, ltb}
+use lib.Dec.{leb, ltb}
 use lib.ListN.{length, take, drop, set, length-take}
 use borrow.Author.Tests.{ltb-false, leb-true}
 use Rattle.headers.specs.Rows.{empty}
-use Rattle.headers.specs.Answers.{accepted, refused, Check, settle}
+use Rattle.headers.specs.Answers.{accepted, settle}
 use Rattle.headers.proofs.Rows.{and-left, and-right, or-false-right}
-use Rattle.sessions.specs.Stores.{ids, valid-store, used, bad-length, use-checks}
-use Rattle.sessions.specs.Sessions.{subscriptions-max, transactions-max, id-max, ids-of, with-stores, with-ids, heard, valid-numbers, valid-ids, is-valid, Sized}
+use Rattle.sessions.specs.Stores.{valid-store, used, use-checks}
+use Rattle.sessions.specs.Sessions.{subscriptions-max, transactions-max, id-max, ids-of, with-stores, with-ids, valid-numbers, valid-ids, is-valid, Sized}
 use Rattle.sessions.specs.Places.{Fits, stored, Settles, put-in}
 use Rattle.sessions.specs.Steps.{closed-by, accepted-by, count-of, put-of, GivesUse}
 use Rattle.sessions.specs.declared.store.Use.{Use}

@@ -1,6 +1,6 @@
 -- What the answers of a session's calls say: document 01's number, and the values of an accepted answer. Assumes nothing.
-use mathlib.Core.Bool.{Bool, true, false, cond}
-use mathlib.Core.List.{List, [], _∷_}
+use mathlib.Core.Bool.{Bool, true, false}
+use mathlib.Core.List.{[], _∷_}
 use Prim.Native.Nat.{ℕ}
 use Rattle.headers.specs.Answers.{Answer, accepted, refused}
 use Rattle.sessions.specs.declared.session.SessionAnswer.{SessionAnswer}

@@ -1,6 +1,6 @@
 -- What each call of a session answers, and the session that it leaves (document 01, "One client's session"): the checks as one
 -- list in their order, and the effect of what is accepted. Assumes nothing.
-use mathlib.Core.Bool.{Bool, true, false, cond, _&&_, _||_, not}
+use mathlib.Core.Bool.{Bool, false, cond, _&&_, _||_, not}
 use mathlib.Core.Option.{Option, none, some}
 use mathlib.Core.List.{List, [], _∷_}
 use Prim.Native.Nat.{ℕ}
@@ -10,7 +10,7 @@ use Rattle.headers.specs.Rows.{empty, any}
 use Rattle.headers.specs.Block.{Entry, entries, listed}
 use Rattle.headers.specs.Answers.{Answer, accepted, refused, Check, settle, is-block}
 use Rattle.frames.specs.Grammar.{DISCONNECT}
-use Rattle.sessions.specs.Stores.{live, used, enters, wants-live, bad-length, use-checks}
+use Rattle.sessions.specs.Stores.{live, used, enters, wants-live, bad-length}
 use Rattle.sessions.specs.Values.{Beats, versions, beats, beat-max}
 use Rattle.sessions.specs.Opening.{shared-flags, none-shared, only-1-2, interval, overdue}
 use Rattle.sessions.specs.Headers.{value-of, has, is-some, lacks, is, unknown, from-server, opens, needed, names, names-id, naming}

@@ -1,5 +1,5 @@
 -- What both sides come to at the opening of a connection, and the clock (document 01, "Opening a connection"). Assumes nothing.
-use mathlib.Core.Bool.{Bool, true, false, cond, _&&_, _||_, not}
+use mathlib.Core.Bool.{Bool, false, cond, _&&_, _||_, not}
 use mathlib.Core.List.{List, [], _∷_}
 use Prim.Native.Nat.{ℕ, _+_, _-_, _*_, _%_, _^_, max}
 use lib.ListN.{getD}

@@ -1,20 +1,19 @@
 -- What the parts of a session's calls give, in the code's types: the checks of Calls group by group. That they come to Calls' answers
 -- and sessions is proofs/Steps.antt. Assumes nothing.
 use mathlib.Core.Path.{_≡_}
-use mathlib.Core.Bool.{Bool, true, false, cond, _&&_, not}
+use mathlib.Core.Bool.{Bool, false, cond, not}
 use mathlib.Core.List.{List, [], _∷_}
 use Prim.Native.Nat.{ℕ}
 use lib.ListN.{length, set}
 use lib.Dec.{eqb}
-use Rattle.headers.specs.Rows.{empty, any}
 use Rattle.headers.specs.Block.{Entry}
 use Rattle.headers.specs.Answers.{Check, settle}
-use Rattle.sessions.specs.Stores.{live, used, enters, wants-live, bad-length, use-checks}
+use Rattle.sessions.specs.Stores.{used, use-checks}
 use Rattle.sessions.specs.Opening.{none-shared}
 use Rattle.sessions.specs.Headers.{is-some, from-server, opens}
 use Rattle.sessions.specs.Sessions.{subscriptions-max, transactions-max, id-max, fresh-phase, open-phase, closed-phase, ids-of, with-ids, with-stores, closed, heard}
 use Rattle.sessions.specs.Answers.{bit, answer-says}
-use Rattle.sessions.specs.Calls.{left-by, shared-by, client-versions, client-beats, opening, usage-of, named-id, named-ids, of-id, naming-effect, naming-checks, entry-checks, owes-receipt, effect}
+use Rattle.sessions.specs.Calls.{left-by, shared-by, client-versions, client-beats, opening, named-id, naming-effect, naming-checks, entry-checks, owes-receipt, effect}
 use Rattle.sessions.specs.Places.{put-in}
 use Rattle.sessions.specs.declared.store.Use.{Use}
 use Rattle.sessions.specs.declared.command.Kind.{Kind}

@@ -1,5 +1,5 @@
 -- `ahead::is_plain_alone` meets its contract: the word and the test agree at each of the 256 octets, which antt computes.
-use mathlib.Core.Path.{_≡_, refl}
+use mathlib.Core.Path.{refl}
 use mathlib.Core.Bool.{Bool, true, false, not}
 use mathlib.Core.Logic.{⊎-elim}
 use Prim.Native.Nat.{ℕ, _<_, _*_, _/_, _^_}

@@ -1,14 +1,12 @@
 -- `encode::encode` meets its contract: what settle answers, and the image where that is a length.
-use Prim.Native.Nat.{ℕ, _≤_}
+use Prim.Native.Nat.{ℕ}
 use native.Mathlib.Omega.{arith}
 use lib.ListN.{length, drop}
-use mathlib.Core.Path.{_≡_, refl, sym, _∙_, ap, ap₂}
-use mathlib.Core.Bool.{Bool}
-use mathlib.Core.List.{List, [], _∷_, _++_}
+use mathlib.Core.Path.{_≡_, sym, _∙_, ap}
+use mathlib.Core.List.{[], _∷_, _++_}
 use mathlib.Core.Logic.{⊎-elim}
 use types.Run.{OneOf}
 use Rattle.headers.specs.Block.{entries, listed}
-use Rattle.headers.specs.Answers.{left-in}
 use Rattle.frames.specs.Grammar.{v1-2}
 use Rattle.frames.specs.Encoding.{Call, adds-length, encode-answer, encode-index, encode-image}
 use Rattle.frames.specs.Writing.{image-of}

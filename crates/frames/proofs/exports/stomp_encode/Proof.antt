@@ -3,7 +3,7 @@ use Prim.Native.Nat.{ℕ, _<_}
 use native.Mathlib.Omega.{arith}
 use lib.ListN.{length}
 use mathlib.Core.Path.{_≡_, refl, sym, _∙_, ap}
-use Rattle.frames.specs.Encoding.{Call, image-length, refusal}
+use Rattle.frames.specs.Encoding.{Call}
 use Rattle.frames.specs.Answers.{encoded-says}
 use Rattle.frames.specs.declared.encode.Encoded.{Encoded}
 use Rattle.frames.proofs.Settled.{says-of}

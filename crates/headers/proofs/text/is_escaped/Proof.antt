@@ -1,5 +1,5 @@
 -- `text::is_escaped` meets its contract: the word and the table agree at each of the 256 octets, which antt computes.
-use mathlib.Core.Path.{_≡_, refl, ap}
+use mathlib.Core.Path.{refl, ap}
 use mathlib.Core.Bool.{Bool, _&&_}
 use Prim.Native.Nat.{ℕ, _<_, _*_, _/_, _^_}
 use native.Mathlib.Omega.{arith}

@@ -1,5 +1,5 @@
 -- `locate::lacks_needed` meets its contract.
-use mathlib.Core.Path.{_≡_, sym, ap, _∙_}
+use mathlib.Core.Path.{sym, ap, _∙_}
 use denote.Ref.{now}
 use Rattle.headers.specs.Block.{entries, listed}
 use Rattle.sessions.specs.Headers.{lacks}

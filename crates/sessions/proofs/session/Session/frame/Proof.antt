@@ -1,5 +1,5 @@
 -- `session::Session::frame` meets its contract: the checks of the record, the command, the block and the phase, and then those of the entries.
-use mathlib.Core.Path.{_≡_, refl, sym, ap, ap₂, _∙_}
+use mathlib.Core.Path.{refl, sym, ap, ap₂, _∙_}
 use mathlib.Core.Bool.{_||_, not}
 use borrow.Author.Tests.{not-false}
 use denote.Ref.{now}
