@@ -1,5 +1,6 @@
 //! Runs another program on random streams and compares its listings with this one's.
 
+use crate::comparison;
 use crate::item::{Item, COMMANDS};
 use crate::listing::{self, End, Listing};
 use crate::program::{self, Ran};
@@ -9,7 +10,7 @@ use std::io::{self, Write};
 
 /// How many octets the streams compared had, and how often each outcome came up.
 #[derive(Default)]
-struct Tally {
+pub struct Tally {
     octets: usize,
     beats: usize,
     frames: [usize; COMMANDS.len()],
@@ -32,6 +33,34 @@ impl Tally {
             End::Nothing => self.end += 1,
         }
     }
+}
+
+impl comparison::Tally for Tally {
+    const COMPARED: &'static str = "streams compared";
+
+    fn of(program: &str, count: usize, seed: u64) -> io::Result<Option<Tally>> {
+        let mut random = Random::new(seed);
+        let mut tally = Tally::default();
+        for number in 0..count {
+            let stream = streams::stream(&mut random);
+            let listing = listing::read(&stream);
+            let ours = listing::write(&listing);
+            let ran = program::run(program, &[], &stream)?;
+            io::stderr().write_all(&ran.errors)?;
+            if ran.output != ours.as_bytes() || ran.status.is_none() {
+                let name = format!("second-difference-{seed}-{number}");
+                report(&name, &stream, &ours, &ran)?;
+                return Ok(None);
+            }
+            tally.octets += stream.len();
+            tally.count(&listing);
+        }
+        Ok(Some(tally))
+    }
+
+    fn octets(&self) -> usize {
+        self.octets
+    }
 
     fn print(&self) {
         println!("beat {}", self.beats);
@@ -45,42 +74,6 @@ impl Tally {
         println!("more {}", self.more);
         println!("end {}", self.end);
     }
-}
-
-/// Compares that many streams of the seed. False at the first difference, which is printed.
-pub fn compare(program: &str, count: usize, seed: u64) -> io::Result<bool> {
-    let Some(tally) = tallied(program, count, seed)? else {
-        return Ok(false);
-    };
-    tally.print();
-    println!("second: {count} streams compared, {seed} seed");
-    Ok(true)
-}
-
-/// Compares as `compare` does, but prints nothing without a difference: the octets of the streams.
-pub fn quietly(program: &str, count: usize, seed: u64) -> io::Result<Option<usize>> {
-    Ok(tallied(program, count, seed)?.map(|tally| tally.octets))
-}
-
-/// The tally of that many streams of the seed. None at the first difference, which is printed.
-fn tallied(program: &str, count: usize, seed: u64) -> io::Result<Option<Tally>> {
-    let mut random = Random::new(seed);
-    let mut tally = Tally::default();
-    for number in 0..count {
-        let stream = streams::stream(&mut random);
-        let listing = listing::read(&stream);
-        let ours = listing::write(&listing);
-        let ran = program::run(program, &[], &stream)?;
-        io::stderr().write_all(&ran.errors)?;
-        if ran.output != ours.as_bytes() || ran.status.is_none() {
-            let name = format!("second-difference-{seed}-{number}");
-            report(&name, &stream, &ours, &ran)?;
-            return Ok(None);
-        }
-        tally.octets += stream.len();
-        tally.count(&listing);
-    }
-    Ok(Some(tally))
 }
 
 /// Keeps the stream in a file and prints both listings.

@@ -2,13 +2,11 @@
 //! those of the encoder here.
 
 use crate::calls::{self, Call};
+use crate::comparison;
 use crate::encode::encode;
 use crate::program;
 use crate::random::Random;
-use std::io::{self, Write};
-
-/// How many calls one run of the program is given.
-const BATCH: usize = 500;
+use std::io;
 
 /// The octet that a target is filled with before the call.
 const FILLED: u8 = 170;
@@ -59,7 +57,7 @@ fn octets(call: &Call) -> Vec<u8> {
 
 /// How many octets the calls compared had, and how often each answer came up: images, and each refusal.
 #[derive(Default)]
-struct Tally {
+pub struct Tally {
     octets: usize,
     images: usize,
     refused: [usize; 7],
@@ -72,6 +70,23 @@ impl Tally {
             code => self.refused[code - FIRST_CODE] += 1,
         }
     }
+}
+
+impl comparison::Tally for Tally {
+    const COMPARED: &'static str = "calls compared";
+
+    fn of(program: &str, count: usize, seed: u64) -> io::Result<Option<Tally>> {
+        let mut tally = Tally::default();
+        let equal = comparison::in_batches(program, count, seed, |batch: &Batch, octets| {
+            tally.octets += octets;
+            batch.replies.iter().for_each(|reply| tally.count(reply));
+        })?;
+        Ok(equal.then_some(tally))
+    }
+
+    fn octets(&self) -> usize {
+        self.octets
+    }
 
     fn print(&self) {
         println!("image {}", self.images);
@@ -81,62 +96,37 @@ impl Tally {
     }
 }
 
-/// Compares that many calls of the seed. False at the first difference, which is printed.
-pub fn compare(program: &str, count: usize, seed: u64) -> io::Result<bool> {
-    let Some(tally) = tallied(program, count, seed)? else {
-        return Ok(false);
-    };
-    tally.print();
-    println!("second: {count} calls compared, {seed} seed");
-    Ok(true)
+/// Calls for one run of the program, and their replies.
+struct Batch {
+    calls: Vec<Call>,
+    replies: Vec<Reply>,
 }
 
-/// Compares as `compare` does, but prints nothing without a difference: the octets of the calls.
-pub fn quietly(program: &str, count: usize, seed: u64) -> io::Result<Option<usize>> {
-    Ok(tallied(program, count, seed)?.map(|tally| tally.octets))
-}
+impl comparison::Batch for Batch {
+    const SIZE: usize = 500;
+    const NAME: &'static str = "encode";
 
-/// The tally of that many calls of the seed. None at the first difference, which is printed.
-fn tallied(program: &str, count: usize, seed: u64) -> io::Result<Option<Tally>> {
-    let mut random = Random::new(seed);
-    let mut tally = Tally::default();
-    let mut done = 0;
-    while done < count {
-        let size = BATCH.min(count - done);
-        let batch: Vec<Call> = (0..size).map(|_| calls::call(&mut random)).collect();
-        let replies: Vec<Reply> = batch.iter().map(Reply::of).collect();
-        let input: Vec<u8> = batch.iter().flat_map(octets).collect();
-        let ran = program::run(program, &[], &input)?;
-        io::stderr().write_all(&ran.errors)?;
-        let (alike, rest) = compared(&replies, &ran.output);
-        if alike < size || !rest.is_empty() || ran.status.is_none() {
-            let index = alike.min(size - 1);
-            let name = format!("second-difference-encode-{seed}-{}", done + index);
-            report(&name, &batch[index])?;
-            match replies.get(alike) {
-                Some(reply) => print_both(reply, rest),
-                None => program::print_difference("what stands behind the last reply", b"", rest),
-            }
-            program::print_signal(ran.status);
-            return Ok(None);
-        }
-        tally.octets += input.len();
-        replies.iter().for_each(|reply| tally.count(reply));
-        done += size;
+    fn new(random: &mut Random, size: usize) -> Batch {
+        let calls: Vec<Call> = (0..size).map(|_| calls::call(random)).collect();
+        let replies = calls.iter().map(Reply::of).collect();
+        Batch { calls, replies }
     }
-    Ok(Some(tally))
-}
 
-/// How many calls from the first on have the same reply, and what the program wrote behind these.
-fn compared<'a>(replies: &[Reply], output: &'a [u8]) -> (usize, &'a [u8]) {
-    let mut rest = output;
-    for (index, reply) in replies.iter().enumerate() {
-        match rest.strip_prefix(&reply.octets()[..]) {
-            Some(behind) => rest = behind,
-            None => return (index, rest),
-        }
+    fn octets(&self) -> Vec<u8> {
+        self.calls.iter().flat_map(octets).collect()
     }
-    (replies.len(), rest)
+
+    fn replies(&self) -> Vec<Vec<u8>> {
+        self.replies.iter().map(Reply::octets).collect()
+    }
+
+    fn report(&self, name: &str, index: usize) -> io::Result<()> {
+        report(name, &self.calls[index])
+    }
+
+    fn print_both(&self, index: usize, theirs: &[u8]) {
+        print_both(&self.replies[index], theirs);
+    }
 }
 
 /// Keeps the call in a file and says what it is.

@@ -1,5 +1,6 @@
 //! Runs all comparisons in turn for as long as asked, each batch with a seed of its own.
 
+use crate::comparison::quietly;
 use crate::random::Random;
 use crate::{compare, compare_encode, compare_replay, compare_rewrite, compare_session};
 use std::io;
@@ -23,35 +24,35 @@ const COMPARISONS: [Comparison; 5] = [
         program: "list",
         what: "streams",
         batch: 200,
-        run: compare::quietly,
+        run: quietly::<compare::Tally>,
     },
     Comparison {
         mode: "compare-rewrite",
         program: "rewrite",
         what: "streams",
         batch: 200,
-        run: compare_rewrite::quietly,
+        run: quietly::<compare_rewrite::Tally>,
     },
     Comparison {
         mode: "compare-encode",
         program: "encode_calls",
         what: "calls",
         batch: 20_000,
-        run: compare_encode::quietly,
+        run: quietly::<compare_encode::Tally>,
     },
     Comparison {
         mode: "compare-replay",
         program: "replay",
         what: "streams",
         batch: 200,
-        run: compare_replay::quietly,
+        run: quietly::<compare_replay::Tally>,
     },
     Comparison {
         mode: "compare-session",
         program: "session_calls",
         what: "calls",
         batch: 20_000,
-        run: compare_session::quietly,
+        run: quietly::<compare_session::Tally>,
     },
 ];
 

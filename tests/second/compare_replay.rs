@@ -1,6 +1,7 @@
 //! Runs another program on random streams of clients and compares what it says of each item with what
 //! a session here answers.
 
+use crate::comparison;
 use crate::item::COMMANDS;
 use crate::listing::End;
 use crate::lives::{life, Life};
@@ -15,7 +16,7 @@ const NUMBERS: [usize; 11] = [31, 32, 33, 40, 41, 42, 43, 44, 45, 46, 47];
 /// How many octets the streams compared had, and how often each outcome came up; of accepted frames,
 /// first those without a receipt, then those with one.
 #[derive(Default)]
-struct Tally {
+pub struct Tally {
     octets: usize,
     beats: [usize; 2],
     accepted: [[usize; 2]; COMMANDS.len()],
@@ -45,6 +46,36 @@ impl Tally {
             End::Nothing => 2,
         };
         self.ends[end] += 1;
+    }
+}
+
+impl comparison::Tally for Tally {
+    const COMPARED: &'static str = "streams replayed and compared";
+
+    fn of(program: &str, count: usize, seed: u64) -> io::Result<Option<Tally>> {
+        let mut random = Random::new(seed);
+        let mut tally = Tally::default();
+        for number in 0..count {
+            let life = life(&mut random);
+            let (sends, wants) = life.offers.unwrap_or((0, 0));
+            let replay =
+                replay::replay(&life.stream, sends, wants).expect("offers that are allowed");
+            let ours = replay::write(&replay);
+            let ran = program::run(program, &arguments(&life), &life.stream)?;
+            io::stderr().write_all(&ran.errors)?;
+            if ran.output != ours.as_bytes() || ran.status.is_none() {
+                let name = format!("second-difference-replay-{seed}-{number}");
+                report(&name, &life, &ours, &ran)?;
+                return Ok(None);
+            }
+            tally.octets += life.stream.len();
+            tally.count(&replay);
+        }
+        Ok(Some(tally))
+    }
+
+    fn octets(&self) -> usize {
+        self.octets
     }
 
     fn print(&self) {
@@ -80,43 +111,6 @@ fn print_counts<'a>(counts: impl Iterator<Item = (&'a usize, &'a usize)>) {
         print!(" {number}: {count}");
     }
     println!();
-}
-
-/// Compares that many streams of the seed. False at the first difference, which is printed.
-pub fn compare(program: &str, count: usize, seed: u64) -> io::Result<bool> {
-    let Some(tally) = tallied(program, count, seed)? else {
-        return Ok(false);
-    };
-    tally.print();
-    println!("second: {count} streams replayed and compared, {seed} seed");
-    Ok(true)
-}
-
-/// Compares as `compare` does, but prints nothing without a difference: the octets of the streams.
-pub fn quietly(program: &str, count: usize, seed: u64) -> io::Result<Option<usize>> {
-    Ok(tallied(program, count, seed)?.map(|tally| tally.octets))
-}
-
-/// The tally of that many streams of the seed. None at the first difference, which is printed.
-fn tallied(program: &str, count: usize, seed: u64) -> io::Result<Option<Tally>> {
-    let mut random = Random::new(seed);
-    let mut tally = Tally::default();
-    for number in 0..count {
-        let life = life(&mut random);
-        let (sends, wants) = life.offers.unwrap_or((0, 0));
-        let replay = replay::replay(&life.stream, sends, wants).expect("offers that are allowed");
-        let ours = replay::write(&replay);
-        let ran = program::run(program, &arguments(&life), &life.stream)?;
-        io::stderr().write_all(&ran.errors)?;
-        if ran.output != ours.as_bytes() || ran.status.is_none() {
-            let name = format!("second-difference-replay-{seed}-{number}");
-            report(&name, &life, &ours, &ran)?;
-            return Ok(None);
-        }
-        tally.octets += life.stream.len();
-        tally.count(&replay);
-    }
-    Ok(Some(tally))
 }
 
 /// The arguments that the program gets: none, or the server's two numbers.

@@ -1,6 +1,7 @@
 //! Runs another program on random streams and compares what it writes with these streams written
 //! again here.
 
+use crate::comparison;
 use crate::item::COMMANDS;
 use crate::program::{self, Ran};
 use crate::random::Random;
@@ -11,7 +12,7 @@ use std::io;
 /// How many octets the streams compared had, and how often each outcome came up; of a command's frames,
 /// first those without an added line, then those with one.
 #[derive(Default)]
-struct Tally {
+pub struct Tally {
     octets: usize,
     beats: usize,
     frames: [[usize; 2]; COMMANDS.len()],
@@ -38,6 +39,32 @@ impl Tally {
             Stop::End => self.end += 1,
         }
     }
+}
+
+impl comparison::Tally for Tally {
+    const COMPARED: &'static str = "streams written again and compared";
+
+    fn of(program: &str, count: usize, seed: u64) -> io::Result<Option<Tally>> {
+        let mut random = Random::new(seed);
+        let mut tally = Tally::default();
+        for number in 0..count {
+            let stream = streams::stream_to_rewrite(&mut random);
+            let rewritten = rewrite::rewrite(&stream);
+            let ran = program::run(program, &[], &stream)?;
+            if !alike(&rewritten, &ran) {
+                let name = format!("second-difference-rewrite-{seed}-{number}");
+                report(&name, &stream, &rewritten, &ran)?;
+                return Ok(None);
+            }
+            tally.octets += stream.len();
+            tally.count(&rewritten);
+        }
+        Ok(Some(tally))
+    }
+
+    fn octets(&self) -> usize {
+        self.octets
+    }
 
     fn print(&self) {
         println!("beat {}", self.beats);
@@ -55,40 +82,6 @@ impl Tally {
         println!("unwritten 52 {}", self.unwritten);
         println!("end {}", self.end);
     }
-}
-
-/// Compares that many streams of the seed. False at the first difference, which is printed.
-pub fn compare(program: &str, count: usize, seed: u64) -> io::Result<bool> {
-    let Some(tally) = tallied(program, count, seed)? else {
-        return Ok(false);
-    };
-    tally.print();
-    println!("second: {count} streams written again and compared, {seed} seed");
-    Ok(true)
-}
-
-/// Compares as `compare` does, but prints nothing without a difference: the octets of the streams.
-pub fn quietly(program: &str, count: usize, seed: u64) -> io::Result<Option<usize>> {
-    Ok(tallied(program, count, seed)?.map(|tally| tally.octets))
-}
-
-/// The tally of that many streams of the seed. None at the first difference, which is printed.
-fn tallied(program: &str, count: usize, seed: u64) -> io::Result<Option<Tally>> {
-    let mut random = Random::new(seed);
-    let mut tally = Tally::default();
-    for number in 0..count {
-        let stream = streams::stream_to_rewrite(&mut random);
-        let rewritten = rewrite::rewrite(&stream);
-        let ran = program::run(program, &[], &stream)?;
-        if !alike(&rewritten, &ran) {
-            let name = format!("second-difference-rewrite-{seed}-{number}");
-            report(&name, &stream, &rewritten, &ran)?;
-            return Ok(None);
-        }
-        tally.octets += stream.len();
-        tally.count(&rewritten);
-    }
-    Ok(Some(tally))
 }
 
 /// Whether standard output and standard error are equal, and the program came to its end. Its status

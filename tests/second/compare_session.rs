@@ -2,6 +2,7 @@
 //! session records with those here.
 
 use crate::block;
+use crate::comparison;
 use crate::program;
 use crate::random::Random;
 use crate::session::record::{Record, LENGTH};
@@ -9,10 +10,7 @@ use crate::session::MAX_ID;
 use crate::session_calls::sequence::{sequence, Step};
 use crate::session_calls::Call;
 use std::collections::BTreeMap;
-use std::io::{self, Write};
-
-/// How many calls one run of the program is given.
-const BATCH: usize = 400;
+use std::io;
 
 /// The answers to each kind of call.
 const ANSWERS: [(&str, &[&str]); 5] = [
@@ -60,7 +58,7 @@ const PARTS: [(usize, &str); 12] = [
 
 /// How many octets the calls compared had, and how often each answer came up, of each kind of call.
 #[derive(Default)]
-struct Tally {
+pub struct Tally {
     octets: usize,
     answers: BTreeMap<(&'static str, String), usize>,
 }
@@ -69,6 +67,23 @@ impl Tally {
     fn count(&mut self, step: &Step) {
         let key = (step.call.name(), step.reply.answer.clone());
         *self.answers.entry(key).or_default() += 1;
+    }
+}
+
+impl comparison::Tally for Tally {
+    const COMPARED: &'static str = "calls of a session compared";
+
+    fn of(program: &str, count: usize, seed: u64) -> io::Result<Option<Tally>> {
+        let mut tally = Tally::default();
+        let equal = comparison::in_batches(program, count, seed, |batch: &Batch, octets| {
+            tally.octets += octets;
+            batch.0.iter().for_each(|step| tally.count(step));
+        })?;
+        Ok(equal.then_some(tally))
+    }
+
+    fn octets(&self) -> usize {
+        self.octets
     }
 
     fn print(&self) {
@@ -81,67 +96,42 @@ impl Tally {
     }
 }
 
-/// Compares that many calls of the seed. False at the first difference, which is printed.
-pub fn compare(program: &str, count: usize, seed: u64) -> io::Result<bool> {
-    let Some(tally) = tallied(program, count, seed)? else {
-        return Ok(false);
-    };
-    tally.print();
-    println!("second: {count} calls of a session compared, {seed} seed");
-    Ok(true)
-}
+/// Calls for one run of the program, with the records before them and the replies.
+struct Batch(Vec<Step>);
 
-/// Compares as `compare` does, but prints nothing without a difference: the octets of the calls.
-pub fn quietly(program: &str, count: usize, seed: u64) -> io::Result<Option<usize>> {
-    Ok(tallied(program, count, seed)?.map(|tally| tally.octets))
-}
+impl comparison::Batch for Batch {
+    const SIZE: usize = 400;
+    const NAME: &'static str = "session";
 
-/// The tally of that many calls of the seed. None at the first difference, which is printed.
-fn tallied(program: &str, count: usize, seed: u64) -> io::Result<Option<Tally>> {
-    let mut random = Random::new(seed);
-    let mut tally = Tally::default();
-    let mut done = 0;
-    while done < count {
-        let size = BATCH.min(count - done);
-        let steps = sequence(&mut random, size);
-        let input: Vec<u8> = steps.iter().flat_map(|step| step.call.octets()).collect();
-        let ran = program::run(program, &[], &input)?;
-        io::stderr().write_all(&ran.errors)?;
-        let (alike, rest) = compared(&steps, &ran.output);
-        if alike < size || !rest.is_empty() || ran.status.is_none() {
-            let index = alike.min(size - 1);
-            let name = format!("second-difference-session-{seed}-{}", done + index);
-            report(&name, &steps[..=index])?;
-            match steps.get(alike) {
-                Some(step) => print_both(step, rest),
-                None => program::print_difference("what stands behind the last reply", b"", rest),
-            }
-            program::print_signal(ran.status);
-            return Ok(None);
-        }
-        tally.octets += input.len();
-        steps.iter().for_each(|step| tally.count(step));
-        done += size;
+    fn new(random: &mut Random, size: usize) -> Batch {
+        Batch(sequence(random, size))
     }
-    Ok(Some(tally))
+
+    fn octets(&self) -> Vec<u8> {
+        octets(&self.0)
+    }
+
+    fn replies(&self) -> Vec<Vec<u8>> {
+        self.0.iter().map(|step| step.reply.octets()).collect()
+    }
+
+    fn report(&self, name: &str, index: usize) -> io::Result<()> {
+        report(name, &self.0[..=index])
+    }
+
+    fn print_both(&self, index: usize, theirs: &[u8]) {
+        print_both(&self.0[index], theirs);
+    }
 }
 
-/// How many calls from the first on have the same reply, and what the program wrote behind these.
-fn compared<'a>(steps: &[Step], output: &'a [u8]) -> (usize, &'a [u8]) {
-    let mut rest = output;
-    for (index, step) in steps.iter().enumerate() {
-        match rest.strip_prefix(&step.reply.octets()[..]) {
-            Some(behind) => rest = behind,
-            None => return (index, rest),
-        }
-    }
-    (steps.len(), rest)
+/// Calls as the program reads them.
+fn octets(steps: &[Step]) -> Vec<u8> {
+    steps.iter().flat_map(|step| step.call.octets()).collect()
 }
 
 /// Keeps the run's calls up to the last one of these in a file, and says what that one is.
 fn report(name: &str, steps: &[Step]) -> io::Result<()> {
-    let calls: Vec<u8> = steps.iter().flat_map(|step| step.call.octets()).collect();
-    let path = program::keep(name, &calls)?;
+    let path = program::keep(name, &octets(steps))?;
     let step = &steps[steps.len() - 1];
     println!(
         "second: a difference at the last of {} calls, which are in {}",

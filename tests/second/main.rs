@@ -11,6 +11,7 @@ mod compare_for;
 mod compare_replay;
 mod compare_rewrite;
 mod compare_session;
+mod comparison;
 mod decode;
 mod encode;
 mod fixed;
@@ -135,11 +136,11 @@ type Comparison = fn(&str, usize, u64) -> io::Result<bool>;
 
 fn comparison(mode: &str) -> Option<Comparison> {
     Some(match mode {
-        "compare" => compare::compare,
-        "compare-rewrite" => compare_rewrite::compare,
-        "compare-encode" => compare_encode::compare,
-        "compare-replay" => compare_replay::compare,
-        "compare-session" => compare_session::compare,
+        "compare" => comparison::compare::<compare::Tally>,
+        "compare-rewrite" => comparison::compare::<compare_rewrite::Tally>,
+        "compare-encode" => comparison::compare::<compare_encode::Tally>,
+        "compare-replay" => comparison::compare::<compare_replay::Tally>,
+        "compare-session" => comparison::compare::<compare_session::Tally>,
         _ => return None,
     })
 }
