@@ -81,7 +81,7 @@ pub fn compare(limit: Duration, seed: u64, programs: &Path) -> io::Result<bool> 
     }
     print(&totals);
     let seconds = start.elapsed().as_secs_f64();
-    println!("second: {batches} batches compared in {seconds:.1} seconds, {seed} seed");
+    println!("second: {batches} batches compared in {seconds:.1} seconds, seed {seed}");
     Ok(true)
 }
 

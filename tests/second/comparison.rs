@@ -22,7 +22,7 @@ pub fn compare<T: Tally>(program: &str, count: usize, seed: u64) -> io::Result<b
         return Ok(false);
     };
     tally.print();
-    println!("second: {count} {}, {seed} seed", T::COMPARED);
+    println!("second: {count} {}, seed {seed}", T::COMPARED);
     Ok(true)
 }
 

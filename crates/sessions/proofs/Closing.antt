@@ -15,10 +15,10 @@ use Rattle.headers.specs.Block.{Entry, entries, listed}
 use Rattle.headers.specs.Answers.{Answer, accepted, refused, is-block}
 use Rattle.headers.proofs.Rows.{cond-case, or-false-left, or-false-right}
 use Rattle.frames.specs.Grammar.{number, DISCONNECT}
-use Rattle.sessions.specs.Values.{Beats}
+use Rattle.sessions.specs.Values.{HeartBeats}
 use Rattle.sessions.specs.Headers.{is, unknown, opens, naming}
 use Rattle.sessions.specs.Sessions.{closed-phase, with-ids, with-phase, closed, heard, is-valid}
-use Rattle.sessions.specs.Calls.{left-by, shared-by, client-versions, client-beats, opened-by, named-id, frame-answer, naming-effect, effect, frame-session, beat-answer, beat-session}
+use Rattle.sessions.specs.Calls.{left-by, shared-by, client-versions, client-heart-beats, opened-by, named-id, frame-answer, naming-effect, effect, frame-session, heart-beat-answer, heart-beat-session}
 use Rattle.sessions.specs.Histories.{Call, frame, heart-beat, answer-to, next, after, Closes, by-number, by-disconnect}
 use Rattle.sessions.specs.declared.command.Kind.{Kind}
 use Rattle.sessions.specs.declared.command.Kind.the-variants.{Subscriptions, Transactions}
@@ -36,7 +36,7 @@ naming-phase s n none = refl
 naming-phase s n (some id) = with-ids-phase (naming n .kind) s _
 
 module _ (s : Session) (open-yet : s .phase ≢ closed-phase) where
-  opening-open : (shared : List Bool) (o : Option Beats) → (opened-by s shared o) .phase ≢ closed-phase
+  opening-open : (shared : List Bool) (o : Option HeartBeats) → (opened-by s shared o) .phase ≢ closed-phase
   opening-open shared none h = open-yet h
   opening-open shared (some b) h = omega arith
 
@@ -48,7 +48,7 @@ module _ (s : Session) (open-yet : s .phase ≢ closed-phase) where
       (λ f h. by-number k e (eqb-false k 38 (or-false-left (eqb k 38) (eqb k 39) f)) (eqb-false k 39 (or-false-right (eqb k 38) (eqb k 39) f)))
 
   pub closing : (c : Call) → (next s c) .phase ≡ closed-phase → Closes s c
-  unfolding frame-session beat-session
+  unfolding frame-session heart-beat-session
   closing (frame n block time) = by (frame-answer s n block) refl
     where
       es : List Entry
@@ -61,13 +61,13 @@ module _ (s : Session) (open-yet : s .phase ≢ closed-phase) where
       by (refused k) e = refused-closing (frame n block time) (heard (effect s n es) time) k e
       by (accepted v) e =
           cond-case (λ (r : Session). r .phase ≡ closed-phase → Closes s (frame n block time)) (opens n)
-          (λ o h. absurd (opening-open (shared-by s (client-versions es)) (client-beats es) h))
+          (λ o h. absurd (opening-open (shared-by s (client-versions es)) (client-heart-beats es) h))
           (λ o. cond-case (λ (r : Session). r .phase ≡ closed-phase → Closes s (frame n block time)) (is DISCONNECT n)
           (λ d h. disconnect v e (eqb-true n 7 d))
           (λ d h. absurd (open-yet (sym (naming-phase s n (named-id n es)) ∙ h))))
-  closing (heart-beat time) = by (beat-answer s) refl
+  closing (heart-beat time) = by (heart-beat-answer s) refl
     where
-      by : (A : Answer) → beat-answer s ≡ A → (left-by A s (heard s time)) .phase ≡ closed-phase → Closes s (heart-beat time)
+      by : (A : Answer) → heart-beat-answer s ≡ A → (left-by A s (heard s time)) .phase ≡ closed-phase → Closes s (heart-beat time)
       by (refused k) e = refused-closing (heart-beat time) (heard s time) k e
       by (accepted v) e = λ h. absurd (open-yet h)
 
@@ -76,7 +76,7 @@ other-number : (s left : Session) (k : ℕ) → k ≢ 38 → k ≢ 39 → left-b
 other-number s left k a b = rw (ne-eqb k 38 a, ne-eqb k 39 b)
 
 pub closes : (s : Session) {c : Call} → Closes s c → (next s c) .phase ≡ closed-phase
-unfolding frame-session beat-session
+unfolding frame-session heart-beat-session
 closes s (by-number {c = frame n block time} k e a b) =
     let left : Session = heard (effect s n (listed (entries block))) time in
     ap (λ A. (left-by A s left) .phase) e ∙ ap (λ (r : Session). r .phase) (other-number s left k a b)
@@ -93,9 +93,9 @@ module _ (s : Session) (h : s .phase ≡ closed-phase) where
   unfolding frame-answer
   closed-frame n block = rw (eq-eqb (s .phase) 2 h)
 
-  pub closed-beat : beat-answer s ≡ cond (not (is-valid s)) (refused 38) (refused 40)
-  unfolding beat-answer
-  closed-beat = rw (eq-eqb (s .phase) 2 h)
+  pub closed-heart-beat : heart-beat-answer s ≡ cond (not (is-valid s)) (refused 38) (refused 40)
+  unfolding heart-beat-answer
+  closed-heart-beat = rw (eq-eqb (s .phase) 2 h)
 
   -- closed once more, it is the same
   closed-again : closed s ≡ s
@@ -106,14 +106,14 @@ module _ (s : Session) (h : s .phase ≡ closed-phase) where
   closed-kept left k = cond-case (_≡ s) (eqb k 38 || eqb k 39) (λ e. refl) (λ e. closed-again)
 
   pub closed-next : (c : Call) → next s c ≡ s
-  unfolding frame-session beat-session
+  unfolding frame-session heart-beat-session
   closed-next (frame n block time) =
       let left : Session = heard (effect s n (listed (entries block))) time in
       ap (λ A. left-by A s left) (closed-frame n block)
       ∙ cond-case (λ A. left-by A s left ≡ s) (not (is-valid s)) (λ e. closed-kept left 38)
       (λ e. cond-case (λ A. left-by A s left ≡ s) (unknown n || not (is-block block)) (λ f. closed-kept left 39) (λ f. closed-kept left 40))
   closed-next (heart-beat time) =
-      ap (λ A. left-by A s (heard s time)) closed-beat
+      ap (λ A. left-by A s (heard s time)) closed-heart-beat
       ∙ cond-case (λ A. left-by A s (heard s time) ≡ s) (not (is-valid s)) (λ e. closed-kept (heard s time) 38) (λ e. closed-kept (heard s time) 40)
 
   -- nor does any history change it, or what it answers

@@ -15,10 +15,10 @@ use Rattle.headers.specs.Answers.{Answer, accepted, refused, settle}
 use Rattle.headers.proofs.Rows.{cond-case}
 use Rattle.frames.specs.Grammar.{CONNECT, DISCONNECT, STOMP}
 use Rattle.sessions.specs.Stores.{ids, live, used, use-checks}
-use Rattle.sessions.specs.Values.{Beats}
+use Rattle.sessions.specs.Values.{HeartBeats}
 use Rattle.sessions.specs.Headers.{is, opens, naming}
 use Rattle.sessions.specs.Sessions.{id-max, ids-of, with-ids, closed, heard, is-valid, Sized}
-use Rattle.sessions.specs.Calls.{left-by, making-answer, made-by, made, shared-by, client-versions, client-beats, opened-by, usage-of, named-id, frame-answer, naming-effect, effect, frame-session, beat-answer, beat-session}
+use Rattle.sessions.specs.Calls.{left-by, making-answer, made-by, made, shared-by, client-versions, client-heart-beats, opened-by, usage-of, named-id, frame-answer, naming-effect, effect, frame-session, heart-beat-answer, heart-beat-session}
 use Rattle.sessions.specs.Histories.{Call, frame, heart-beat, answer-to, next, after, same-kind, by-use, named-as, live-by, live-after}
 use Rattle.sessions.specs.declared.store.Use.{Use}
 use Rattle.sessions.specs.declared.command.Kind.{Kind}
@@ -79,12 +79,12 @@ module _ (s : Session) (h : Held s) (k : Kind) (id : List ℕ) (some-id : id ≢
   live-effect : (n : ℕ) (es : List Entry) → Passed s n es → live id (ids-of k (effect s n es)) ≡ named-live s k id n (named-id n es)
   live-effect n es p =
       cond-case (λ r. live id (ids-of k r) ≡ named-live s k id n (named-id n es)) (opens n)
-      (λ o. ap (live id) (ids-opened (shared-by s (client-versions es)) (client-beats es)) ∙ sym (ap (named-live s k id n) (opening-names n es o)))
+      (λ o. ap (live id) (ids-opened (shared-by s (client-versions es)) (client-heart-beats es)) ∙ sym (ap (named-live s k id n) (opening-names n es o)))
       (λ o. cond-case (λ r. live id (ids-of k r) ≡ named-live s k id n (named-id n es)) (is DISCONNECT n)
       (λ d. ap (live id) (ids-same k (closed s) s (refl, refl, refl, refl)) ∙ sym (ap (named-live s k id n) (closing-names n es d)))
       (λ d. live-naming n es p (named-id n es) refl))
     where
-      ids-opened : (shared : List Bool) (o : Option Beats) → ids-of k (opened-by s shared o) ≡ ids-of k s
+      ids-opened : (shared : List Bool) (o : Option HeartBeats) → ids-of k (opened-by s shared o) ≡ ids-of k s
       ids-opened shared none = refl
       ids-opened shared (some b) = ids-same k (opened-by s shared (some b)) s (refl, refl, refl, refl)
 
@@ -104,16 +104,16 @@ module _ (s : Session) (h : Held s) (k : Kind) (id : List ℕ) (some-id : id ≢
           cond-case (λ r. live id (ids-of k r) ≡ live id (ids-of k s)) (eqb j 38 || eqb j 39)
           (λ f. refl) (λ f. ap (live id) (ids-same k (closed s) s (refl, refl, refl, refl)))
 
-  live-beat : (time : ℕ) → live id (ids-of k (beat-session s time)) ≡ live id (ids-of k s)
-  unfolding beat-session
-  live-beat time =
-      left-case (λ r. live id (ids-of k r) ≡ live id (ids-of k s)) (beat-answer s) s (heard s time) refl
+  live-heart-beat : (time : ℕ) → live id (ids-of k (heart-beat-session s time)) ≡ live id (ids-of k s)
+  unfolding heart-beat-session
+  live-heart-beat time =
+      left-case (λ r. live id (ids-of k r) ≡ live id (ids-of k s)) (heart-beat-answer s) s (heard s time) refl
       (ap (live id) (ids-same k (closed s) s (refl, refl, refl, refl)))
       (λ v e. ap (live id) (ids-same k (heard s time) s (refl, refl, refl, refl)))
 
   pub live-next : (c : Call) → live id (ids-of k (next s c)) ≡ live-by k id (live id (ids-of k s)) (answer-to s c) c
   live-next (frame n block time) = live-frame n block time
-  live-next (heart-beat time) = live-beat time
+  live-next (heart-beat time) = live-heart-beat time
 
 -- ---- a history
 

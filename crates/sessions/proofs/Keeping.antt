@@ -21,11 +21,11 @@ use Rattle.headers.proofs.Decimals.{amount-record}
 use Rattle.frames.specs.Grammar.{DISCONNECT}
 use Rattle.sessions.specs.Stores.{distinct, valid-store, used, use-checks}
 use Rattle.sessions.specs.Places.{Fits}
-use Rattle.sessions.specs.Values.{Beats, beat-max, both, beats-in, beats, split}
+use Rattle.sessions.specs.Values.{HeartBeats, heart-beat-max, both, heart-beats-in, heart-beats, split}
 use Rattle.sessions.specs.Opening.{only-1-2, interval}
 use Rattle.sessions.specs.Headers.{value-of, is, opens, naming}
 use Rattle.sessions.specs.Sessions.{id-max, fresh-phase, open-phase, closed-phase, in-phase, fresh, ids-of, with-stores, with-ids, with-phase, closed, heard, right-flags, small-numbers, valid-numbers, valid-ids, is-valid, Sized}
-use Rattle.sessions.specs.Calls.{making-checks, making-answer, made-by, made, shared-by, beats-of, client-versions, client-beats, opened-by, usage-of, named-id, naming-checks, frame-answer, naming-effect, effect, frame-session, beat-answer, beat-session}
+use Rattle.sessions.specs.Calls.{making-checks, making-answer, made-by, made, shared-by, heart-beats-of, client-versions, client-heart-beats, opened-by, usage-of, named-id, naming-checks, frame-answer, naming-effect, effect, frame-session, heart-beat-answer, heart-beat-session}
 use Rattle.sessions.specs.Histories.{Call, frame, heart-beat, next, after}
 use Rattle.sessions.specs.declared.store.Use.{Use}
 use Rattle.sessions.specs.declared.command.Header.the-variants.{HeartBeat}
@@ -39,8 +39,8 @@ use Rattle.sessions.proofs.Stores.{length-ids, valid-fits, are-short, i
 
 pub record Valid (s : Session) : Type 0 where
   pub known : s .phase ≤ closed-phase
-  pub offers : (s .sends ≤ beat-max) × (s .wants ≤ beat-max)
-  pub intervals : (s .inbound ≤ beat-max) × (s .outbound ≤ beat-max)
+  pub offers : (s .sends ≤ heart-beat-max) × (s .wants ≤ heart-beat-max)
+  pub intervals : (s .inbound ≤ heart-beat-max) × (s .outbound ≤ heart-beat-max)
   pub flags : right-flags s ≡ true
   pub subscriptions : valid-store id-max (s .subs) (s .«sub_lens») ≡ true
   pub transactions : valid-store id-max (s .txs) (s .«tx_lens») ≡ true
@@ -55,14 +55,14 @@ valid-record s h =
     let (numbers, stores) = pair (valid-numbers s) (valid-ids s) h in
     let (phase, others) = pair (leb (s .phase) closed-phase) _ numbers in
     let (small, flags) = pair (small-numbers s) _ others in
-    let (sends, small₁) = pair (leb (s .sends) beat-max) _ small in
-    let (wants, small₂) = pair (leb (s .wants) beat-max) _ small₁ in
-    let (inbound, outbound) = pair (leb (s .inbound) beat-max) _ small₂ in
+    let (sends, small₁) = pair (leb (s .sends) heart-beat-max) _ small in
+    let (wants, small₂) = pair (leb (s .wants) heart-beat-max) _ small₁ in
+    let (inbound, outbound) = pair (leb (s .inbound) heart-beat-max) _ small₂ in
     let (subscriptions, transactions) = pair (valid-store id-max (s .subs) (s .«sub_lens»)) _ stores in
     record {
       known = leb-true (s .phase) closed-phase phase;
-      offers = (leb-true (s .sends) beat-max sends, leb-true (s .wants) beat-max wants);
-      intervals = (leb-true (s .inbound) beat-max inbound, leb-true (s .outbound) beat-max outbound);
+      offers = (leb-true (s .sends) heart-beat-max sends, leb-true (s .wants) heart-beat-max wants);
+      intervals = (leb-true (s .inbound) heart-beat-max inbound, leb-true (s .outbound) heart-beat-max outbound);
       flags = flags;
       subscriptions = subscriptions;
       transactions = transactions;
@@ -74,9 +74,9 @@ record-valid s v = ap₂ (_&&_) (ap₂ (_&&_) (le-leb (s .phase) closed-phase (v
   where
     small : small-numbers s ≡ true
     small =
-        ap₂ (_&&_) (le-leb (s .sends) beat-max (v .offers .0))
-        (ap₂ (_&&_) (le-leb (s .wants) beat-max (v .offers .1))
-        (ap₂ (_&&_) (le-leb (s .inbound) beat-max (v .intervals .0)) (le-leb (s .outbound) beat-max (v .intervals .1))))
+        ap₂ (_&&_) (le-leb (s .sends) heart-beat-max (v .offers .0))
+        (ap₂ (_&&_) (le-leb (s .wants) heart-beat-max (v .offers .1))
+        (ap₂ (_&&_) (le-leb (s .inbound) heart-beat-max (v .intervals .0)) (le-leb (s .outbound) heart-beat-max (v .intervals .1))))
 
 -- ---- the opening's intervals are small
 
@@ -84,29 +84,29 @@ abbrev OfSome : {A : Type 0} → (A → Type 0) → Option A → Type 0
 OfSome P none = Unit {0}
 OfSome P (some x) = P x
 
-abbrev Small : Beats → Type 0
-Small b = (b .sends ≤ beat-max) × (b .wants ≤ beat-max)
+abbrev Small : HeartBeats → Type 0
+Small b = (b .sends ≤ heart-beat-max) × (b .wants ≤ heart-beat-max)
 
-amount-small : (v : List ℕ) → OfSome (_≤ beat-max) (amount beat-max v)
-amount-small v = by (amount beat-max v) refl
+amount-small : (v : List ℕ) → OfSome (_≤ heart-beat-max) (amount heart-beat-max v)
+amount-small v = by (amount heart-beat-max v) refl
   where
-    by : (o : Option ℕ) → amount beat-max v ≡ o → OfSome (_≤ beat-max) o
+    by : (o : Option ℕ) → amount heart-beat-max v ≡ o → OfSome (_≤ heart-beat-max) o
     by none e = tt
-    by (some n) e = let (a, is) = amount-record beat-max n v e in omega (arith, a .small)
+    by (some n) e = let (a, is) = amount-record heart-beat-max n v e in omega (arith, a .small)
 
-both-small : (o p : Option ℕ) → OfSome (_≤ beat-max) o → OfSome (_≤ beat-max) p → OfSome Small (both o p)
+both-small : (o p : Option ℕ) → OfSome (_≤ heart-beat-max) o → OfSome (_≤ heart-beat-max) p → OfSome Small (both o p)
 both-small none p h k = tt
 both-small (some a) none h k = tt
 both-small (some a) (some b) h k = (h, k)
 
-in-small : (ps : List (List ℕ)) → OfSome Small (beats-in ps)
+in-small : (ps : List (List ℕ)) → OfSome Small (heart-beats-in ps)
 in-small [] = tt
 in-small (a ∷ []) = tt
-in-small (a ∷ b ∷ []) = both-small (amount beat-max a) (amount beat-max b) (amount-small a) (amount-small b)
+in-small (a ∷ b ∷ []) = both-small (amount heart-beat-max a) (amount heart-beat-max b) (amount-small a) (amount-small b)
 in-small (a ∷ b ∷ c ∷ more) = tt
 
-of-small : (o : Option (List ℕ)) → OfSome Small (beats-of o)
-unfolding beats
+of-small : (o : Option (List ℕ)) → OfSome Small (heart-beats-of o)
+unfolding heart-beats
 of-small none = (omega arith, omega arith)
 of-small (some v) = in-small (split 44 v)
 
@@ -149,8 +149,8 @@ module _ (s : Session) (h : Held s) where
   held-distinct Transactions = valid-distinct id-max (s .txs) (s .«tx_lens») (h .valid .transactions)
 
   -- a session with the same stores
-  held-by : (r : Session) → SameStores r s → r .phase ≤ closed-phase → (r .sends ≤ beat-max) × (r .wants ≤ beat-max)
-      → (r .inbound ≤ beat-max) × (r .outbound ≤ beat-max) → right-flags r ≡ true → Held r
+  held-by : (r : Session) → SameStores r s → r .phase ≤ closed-phase → (r .sends ≤ heart-beat-max) × (r .wants ≤ heart-beat-max)
+      → (r .inbound ≤ heart-beat-max) × (r .outbound ≤ heart-beat-max) → right-flags r ≡ true → Held r
   held-by r (a, b, c, d) known offers intervals flags =
       record {
         sized = record {
@@ -181,12 +181,12 @@ module _ (s : Session) (h : Held s) where
   fresh-flags : in-phase fresh-phase s ≡ true → only-1-2 (s .offered) ≡ true
   fresh-flags f = sym (ap (λ p. eqb p closed-phase || only-1-2 (s .offered)) (eqb-true (s .phase) fresh-phase f)) ∙ h .valid .flags
 
-  held-opened : in-phase fresh-phase s ≡ true → (shared : List Bool) (o : Option Beats) → OfSome Small o → Held (opened-by s shared o)
+  held-opened : in-phase fresh-phase s ≡ true → (shared : List Bool) (o : Option HeartBeats) → OfSome Small o → Held (opened-by s shared o)
   held-opened f shared none small = h
   held-opened f shared (some b) small =
       held-by (opened-by s shared (some b)) (refl, refl, refl, refl) (omega arith) (h .valid .offers) (
-        interval-small (b .sends) (s .wants) beat-max (small .0) (h .valid .offers .1),
-        interval-small (s .sends) (b .wants) beat-max (h .valid .offers .0) (small .1),
+        interval-small (b .sends) (s .wants) heart-beat-max (small .0) (h .valid .offers .1),
+        interval-small (s .sends) (b .wants) heart-beat-max (h .valid .offers .0) (small .1),
       )
       (fresh-flags f)
 
@@ -243,7 +243,7 @@ module _ (s : Session) (h : Held s) where
   held-effect n es p =
       cond-case Held (opens n)
       (λ o. held-opened (not-false (in-phase fresh-phase s) (sym (ap (λ t. cond t (not (in-phase fresh-phase s)) (not (in-phase open-phase s))) o) ∙ p .in-turn))
-      (shared-by s (client-versions es)) (client-beats es) (of-small (value-of HeartBeat es)))
+      (shared-by s (client-versions es)) (client-heart-beats es) (of-small (value-of HeartBeat es)))
       (λ o. cond-case Held (is DISCONNECT n) (λ d. held-closed) (λ d. held-naming n es (p .named)))
 
 pub held-frame : (s : Session) (n : ℕ) (block : List ℕ) (time : ℕ) → Held s → Held (frame-session s n block time)
@@ -252,13 +252,13 @@ held-frame s n block time h =
     left-case Held (frame-answer s n block) s (heard (effect s n (listed (entries block))) time) h (held-closed s h)
     (λ v e. held-heard (effect s n (listed (entries block))) (held-effect s h n (listed (entries block)) (frame-passed s n block v e)) time)
 
-pub held-beat : (s : Session) (time : ℕ) → Held s → Held (beat-session s time)
-unfolding beat-session
-held-beat s time h = left-case Held (beat-answer s) s (heard s time) h (held-closed s h) (λ v e. held-heard s h time)
+pub held-heart-beat : (s : Session) (time : ℕ) → Held s → Held (heart-beat-session s time)
+unfolding heart-beat-session
+held-heart-beat s time h = left-case Held (heart-beat-answer s) s (heard s time) h (held-closed s h) (λ v e. held-heard s h time)
 
 pub held-next : (s : Session) (c : Call) → Held s → Held (next s c)
 held-next s (frame n block time) h = held-frame s n block time h
-held-next s (heart-beat time) h = held-beat s time h
+held-next s (heart-beat time) h = held-heart-beat s time h
 
 pub held-after : (s : Session) (cs : List Call) → Held s → Held (after s cs)
 held-after s [] h = h
@@ -266,7 +266,7 @@ held-after s (c ∷ cs) h = held-after (next s c) cs (held-next s c h)
 
 -- ---- a session that is made
 
-held-fresh : (sends wants : ℕ) (offered : List Bool) (phase : ℕ) → sends ≤ beat-max → wants ≤ beat-max → phase ≤ closed-phase
+held-fresh : (sends wants : ℕ) (offered : List Bool) (phase : ℕ) → sends ≤ heart-beat-max → wants ≤ heart-beat-max → phase ≤ closed-phase
     → eqb phase closed-phase || only-1-2 offered ≡ true → Held (with-phase (fresh sends wants offered) phase)
 held-fresh sends wants offered phase a b known flags =
     record {
@@ -292,13 +292,13 @@ held-made sends wants offered = by (making-answer sends wants offered) refl
   where
     by : (A : Answer) → settle (making-checks sends wants offered) [] ≡ A → Held (made-by A sends wants offered)
     by (accepted v) e =
-        let small : ltb beat-max sends || (ltb beat-max wants || not (only-1-2 offered)) ≡ false = all-pass (making-checks sends wants offered) [] v e .0 in
-        let rest = or-false-right (ltb beat-max sends) (ltb beat-max wants || not (only-1-2 offered)) small in
+        let small : ltb heart-beat-max sends || (ltb heart-beat-max wants || not (only-1-2 offered)) ≡ false = all-pass (making-checks sends wants offered) [] v e .0 in
+        let rest = or-false-right (ltb heart-beat-max sends) (ltb heart-beat-max wants || not (only-1-2 offered)) small in
         held-fresh sends wants offered fresh-phase
-        (ltb-false beat-max sends (or-false-left (ltb beat-max sends) (ltb beat-max wants || not (only-1-2 offered)) small))
-        (ltb-false beat-max wants (or-false-left (ltb beat-max wants) (not (only-1-2 offered)) rest))
+        (ltb-false heart-beat-max sends (or-false-left (ltb heart-beat-max sends) (ltb heart-beat-max wants || not (only-1-2 offered)) small))
+        (ltb-false heart-beat-max wants (or-false-left (ltb heart-beat-max wants) (not (only-1-2 offered)) rest))
         (omega arith)
-        (not-false (only-1-2 offered) (or-false-right (ltb beat-max wants) (not (only-1-2 offered)) rest))
+        (not-false (only-1-2 offered) (or-false-right (ltb heart-beat-max wants) (not (only-1-2 offered)) rest))
     by (refused k) e = held-fresh 0 0 (replicate 3 false) closed-phase (omega arith) (omega arith) (omega arith) refl
 
 -- ---- validity is kept
@@ -313,11 +313,11 @@ module _ (s : Session) (sized : Sized s) (valid : is-valid s ≡ true) where
   pub frame-valid : (n : ℕ) (block : List ℕ) (time : ℕ) → is-valid (frame-session s n block time) ≡ true
   frame-valid n block time = record-valid (frame-session s n block time) (held-frame s n block time held .valid)
 
-  pub beat-sized : (time : ℕ) → Sized (beat-session s time)
-  beat-sized time = held-beat s time held .sized
+  pub heart-beat-sized : (time : ℕ) → Sized (heart-beat-session s time)
+  heart-beat-sized time = held-heart-beat s time held .sized
 
-  pub beat-valid : (time : ℕ) → is-valid (beat-session s time) ≡ true
-  beat-valid time = record-valid (beat-session s time) (held-beat s time held .valid)
+  pub heart-beat-valid : (time : ℕ) → is-valid (heart-beat-session s time) ≡ true
+  heart-beat-valid time = record-valid (heart-beat-session s time) (held-heart-beat s time held .valid)
 
   pub sized-after : (cs : List Call) → Sized (after s cs)
   sized-after cs = held-after s cs held .sized

@@ -10,11 +10,11 @@ use borrow.Author.Tests.{eq-eqb, ne-eqb}
 use Rattle.headers.specs.Block.{Entry}
 use Rattle.sessions.specs.Opening.{shared-flags, none-shared, interval, passed}
 use Rattle.sessions.specs.Sessions.{opened}
-use Rattle.sessions.specs.Reads.{versions-say, beats-say}
-use Rattle.sessions.specs.Calls.{client-versions, client-beats, shared-by, opening, is-timed-out}
+use Rattle.sessions.specs.Reads.{versions-say, heart-beats-say}
+use Rattle.sessions.specs.Calls.{client-versions, client-heart-beats, shared-by, opening, is-timed-out}
 use Rattle.sessions.specs.Steps.{closed-by, accepted-by, GivesOpening}
 use Rattle.sessions.specs.declared.value.VersionsRead.{VersionsRead}
-use Rattle.sessions.specs.declared.value.BeatsRead.{BeatsRead}
+use Rattle.sessions.specs.declared.value.HeartBeatsRead.{HeartBeatsRead}
 use Rattle.sessions.specs.declared.session.Session.{Session}
 use Rattle.sessions.specs.declared.session.Outcome.{Outcome}
 use Rattle.sessions.proofs.Steps.{gives-closed, gives-on, gives-accepted}
@@ -42,14 +42,14 @@ module _ (s : Session) (es : List Entry) (time : ℕ) (r : Outcome) (v : Version
     pub opening-unshared : none-shared shared ≡ true → r ≡ closed-by s 32 → GivesOpening s es time r
     opening-unshared n q = gives-on _ _ (rw known) (gives-closed _ 32 _ (rw shared-is n) refl q)
 
-    module _ (n : none-shared shared ≡ false) (b : BeatsRead) (beats : beats-say b ≡ client-beats es) where
-      pub opening-beatless : b .valid ≡ false → r ≡ closed-by s 33 → GivesOpening s es time r
-      opening-beatless m q =
-          gives-on _ _ (rw known) (gives-on _ _ (rw shared-is n) (gives-closed _ 33 _ (rw (unsaid (b .valid) (record { sends = b .sends; wants = b .wants }) (client-beats es) beats m)) refl q))
+    module _ (n : none-shared shared ≡ false) (b : HeartBeatsRead) (heart-beats : heart-beats-say b ≡ client-heart-beats es) where
+      pub opening-no-heart-beat : b .valid ≡ false → r ≡ closed-by s 33 → GivesOpening s es time r
+      opening-no-heart-beat m q =
+          gives-on _ _ (rw known) (gives-on _ _ (rw shared-is n) (gives-closed _ 33 _ (rw (unsaid (b .valid) (record { sends = b .sends; wants = b .wants }) (client-heart-beats es) heart-beats m)) refl q))
 
       pub opening-done : b .valid ≡ true → r ≡ accepted-by (opened s shared (interval (b .sends) (s .wants)) (interval (s .sends) (b .wants))) false time → GivesOpening s es time r
       opening-done m q =
-          let told : client-beats es ≡ some (record { sends = b .sends; wants = b .wants }) = said (b .valid) (record { sends = b .sends; wants = b .wants }) (client-beats es) beats m in
+          let told : client-heart-beats es ≡ some (record { sends = b .sends; wants = b .wants }) = said (b .valid) (record { sends = b .sends; wants = b .wants }) (client-heart-beats es) heart-beats m in
           let became : opening s es ≡ opened s shared (interval (b .sends) (s .wants)) (interval (s .sends) (b .wants)) = rw (shared-is, told) in
           gives-on _ _ (rw known) (gives-on _ _ (rw shared-is n) (gives-on _ _ (rw told) (gives-accepted [] false s (opening s es) time r refl (q ∙ ap (λ z. accepted-by z false time) (sym became)))))
 

@@ -14,12 +14,12 @@ use Rattle.headers.specs.Rows.{every}
 use Rattle.headers.specs.Block.{Entry, entries, listed}
 use Rattle.headers.specs.Answers.{accepted, refused, Check, settle}
 use Rattle.headers.proofs.Rows.{and-left, and-right, and-no}
-use Rattle.sessions.specs.Values.{beat-max}
+use Rattle.sessions.specs.Values.{heart-beat-max}
 use Rattle.sessions.specs.Opening.{only-1-2}
 use Rattle.sessions.specs.Headers.{has, opens, naming}
 use Rattle.sessions.specs.Sessions.{fresh, closed, heard, is-valid}
 use Rattle.sessions.specs.Answers.{bit, answer-says}
-use Rattle.sessions.specs.Calls.{usage-of, named-id, naming-effect, lacks-needed, frame-checks, owes-receipt, frame-answer, effect, frame-session, beat-checks, beat-answer, beat-session, making-answer, made, is-timed-out, timed-out-answer}
+use Rattle.sessions.specs.Calls.{usage-of, named-id, naming-effect, lacks-needed, frame-checks, owes-receipt, frame-answer, effect, frame-session, heart-beat-checks, heart-beat-answer, heart-beat-session, making-answer, made, is-timed-out, timed-out-answer}
 use Rattle.sessions.specs.Steps.{kept-by, closed-by, accepted-by, Gives, opening-checks, GivesUse, GivesOpening, GivesNaming, GivesEntries}
 use Rattle.sessions.specs.declared.command.Header.the-variants.{Receipt}
 use Rattle.sessions.specs.declared.session.Session.{Session}
@@ -144,17 +144,17 @@ pub frame-gives : (s : Session) (n : ℕ) (block : List ℕ) (time : ℕ) (r : O
 unfolding frame-answer frame-session
 frame-gives s n block time r g = (g .answered, g .left)
 
-pub beat-gives : (s : Session) (time : ℕ) (r : Outcome) → Gives (beat-checks s) false s (heard s time) r → (answer-says (r .answer) ≡ beat-answer s) × (r .session ≡ beat-session s time)
-unfolding beat-answer beat-session
-beat-gives s time r g = (g .answered, g .left)
+pub heart-beat-gives : (s : Session) (time : ℕ) (r : Outcome) → Gives (heart-beat-checks s) false s (heard s time) r → (answer-says (r .answer) ≡ heart-beat-answer s) × (r .session ≡ heart-beat-session s time)
+unfolding heart-beat-answer heart-beat-session
+heart-beat-gives s time r g = (g .answered, g .left)
 
 module _ (sends wants : ℕ) (offered : List Bool) (made-session : Session) where
-  pub making-refused : ltb beat-max sends || (ltb beat-max wants || not (only-1-2 offered)) ≡ true → made-session ≡ closed (fresh 0 0 (replicate 3 false))
+  pub making-refused : ltb heart-beat-max sends || (ltb heart-beat-max wants || not (only-1-2 offered)) ≡ true → made-session ≡ closed (fresh 0 0 (replicate 3 false))
       → (refused 34 ≡ making-answer sends wants offered) × (made-session ≡ made sends wants offered)
   unfolding making-answer made
   making-refused h e = rw h (refl, e)
 
-  pub making-made : ltb beat-max sends || (ltb beat-max wants || not (only-1-2 offered)) ≡ false → made-session ≡ fresh sends wants offered
+  pub making-made : ltb heart-beat-max sends || (ltb heart-beat-max wants || not (only-1-2 offered)) ≡ false → made-session ≡ fresh sends wants offered
       → (accepted [] ≡ making-answer sends wants offered) × (made-session ≡ made sends wants offered)
   unfolding making-answer made
   making-made h e = rw h (refl, e)

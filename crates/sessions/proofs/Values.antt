@@ -23,7 +23,7 @@ use Rattle.headers.specs.Answers.{read-says}
 use Rattle.headers.specs.declared.decimal.DecimalRead.{DecimalRead}
 use Rattle.headers.proofs.Rows.{and-no, or-no}
 use Rattle.frames.specs.Scanning.{span}
-use Rattle.sessions.specs.Values.{onto, split, before, some-digits, two-numbers, is-item, counts, versions, beat-max, both, beats-in, beats}
+use Rattle.sessions.specs.Values.{onto, split, before, some-digits, two-numbers, is-item, counts, versions, heart-beat-max, both, heart-beats-in, heart-beats}
 use Rattle.sessions.specs.Opening.{flag}
 use Rattle.sessions.specs.Reads.{counted}
 
@@ -161,23 +161,23 @@ module _ (p : List ℕ) (n : ℕ) (first : n ≡ 0 + before 46 p) where
 
 -- a heart-beat value with its first comma at place n
 module _ (v : List ℕ) (n : ℕ) (first : n ≡ 0 + before 44 v) where
-  pub beats-none : length v ≤ n → beats v ≡ none
-  unfolding beats
-  beats-none h = rw (part-last 44 v 0 n first h)
+  pub heart-beats-none : length v ≤ n → heart-beats v ≡ none
+  unfolding heart-beats
+  heart-beats-none h = rw (part-last 44 v 0 n first h)
 
-  beats-parts : n < length v → beats v ≡ both (amount beat-max (front n v)) (amount beat-max (behind n v))
-  unfolding beats
-  beats-parts h =
+  heart-beats-parts : n < length v → heart-beats v ≡ both (amount heart-beat-max (front n v)) (amount heart-beat-max (behind n v))
+  unfolding heart-beats
+  heart-beats-parts h =
       rw (parts-at 44 v n first h)
-      (by-parts (λ ps. beats-in (front n v ∷ ps)) 44 (behind n v) refl (λ q r ps d. sym (rw (no-amount beat-max (behind n v) d) (both-none (amount beat-max (front n v))))))
+      (by-parts (λ ps. heart-beats-in (front n v ∷ ps)) 44 (behind n v) refl (λ q r ps d. sym (rw (no-amount heart-beat-max (behind n v) d) (both-none (amount heart-beat-max (front n v))))))
 
   -- what is read of its parts
-  module _ (h : n < length v) (a : DecimalRead) (sends : read-says a ≡ amount beat-max (front n v)) where
-    pub beats-front : a ≡ DecimalRead.Invalid → beats v ≡ none
-    beats-front e = beats-parts h ∙ ap (λ o. both o (amount beat-max (behind n v))) (sym sends ∙ ap read-says e)
+  module _ (h : n < length v) (a : DecimalRead) (sends : read-says a ≡ amount heart-beat-max (front n v)) where
+    pub heart-beats-front : a ≡ DecimalRead.Invalid → heart-beats v ≡ none
+    heart-beats-front e = heart-beats-parts h ∙ ap (λ o. both o (amount heart-beat-max (behind n v))) (sym sends ∙ ap read-says e)
 
-    pub beats-both : (b : DecimalRead) → read-says b ≡ amount beat-max (behind n v) → (a′ b′ : DecimalRead) → a ≡ a′ → b ≡ b′ → beats v ≡ both (read-says a′) (read-says b′)
-    beats-both b wants a′ b′ p q = beats-parts h ∙ ap₂ both (sym sends ∙ ap read-says p) (sym wants ∙ ap read-says q)
+    pub heart-beats-both : (b : DecimalRead) → read-says b ≡ amount heart-beat-max (behind n v) → (a′ b′ : DecimalRead) → a ≡ a′ → b ≡ b′ → heart-beats v ≡ both (read-says a′) (read-says b′)
+    heart-beats-both b wants a′ b′ p q = heart-beats-parts h ∙ ap₂ both (sym sends ∙ ap read-says p) (sym wants ∙ ap read-says q)
 
 -- ## Versions, item by item
 

@@ -11,7 +11,7 @@ use Rattle.headers.specs.Block.{Entry, entries, listed}
 use Rattle.headers.specs.Answers.{Answer, accepted, refused, Check, settle, is-block}
 use Rattle.frames.specs.Grammar.{DISCONNECT}
 use Rattle.sessions.specs.Stores.{live, used, enters, wants-live, bad-length}
-use Rattle.sessions.specs.Values.{Beats, versions, beats, beat-max}
+use Rattle.sessions.specs.Values.{HeartBeats, versions, heart-beats, heart-beat-max}
 use Rattle.sessions.specs.Opening.{shared-flags, none-shared, only-1-2, interval, overdue}
 use Rattle.sessions.specs.Headers.{value-of, has, is-some, lacks, is, unknown, from-server, opens, needed, names, names-id, naming}
 use Rattle.sessions.specs.Sessions.{id-max, fresh-phase, open-phase, closed-phase, in-phase, fresh, ids-of, with-ids, closed, opened, heard, is-valid}
@@ -29,7 +29,7 @@ left-by (refused k) before after = cond (eqb k 38 || eqb k 39) before (closed be
 -- session whose other fields are 0".
 abbrev pub making-checks : ℕ → ℕ → List Bool → List Check
 making-checks sends wants offered =
-    record { fails = ltb beat-max sends || (ltb beat-max wants || not (only-1-2 offered)); number = 34 } ∷ []
+    record { fails = ltb heart-beat-max sends || (ltb heart-beat-max wants || not (only-1-2 offered)); number = 34 } ∷ []
 
 unfoldable pub making-answer : ℕ → ℕ → List Bool → Answer
 making-answer sends wants offered = settle (making-checks sends wants offered) []
@@ -54,24 +54,24 @@ shared-by s none = replicate 3 false
 shared-by s (some client) = shared-flags client (s .offered)
 
 -- the client's heart-beats: "absent means 0,0"
-abbrev pub beats-of : Option (List ℕ) → Option Beats
-beats-of none = some (record { sends = 0; wants = 0 })
-beats-of (some v) = beats v
+abbrev pub heart-beats-of : Option (List ℕ) → Option HeartBeats
+heart-beats-of none = some (record { sends = 0; wants = 0 })
+heart-beats-of (some v) = heart-beats v
 
 abbrev pub client-versions : List Entry → Option (List Bool)
 client-versions es = versions-of (value-of AcceptVersion es)
 
-abbrev pub client-beats : List Entry → Option Beats
-client-beats es = beats-of (value-of HeartBeat es)
+abbrev pub client-heart-beats : List Entry → Option HeartBeats
+client-heart-beats es = heart-beats-of (value-of HeartBeat es)
 
 -- "Client to server: 0 if the client's first or the server's second is 0, else the larger. Server to client: the server's first and
 -- the client's second likewise."
-abbrev pub opened-by : Session → List Bool → Option Beats → Session
+abbrev pub opened-by : Session → List Bool → Option HeartBeats → Session
 opened-by s shared none = s
 opened-by s shared (some b) = opened s shared (interval (b .sends) (s .wants)) (interval (s .sends) (b .wants))
 
 abbrev pub opening : Session → List Entry → Session
-opening s es = opened-by s (shared-by s (client-versions es)) (client-beats es)
+opening s es = opened-by s (shared-by s (client-versions es)) (client-heart-beats es)
 
 -- ---- the id that a frame names, if it names one
 
@@ -118,7 +118,7 @@ entry-checks s n es =
     record { fails = lacks-needed n es; number = 43 } ∷
     record { fails = opens n && not (is-some (client-versions es)); number = 31 } ∷
     record { fails = opens n && none-shared (shared-by s (client-versions es)); number = 32 } ∷
-    record { fails = opens n && not (is-some (client-beats es)); number = 33 } ∷
+    record { fails = opens n && not (is-some (client-heart-beats es)); number = 33 } ∷
     naming-checks s n es
 
 abbrev pub frame-checks : Session → ℕ → List ℕ → List Check
@@ -155,17 +155,17 @@ frame-session s n block time = left-by (frame-answer s n block) s (heard (effect
 
 -- ---- a heart-beat: "A beat gets 38 or 40 likewise."
 
-abbrev pub beat-checks : Session → List Check
-beat-checks s =
+abbrev pub heart-beat-checks : Session → List Check
+heart-beat-checks s =
     record { fails = not (is-valid s); number = 38 } ∷
     record { fails = in-phase closed-phase s; number = 40 } ∷
     []
 
-unfoldable pub beat-answer : Session → Answer
-beat-answer s = settle (beat-checks s) (0 ∷ [])
+unfoldable pub heart-beat-answer : Session → Answer
+heart-beat-answer s = settle (heart-beat-checks s) (0 ∷ [])
 
-unfoldable pub beat-session : Session → ℕ → Session
-beat-session s time = left-by (beat-answer s) s (heard s time)
+unfoldable pub heart-beat-session : Session → ℕ → Session
+heart-beat-session s time = left-by (heart-beat-answer s) s (heard s time)
 
 -- ---- "The peer is dead exactly if the session is open, the client-to-server interval is not 0 and more than twice that interval has
 -- passed since last-heard." Dead is timed out here. Of an invalid record (document 01's unsound one) the answer is 38.

@@ -10,7 +10,7 @@ use Rattle.headers.specs.Block.{entries, listed}
 use Rattle.headers.specs.Answers.{Answer, accepted, refused}
 use Rattle.frames.specs.Grammar.{number, DISCONNECT}
 use Rattle.sessions.specs.Headers.{naming}
-use Rattle.sessions.specs.Calls.{frame-answer, frame-session, beat-answer, beat-session, named-id}
+use Rattle.sessions.specs.Calls.{frame-answer, frame-session, heart-beat-answer, heart-beat-session, named-id}
 use Rattle.sessions.specs.declared.store.Use.{Use}
 use Rattle.sessions.specs.declared.store.Use.the-variants.{Nothing, Need, Enter, Free}
 use Rattle.sessions.specs.declared.command.Kind.{Kind}
@@ -24,11 +24,11 @@ pub data Call : Type 0 where
 
 abbrev pub answer-to : Session → Call → Answer
 answer-to s (frame n block time) = frame-answer s n block
-answer-to s (heart-beat time) = beat-answer s
+answer-to s (heart-beat time) = heart-beat-answer s
 
 abbrev pub next : Session → Call → Session
 next s (frame n block time) = frame-session s n block time
-next s (heart-beat time) = beat-session s time
+next s (heart-beat time) = heart-beat-session s time
 
 -- the session after calls, the first of them first
 abbrev pub after : Session → List Call → Session

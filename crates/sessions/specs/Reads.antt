@@ -7,11 +7,11 @@ use Prim.Native.Nat.{ℕ, _-_, _≤_}
 use lib.ListN.{length, take, drop}
 use Rattle.headers.specs.Rows.{same}
 use Rattle.headers.specs.Block.{entries, listed}
-use Rattle.sessions.specs.Values.{version, Beats}
+use Rattle.sessions.specs.Values.{version, HeartBeats}
 use Rattle.sessions.specs.Opening.{flag}
 use Rattle.sessions.specs.Headers.{value-of}
 use Rattle.sessions.specs.declared.value.VersionsRead.{VersionsRead}
-use Rattle.sessions.specs.declared.value.BeatsRead.{BeatsRead}
+use Rattle.sessions.specs.declared.value.HeartBeatsRead.{HeartBeatsRead}
 use Rattle.sessions.specs.declared.locate.Located.{Located}
 use Rattle.sessions.specs.declared.command.Header.{Header}
 
@@ -22,8 +22,8 @@ counted fs p = (flag fs 0 || same p (version 48)) ∷ (flag fs 1 || same p (vers
 abbrev pub versions-say : VersionsRead → Option (List Bool)
 versions-say r = cond (r .valid) (some (r .flags)) none
 
-abbrev pub beats-say : BeatsRead → Option Beats
-beats-say r = cond (r .valid) (some (record { sends = r .sends; wants = r .wants })) none
+abbrev pub heart-beats-say : HeartBeatsRead → Option HeartBeats
+heart-beats-say r = cond (r .valid) (some (record { sends = r .sends; wants = r .wants })) none
 
 -- where a header's first value stands
 abbrev pub value-at : List ℕ → Located → List ℕ

@@ -6,7 +6,7 @@ use Prim.Native.Nat.{ℕ}
 use lib.ListN.{length, replicate}
 use lib.Dec.{eqb, leb}
 use Rattle.sessions.specs.Stores.{ids, laid, lengths, valid-store}
-use Rattle.sessions.specs.Values.{beat-max}
+use Rattle.sessions.specs.Values.{heart-beat-max}
 use Rattle.sessions.specs.Opening.{only-1-2}
 use Rattle.sessions.specs.declared.command.Kind.{Kind}
 use Rattle.sessions.specs.declared.command.Kind.the-variants.{Subscriptions, Transactions}
@@ -111,7 +111,7 @@ heard s time = with-state s (s .inbound) (s .outbound) time (s .shared) (s .phas
 -- kind, non-zero unused octets, offer or interval over the limit, marks that making refuses unless closed". The marks are the
 -- offered version flags.
 abbrev pub small-numbers : Session → Bool
-small-numbers s = leb (s .sends) beat-max && (leb (s .wants) beat-max && (leb (s .inbound) beat-max && leb (s .outbound) beat-max))
+small-numbers s = leb (s .sends) heart-beat-max && (leb (s .wants) heart-beat-max && (leb (s .inbound) heart-beat-max && leb (s .outbound) heart-beat-max))
 
 abbrev pub right-flags : Session → Bool
 right-flags s = in-phase closed-phase s || only-1-2 (s .offered)

@@ -13,7 +13,7 @@ use Rattle.sessions.specs.Opening.{none-shared}
 use Rattle.sessions.specs.Headers.{is-some, from-server, opens}
 use Rattle.sessions.specs.Sessions.{subscriptions-max, transactions-max, id-max, fresh-phase, open-phase, closed-phase, ids-of, with-ids, with-stores, closed, heard}
 use Rattle.sessions.specs.Answers.{bit, answer-says}
-use Rattle.sessions.specs.Calls.{left-by, shared-by, client-versions, client-beats, opening, named-id, naming-effect, naming-checks, entry-checks, owes-receipt, effect}
+use Rattle.sessions.specs.Calls.{left-by, shared-by, client-versions, client-heart-beats, opening, named-id, naming-effect, naming-checks, entry-checks, owes-receipt, effect}
 use Rattle.sessions.specs.Places.{put-in}
 use Rattle.sessions.specs.declared.store.Use.{Use}
 use Rattle.sessions.specs.declared.command.Kind.{Kind}
@@ -62,7 +62,7 @@ abbrev pub opening-checks : Session → List Entry → List Check
 opening-checks s es =
     record { fails = not (is-some (client-versions es)); number = 31 } ∷
     record { fails = none-shared (shared-by s (client-versions es)); number = 32 } ∷
-    record { fails = not (is-some (client-beats es)); number = 33 } ∷
+    record { fails = not (is-some (client-heart-beats es)); number = 33 } ∷
     []
 
 abbrev pub GivesOpening : Session → List Entry → ℕ → Outcome → Type 0

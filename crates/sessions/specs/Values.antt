@@ -53,24 +53,24 @@ unfoldable pub versions : List ℕ → Option (List Bool)
 versions v = versions-in (split 44 v)
 
 -- "two numbers, digits only, a comma between, each at most 3,600,000"
-abbrev pub beat-max : ℕ
-beat-max = 3600000
+abbrev pub heart-beat-max : ℕ
+heart-beat-max = 3600000
 
 -- what a side says of its heart-beats: the first number, how often it can send; the second, how often it wants to hear
-pub record Beats : Type 0 where
+pub record HeartBeats : Type 0 where
   pub sends : ℕ
   pub wants : ℕ
 
-abbrev pub both : Option ℕ → Option ℕ → Option Beats
+abbrev pub both : Option ℕ → Option ℕ → Option HeartBeats
 both (some a) (some b) = some (record { sends = a; wants = b })
 both (some a) none = none
 both none b = none
 
-abbrev pub beats-in : List (List ℕ) → Option Beats
-beats-in [] = none
-beats-in (a ∷ []) = none
-beats-in (a ∷ b ∷ []) = both (amount beat-max a) (amount beat-max b)
-beats-in (a ∷ b ∷ c ∷ more) = none
+abbrev pub heart-beats-in : List (List ℕ) → Option HeartBeats
+heart-beats-in [] = none
+heart-beats-in (a ∷ []) = none
+heart-beats-in (a ∷ b ∷ []) = both (amount heart-beat-max a) (amount heart-beat-max b)
+heart-beats-in (a ∷ b ∷ c ∷ more) = none
 
-unfoldable pub beats : List ℕ → Option Beats
-beats v = beats-in (split 44 v)
+unfoldable pub heart-beats : List ℕ → Option HeartBeats
+heart-beats v = heart-beats-in (split 44 v)

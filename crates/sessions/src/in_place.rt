@@ -1,7 +1,7 @@
 // The calls of a session on one where it lies: each calls the one by value and stores the session that it gives.
 ghost use mathlib.Core.Path.{_≡_};
 ghost use Rattle.sessions.specs.Answers.{answer-says, timed-out-says};
-ghost use Rattle.sessions.specs.Calls.{frame-answer, frame-session, beat-answer, beat-session, timed-out-answer};
+ghost use Rattle.sessions.specs.Calls.{frame-answer, frame-session, heart-beat-answer, heart-beat-session, timed-out-answer};
 use crate::session::Session;
 use crate::session::SessionAnswer;
 use crate::session::TimedOut;
@@ -20,7 +20,7 @@ pub fn frame_in_place(s: &mut Session, command: u32, block: &[u8], time: u32) ->
 
 // A heart-beat.
 pub fn heart_beat_in_place(s: &mut Session, time: u32) -> SessionAnswer
-    ensures { λ r. ⌜ (answer-says r ≡ beat-answer (now (s .entry))) × (now (s .exit) ≡ beat-session (now (s .entry)) time) ⌝ }
+    ensures { λ r. ⌜ (answer-says r ≡ heart-beat-answer (now (s .entry))) × (now (s .exit) ≡ heart-beat-session (now (s .entry)) time) ⌝ }
 {
     let out = (*s).heart_beat(time);
     *s = out.session;

@@ -4,10 +4,10 @@ ghost use mathlib.Core.Bool.{true};
 ghost use Rattle.headers.specs.Block.{entries, listed};
 ghost use Rattle.headers.specs.Answers.{found-says, find-answer, is-block};
 ghost use Rattle.sessions.specs.Headers.{name-of, has as has-header, lacks as lacks-header};
-ghost use Rattle.sessions.specs.Calls.{lacks-needed, client-versions, client-beats};
-ghost use Rattle.sessions.specs.Reads.{Locates, versions-say, beats-say};
+ghost use Rattle.sessions.specs.Calls.{lacks-needed, client-versions, client-heart-beats};
+ghost use Rattle.sessions.specs.Reads.{Locates, versions-say, heart-beats-say};
 use crate::command::Header;
-use crate::value::BeatsRead;
+use crate::value::HeartBeatsRead;
 use crate::value::VersionsRead;
 use headers::Found;
 
@@ -103,13 +103,13 @@ pub(crate) fn client_versions(block: &[u8]) -> VersionsRead
 }
 
 // The client's heart-beats; 0 and 0 where it does not say.
-pub(crate) fn client_beats(block: &[u8]) -> BeatsRead
+pub(crate) fn client_heart_beats(block: &[u8]) -> HeartBeatsRead
     requires { ⌜ is-block (now block) ≡ true ⌝ }
-    ensures { λ r. ⌜ beats-say r ≡ client-beats (listed (entries (now (block .entry)))) ⌝ }
+    ensures { λ r. ⌜ heart-beats-say r ≡ client-heart-beats (listed (entries (now (block .entry)))) ⌝ }
 {
     let l = locate(block, Header::HeartBeat);
     if !l.present {
-        return BeatsRead {
+        return HeartBeatsRead {
             sends: 0,
             wants: 0,
             valid: true,
@@ -117,5 +117,5 @@ pub(crate) fn client_beats(block: &[u8]) -> BeatsRead
     }
     let start = l.start;
     let end = l.end;
-    crate::value::read_beats(&block[start..end])
+    crate::value::read_heart_beats(&block[start..end])
 }

@@ -8,7 +8,7 @@ ghost use Rattle.headers.specs.Answers.{is-block};
 ghost use Rattle.sessions.specs.Opening.{highest, interval};
 ghost use Rattle.sessions.specs.Sessions.{id-max, fresh, ids-of, closed, opened, valid-numbers, valid-ids, is-valid};
 ghost use Rattle.sessions.specs.Answers.{answer-says, making-says, timed-out-says};
-ghost use Rattle.sessions.specs.Calls.{making-answer, made, frame-answer, frame-session, beat-answer, beat-session, timed-out-answer};
+ghost use Rattle.sessions.specs.Calls.{making-answer, made, frame-answer, frame-session, heart-beat-answer, heart-beat-session, timed-out-answer};
 ghost use Rattle.sessions.specs.Places.{Settles};
 ghost use Rattle.sessions.specs.Steps.{kept-by, closed-by, accepted-by, count-of, put-of, GivesUse, GivesOpening, GivesNaming, GivesEntries};
 use crate::command::DISCONNECT;
@@ -17,8 +17,8 @@ use crate::command::Kind;
 use crate::command::Naming;
 use crate::store::Settled;
 use crate::store::Use;
-use crate::value::BEAT_MAX;
-use crate::value::BeatsRead;
+use crate::value::HEART_BEAT_MAX;
+use crate::value::HeartBeatsRead;
 
 // The record of a session. The phase is 0 fresh, 1 open, 2 closed. The server's offers: it can send heart-beats every so many
 // milliseconds, and wants to hear one every so many. Inbound is the interval from client to server. Versions are flags for 1.0, 1.1
@@ -119,7 +119,9 @@ impl Session {
     pub fn new(sends: u32, wants: u32, offered: [bool; 3]) -> Making
         ensures { λ r. ⌜ (making-says (r .answer) ≡ making-answer sends wants offered) × (r .session ≡ made sends wants offered) ⌝ }
     {
-        if (BEAT_MAX < sends) | ((BEAT_MAX < wants) | !crate::value::is_only_1_2(offered)) {
+        if (HEART_BEAT_MAX < sends)
+            | ((HEART_BEAT_MAX < wants) | !crate::value::is_only_1_2(offered))
+        {
             return Making {
                 session: Session::fresh(0, 0, [false; 3]).closed(),
                 answer: MakingAnswer::Refused,
@@ -167,8 +169,8 @@ impl Session {
         ensures { λ r. ⌜ r ≡ valid-numbers self ⌝ }
     {
         let offered = self.offered;
-        let intervals = (self.inbound <= BEAT_MAX) & (self.outbound <= BEAT_MAX);
-        let small = (self.sends <= BEAT_MAX) & ((self.wants <= BEAT_MAX) & intervals);
+        let intervals = (self.inbound <= HEART_BEAT_MAX) & (self.outbound <= HEART_BEAT_MAX);
+        let small = (self.sends <= HEART_BEAT_MAX) & ((self.wants <= HEART_BEAT_MAX) & intervals);
         let flags = (self.phase == Session::CLOSED) | crate::value::is_only_1_2(offered);
         (self.phase <= Session::CLOSED) & (small & flags)
     }
@@ -213,7 +215,7 @@ impl Session {
 
     // A heart-beat.
     pub fn heart_beat(self, time: u32) -> Outcome
-        ensures { λ r. ⌜ (answer-says (r .answer) ≡ beat-answer self) × (r .session ≡ beat-session self time) ⌝ }
+        ensures { λ r. ⌜ (answer-says (r .answer) ≡ heart-beat-answer self) × (r .session ≡ heart-beat-session self time) ⌝ }
     {
         if !self.is_valid() {
             return self.kept(38);
@@ -244,7 +246,7 @@ impl Session {
     }
 
     // The session open, with what both sides came to.
-    fn opened(mut self, shared: [bool; 3], client: BeatsRead) -> Session
+    fn opened(mut self, shared: [bool; 3], client: HeartBeatsRead) -> Session
         ensures { λ r. ⌜ r ≡ opened self shared (interval (client .sends) (self .wants)) (interval (self .sends) (client .wants)) ⌝ }
     {
         self.inbound = crate::value::interval(client.sends, self.wants);
@@ -269,11 +271,11 @@ impl Session {
         if crate::value::is_none_shared(shared) {
             return self.refused(32);
         }
-        let beats = crate::locate::client_beats(block);
-        if !beats.valid {
+        let heart_beats = crate::locate::client_heart_beats(block);
+        if !heart_beats.valid {
             return self.refused(33);
         }
-        self.opened(shared, beats).accepted(false, time)
+        self.opened(shared, heart_beats).accepted(false, time)
     }
 
     // The session with an id in a place of a kind.

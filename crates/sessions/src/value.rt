@@ -4,9 +4,9 @@ ghost use mathlib.Core.Option.{none};
 ghost use Prim.Native.Nat.{_+_, _≤_};
 ghost use lib.ListN.{length, drop};
 ghost use Rattle.headers.specs.Rows.{same};
-ghost use Rattle.sessions.specs.Values.{before, some-digits, is-item, version, versions, beats};
+ghost use Rattle.sessions.specs.Values.{before, some-digits, is-item, version, versions, heart-beats};
 ghost use Rattle.sessions.specs.Opening.{shared-flags, none-shared, only-1-2, interval as interval-of};
-ghost use Rattle.sessions.specs.Reads.{counted, versions-say, beats-say};
+ghost use Rattle.sessions.specs.Reads.{counted, versions-say, heart-beats-say};
 use headers::DecimalRead;
 
 // The versions of an accept-version value, as flags for 1.0, 1.1 and 1.2, and whether it is well formed.
@@ -16,14 +16,14 @@ pub(crate) struct VersionsRead {
 }
 
 // The two numbers of a heart-beat value, and whether it is well formed.
-pub(crate) struct BeatsRead {
+pub(crate) struct HeartBeatsRead {
     pub sends: u32,
     pub wants: u32,
     pub valid: bool,
 }
 
 // No offer and no interval is larger.
-pub(crate) const BEAT_MAX: u32 = 3600000;
+pub(crate) const HEART_BEAT_MAX: u32 = 3600000;
 
 // The place of the first such octet from a place on, or the end.
 fn end_of(value: &[u8], from: usize, octet: u8) -> usize
@@ -142,10 +142,10 @@ pub(crate) fn is_only_1_2(flags: [bool; 3]) -> bool
 }
 
 // A heart-beat value that is malformed.
-fn no_beats() -> BeatsRead
-    ensures { λ r. ⌜ beats-say r ≡ none ⌝ }
+fn no_heart_beats() -> HeartBeatsRead
+    ensures { λ r. ⌜ heart-beats-say r ≡ none ⌝ }
 {
-    BeatsRead {
+    HeartBeatsRead {
         sends: 0,
         wants: 0,
         valid: false,
@@ -153,21 +153,21 @@ fn no_beats() -> BeatsRead
 }
 
 // The two numbers of a heart-beat value.
-pub(crate) fn read_beats(value: &[u8]) -> BeatsRead
-    ensures { λ r. ⌜ beats-say r ≡ beats (now (value .entry)) ⌝ }
+pub(crate) fn read_heart_beats(value: &[u8]) -> HeartBeatsRead
+    ensures { λ r. ⌜ heart-beats-say r ≡ heart-beats (now (value .entry)) ⌝ }
 {
     let comma = end_of(value, 0, 44);
     if value.len() <= comma {
-        return no_beats();
+        return no_heart_beats();
     }
     let next = comma + 1;
-    let DecimalRead::Number(sends) = headers::read_decimal(&value[0..comma], BEAT_MAX) else {
-        return no_beats();
+    let DecimalRead::Number(sends) = headers::read_decimal(&value[0..comma], HEART_BEAT_MAX) else {
+        return no_heart_beats();
     };
-    let DecimalRead::Number(wants) = headers::read_decimal(&value[next..], BEAT_MAX) else {
-        return no_beats();
+    let DecimalRead::Number(wants) = headers::read_decimal(&value[next..], HEART_BEAT_MAX) else {
+        return no_heart_beats();
     };
-    BeatsRead {
+    HeartBeatsRead {
         sends,
         wants,
         valid: true,

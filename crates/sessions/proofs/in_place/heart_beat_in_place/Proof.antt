@@ -27,7 +27,7 @@ use denote.Enum.Laws as EL
 use denote.Triple.Statement.{Triple}
 use denote.Triple.Call.{calls-at}
 use Rattle.sessions.specs.Answers.{answer-says}
-use Rattle.sessions.specs.Calls.{beat-answer, beat-session}
+use Rattle.sessions.specs.Calls.{heart-beat-answer, heart-beat-session}
 use Rattle.sessions.specs.declared.session.Session.{Session}
 use Rattle.sessions.specs.declared.session.Outcome.{Outcome}
 use Rattle.sessions.specs.declared.session.SessionAnswer.{SessionAnswer}
@@ -46,10 +46,10 @@ use Rattle.sessions.proofs.in_place.heart_beat_in_place.Code as code
 
 -- what the core ensures, and the function
 abbrev Φ : Session → ℕ → Outcome → Type 0
-Φ h n r = (answer-says (r .answer) ≡ beat-answer h) × (r .session ≡ beat-session h n)
+Φ h n r = (answer-says (r .answer) ≡ heart-beat-answer h) × (r .session ≡ heart-beat-session h n)
 
 abbrev Ψ : Session → ℕ → SessionAnswer → Session → Type 0
-Ψ h n r h′ = (answer-says r ≡ beat-answer h) × (h′ ≡ beat-session h n)
+Ψ h n r h′ = (answer-says r ≡ heart-beat-answer h) × (h′ ≡ heart-beat-session h n)
 
 module _ {M : Type 1} (𝓤 : URA M) (H : Heap 𝓤) (A : Atoms 𝓤) (W : Given 𝓤 H A) (C : Calls 𝓤 H) (Λ : Loops 𝓤 H) (fm : FmC 𝓤 H (W .laws) C) (known : Triple 𝓤 (C #core) (Core 𝓤 H A O.the-row Φ)) (κ : Lft) (q : Share) (b o : ℕ) (γ : GName) (h : Session) (n : ℕ) where
   walk : Walk 𝓤 H A R.the-row Ψ κ q b o γ h n (WpFn 𝓤 H C Λ code.function)

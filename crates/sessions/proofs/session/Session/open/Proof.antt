@@ -5,7 +5,7 @@ use borrow.Author.Tests.{not-true, not-false}
 use denote.Ref.{now}
 use Rattle.headers.specs.Block.{entries, listed}
 use Rattle.sessions.specs.Steps.{accepted-by}
-use Rattle.sessions.proofs.Opening.{opening-malformed, opening-unshared, opening-beatless, opening-done}
+use Rattle.sessions.proofs.Opening.{opening-malformed, opening-unshared, opening-no-heart-beat, opening-done}
 use borrow.Author.Needs.{needs}
 use Rattle.sessions.proofs.session.Session.open.Statement.{statement}
 use Rattle.sessions.proofs.session.Session.open.Tie as tie
@@ -31,14 +31,14 @@ refused-requires-2 c κs = search needs
 returns-2 : tie.Need-returns-2
 returns-2 c = opening-unshared (c .before .before .before .before .before .before .before .before .before .before .args .self) (listed (entries (now (c .before .before .before .before .before .before .before .before .before .before .args .block)))) (c .before .before .before .before .before .before .before .before .before .before .args .time) _ (c .before .before .before .before .before .before .before .before .client-versions .result) (c .before .before .before .before .before .before .before .before .client-versions .ensures) (not-false _ (c .before .before .before .before .before .before .if1 .left)) (c .before .before .before .share .result) (c .before .before .before .share .ensures) (sym (c .before .before .is-none-shared .ensures) ∙ c .before .if2 .taken) (c .refused2 .ensures)
 
-client-beats-requires : tie.Need-client-beats-requires
-client-beats-requires c κs = search needs
+client-heart-beats-requires : tie.Need-client-heart-beats-requires
+client-heart-beats-requires c κs = search needs
 
 refused-requires-3 : tie.Need-refused-requires-3
 refused-requires-3 c κs = search needs
 
 returns-3 : tie.Need-returns-3
-returns-3 c = opening-beatless (c .before .before .before .before .before .before .before .before .before .before .before .before .before .args .self) (listed (entries (now (c .before .before .before .before .before .before .before .before .before .before .before .before .before .args .block)))) (c .before .before .before .before .before .before .before .before .before .before .before .before .before .args .time) _ (c .before .before .before .before .before .before .before .before .before .before .before .client-versions .result) (c .before .before .before .before .before .before .before .before .before .before .before .client-versions .ensures) (not-false _ (c .before .before .before .before .before .before .before .before .before .if1 .left)) (c .before .before .before .before .before .before .share .result) (c .before .before .before .before .before .before .share .ensures) (sym (c .before .before .before .before .before .is-none-shared .ensures) ∙ c .before .before .before .before .if2 .left) (c .before .before .before .client-beats .result) (c .before .before .before .client-beats .ensures) (not-true _ (c .before .if3 .taken)) (c .refused3 .ensures)
+returns-3 c = opening-no-heart-beat (c .before .before .before .before .before .before .before .before .before .before .before .before .before .args .self) (listed (entries (now (c .before .before .before .before .before .before .before .before .before .before .before .before .before .args .block)))) (c .before .before .before .before .before .before .before .before .before .before .before .before .before .args .time) _ (c .before .before .before .before .before .before .before .before .before .before .before .client-versions .result) (c .before .before .before .before .before .before .before .before .before .before .before .client-versions .ensures) (not-false _ (c .before .before .before .before .before .before .before .before .before .if1 .left)) (c .before .before .before .before .before .before .share .result) (c .before .before .before .before .before .before .share .ensures) (sym (c .before .before .before .before .before .is-none-shared .ensures) ∙ c .before .before .before .before .if2 .left) (c .before .before .before .client-heart-beats .result) (c .before .before .before .client-heart-beats .ensures) (not-true _ (c .before .if3 .taken)) (c .refused3 .ensures)
 
 opened-requires : tie.Need-opened-requires
 opened-requires c κs = search needs
@@ -47,7 +47,7 @@ accepted-requires : tie.Need-accepted-requires
 accepted-requires c κs = search needs
 
 returns-4 : tie.Need-returns-4
-returns-4 c = opening-done (c .before .before .before .before .before .before .before .before .before .before .before .before .before .before .args .self) (listed (entries (now (c .before .before .before .before .before .before .before .before .before .before .before .before .before .before .args .block)))) (c .before .before .before .before .before .before .before .before .before .before .before .before .before .before .args .time) _ (c .before .before .before .before .before .before .before .before .before .before .before .before .client-versions .result) (c .before .before .before .before .before .before .before .before .before .before .before .before .client-versions .ensures) (not-false _ (c .before .before .before .before .before .before .before .before .before .before .if1 .left)) (c .before .before .before .before .before .before .before .share .result) (c .before .before .before .before .before .before .before .share .ensures) (sym (c .before .before .before .before .before .before .is-none-shared .ensures) ∙ c .before .before .before .before .before .if2 .left) (c .before .before .before .before .client-beats .result) (c .before .before .before .before .client-beats .ensures) (not-false _ (c .before .before .if3 .left)) (c .accepted .ensures ∙ ap (λ z. accepted-by z false (c .before .before .before .before .before .before .before .before .before .before .before .before .before .before .args .time)) (c .before .opened .ensures))
+returns-4 c = opening-done (c .before .before .before .before .before .before .before .before .before .before .before .before .before .before .args .self) (listed (entries (now (c .before .before .before .before .before .before .before .before .before .before .before .before .before .before .args .block)))) (c .before .before .before .before .before .before .before .before .before .before .before .before .before .before .args .time) _ (c .before .before .before .before .before .before .before .before .before .before .before .before .client-versions .result) (c .before .before .before .before .before .before .before .before .before .before .before .before .client-versions .ensures) (not-false _ (c .before .before .before .before .before .before .before .before .before .before .if1 .left)) (c .before .before .before .before .before .before .before .share .result) (c .before .before .before .before .before .before .before .share .ensures) (sym (c .before .before .before .before .before .before .is-none-shared .ensures) ∙ c .before .before .before .before .before .if2 .left) (c .before .before .before .before .client-heart-beats .result) (c .before .before .before .before .client-heart-beats .ensures) (not-false _ (c .before .before .if3 .left)) (c .accepted .ensures ∙ ap (λ z. accepted-by z false (c .before .before .before .before .before .before .before .before .before .before .before .before .before .before .args .time)) (c .before .opened .ensures))
 
 pub open-spec : {M : Type 1} → statement M
 open-spec =
@@ -60,7 +60,7 @@ open-spec =
     is-none-shared-requires
     refused-requires-2
     returns-2
-    client-beats-requires
+    client-heart-beats-requires
     refused-requires-3
     returns-3
     opened-requires
