@@ -1,6 +1,7 @@
 /* Whether all parsers give the same answers: on the written examples, on streams, and on cases from a seed. */
 #include "answers.h"
 
+#include <stdbool.h>
 #include <stdio.h>
 #include <stdlib.h>
 #include <string.h>
@@ -254,6 +255,22 @@ static void check_stream(const struct stream *st, uint64_t *seed)
     }
 }
 
+/* Empty slices with the null pointer: ours answers as the rules say of nothing. */
+static void check_null(void)
+{
+    uint8_t image[8];
+    static const uint8_t ack[] = "ACK\n\n";
+    bool right = stomp_parse(NULL, 0) == STOMP_INCOMPLETE;
+    right = right && stomp_code(stomp_decode(NULL, 0, NULL, 0)) == STOMP_DECODE_NOT_A_FRAME;
+    right = right && stomp_find(NULL, 0, NULL, 0) == 0;
+    right = right && stomp_code(stomp_encode(STOMP_COMMAND_ACK, NULL, 0, NULL, 0, NULL, 0)) == STOMP_ENCODE_SHORT_TARGET;
+    right = right && stomp_encode(STOMP_COMMAND_ACK, NULL, 0, NULL, 0, image, sizeof image) == sizeof ack;
+    if (!right || memcmp(image, ack, sizeof ack) != 0) {
+        fprintf(stderr, "bench: an empty slice with the null pointer has another answer\n");
+        exit(1);
+    }
+}
+
 void check_answers(const struct stream streams[STREAMS])
 {
     static const char *const outcomes[OUTCOMES] = {
@@ -262,6 +279,7 @@ void check_answers(const struct stream streams[STREAMS])
     uint64_t seed = 12;
     guard = guarded_end();
     make_buffers();
+    check_null();
     check_examples();
     check_blocks();
     check_tokens(&seed);

@@ -40,7 +40,7 @@ enum stomp_size {
     STOMP_MAX_LINES = 32,    /* header lines of a frame */
     STOMP_MAX_LINE = 512,    /* octets of a raw header line, its line end not counted */
     STOMP_MAX_BODY = 32768,  /* octets of a body */
-    STOMP_MAX_FRAME = 49228, /* octets of a frame: holds every image */
+    STOMP_MAX_FRAME = 49228, /* octets of a frame: holds every encoded frame */
     STOMP_MAX_BLOCK = 16544  /* octets of a decoded frame's header block: holds those of every frame */
 };
 
@@ -68,7 +68,7 @@ enum stomp_parse_refusal {
 enum stomp_decode_refusal {
     STOMP_DECODE_NOT_A_FRAME = 20, /* the octets are not exactly one frame */
     STOMP_DECODE_SHORT_BLOCK = 21, /* the block is shorter than needed */
-    STOMP_DECODE_LONG_LINE = 23    /* a decoded line would be longer than STOMP_MAX_LINE */
+    STOMP_DECODE_LONG_LINE = 23    /* a decoded line would be longer than STOMP_MAX_LINE; no frame has one */
 };
 
 /* The number of stomp_find. */
@@ -85,7 +85,7 @@ enum stomp_encode_refusal {
                                          CONNECTED octet 10, 13 or a colon; the index says which entry */
     STOMP_ENCODE_BODY = 54,           /* a body is not allowed, or longer than STOMP_MAX_BODY */
     STOMP_ENCODE_CONTENT_LENGTH = 55, /* the first content-length is not the body's length in digits */
-    STOMP_ENCODE_SHORT_TARGET = 56    /* the target is shorter than the image */
+    STOMP_ENCODE_SHORT_TARGET = 56    /* the target is shorter than the encoded frame */
 };
 
 /* Parses the first item of the octets. Octets behind it change nothing. Writes nothing.
@@ -116,10 +116,10 @@ uint64_t stomp_find(const uint8_t *block, size_t block_len, const uint8_t *name,
  * escapes, and the body. Where the body is not empty and no entry is named content-length, a line
  * with the body's length follows the entries.
  *
- * The answer is the length of the image, or 2^16*code + index: the first of 50 to 56 that fits, and
- * the entry's index from 0 with 53, else index 0. The image stands at the front of the target, and
- * what is behind it stays as it was. Where it is refused nothing is written. `block`, `body` and
- * `target` must not overlap. */
+ * The answer is the length of the encoded frame, or 2^16*code + index: the first of 50 to 56 that
+ * fits, and the entry's index from 0 with 53, else index 0. The frame stands at the front of the
+ * target, and what is behind it stays as it was. Where it is refused nothing is written. `block`,
+ * `body` and `target` must not overlap. */
 uint64_t stomp_encode(uint32_t command, const uint8_t *block, size_t block_len, const uint8_t *body,
                       size_t body_len, uint8_t *target, size_t target_len);
 

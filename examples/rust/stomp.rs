@@ -3,12 +3,27 @@
 //! A slice is passed as pointer and length. Rust sees to it that the one that is written overlaps no
 //! other; those that are only read may overlap, as nothing is written through them.
 
+#![allow(dead_code)]
+
 /// Octets that the header block of any frame fits in, and that any image fits in.
 pub const MAX_BLOCK: usize = 16544;
 pub const MAX_FRAME: usize = 49228;
 
+pub const COMMAND_ABORT: u32 = 1;
 pub const COMMAND_ACK: u32 = 2;
+pub const COMMAND_BEGIN: u32 = 3;
+pub const COMMAND_COMMIT: u32 = 4;
+pub const COMMAND_CONNECT: u32 = 5;
+pub const COMMAND_CONNECTED: u32 = 6;
+pub const COMMAND_DISCONNECT: u32 = 7;
+pub const COMMAND_ERROR: u32 = 8;
+pub const COMMAND_MESSAGE: u32 = 9;
+pub const COMMAND_NACK: u32 = 10;
+pub const COMMAND_RECEIPT: u32 = 11;
 pub const COMMAND_SEND: u32 = 12;
+pub const COMMAND_STOMP: u32 = 13;
+pub const COMMAND_SUBSCRIBE: u32 = 14;
+pub const COMMAND_UNSUBSCRIBE: u32 = 15;
 
 mod library {
     extern "C" {
