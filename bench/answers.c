@@ -1,4 +1,4 @@
-/* Whether all parsers give the same answers: on the written examples, on streams, and on cases from a seed. */
+/* Whether all parsers give the same answers: on written examples, on streams, on cases from a seed. */
 #include "answers.h"
 
 #include <stdbool.h>
@@ -263,7 +263,8 @@ static void check_null(void)
     bool right = stomp_parse(NULL, 0) == STOMP_INCOMPLETE;
     right = right && stomp_code(stomp_decode(NULL, 0, NULL, 0)) == STOMP_DECODE_NOT_A_FRAME;
     right = right && stomp_find(NULL, 0, NULL, 0) == 0;
-    right = right && stomp_code(stomp_encode(STOMP_COMMAND_ACK, NULL, 0, NULL, 0, NULL, 0)) == STOMP_ENCODE_SHORT_TARGET;
+    right = right && stomp_code(stomp_encode(STOMP_COMMAND_ACK, NULL, 0, NULL, 0, NULL, 0)) ==
+                         STOMP_ENCODE_SHORT_TARGET;
     right = right && stomp_encode(STOMP_COMMAND_ACK, NULL, 0, NULL, 0, image, sizeof image) == sizeof ack;
     if (!right || memcmp(image, ack, sizeof ack) != 0) {
         fprintf(stderr, "bench: an empty slice with the null pointer has another answer\n");
