@@ -1,6 +1,6 @@
 -- The examples hold. Assumes nothing.
 --     examples-hold    every row's claim
-use mathlib.Core.Path.{_≡_, refl, sym, _∙_}
+use mathlib.Core.Path.{_≡_, refl, sym, _∙_, subst}
 use mathlib.Core.Bool.{true}
 use mathlib.Core.Option.{Option, none, some}
 use mathlib.Core.List.{List, [], _∷_, append-nil}
@@ -20,6 +20,8 @@ use Rattle.frames.specs.Encoding.{encode-answer, encode-image}
 use Rattle.frames.specs.Examples.{Example, examples, Given, DecodesTo, EncodesAgain, Finds, Holds}
 use Rattle.frames.proofs.Recognizer.{Says}
 use Rattle.frames.proofs.Recognizing.{exact-run}
+use Rattle.frames.proofs.Exact.{exact}
+use Rattle.frames.specs.Exactness.{Exact}
 
 -- the parse tree of all octets, where the run ends with them
 abbrev whole : Run Open Tree → Option Tree
@@ -47,7 +49,7 @@ holds : {e : Example} → every is-octet (e .input) ≡ true → parsed v1-2 (e 
     → Given (e .image) (EncodesAgain (e .input) (e .reply) (decoded-records (tree-entries v1-2 (tree-of (e .input)))))
     → Given (e .looked-up) (Finds (decoded-records (tree-entries v1-2 (tree-of (e .input)))))
     → Holds e
-holds {e} o p d i f = record { parses = p; tree = tree-of (e .input); reading = reads (e .input) o; decodes = d; encodes = i; finds = f }
+holds {e} o p d i f = record { parses = p; exactly = subst (Exact v1-2 (e .input)) p (exact v1-2 (e .input) o); tree = tree-of (e .input); reading = reads (e .input) o; decodes = d; encodes = i; finds = f }
 
 -- rows that hold, one after another
 infixr 5 _also_

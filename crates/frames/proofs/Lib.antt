@@ -27,10 +27,13 @@ pub mod Passing
 pub mod Named
 pub mod Heads
 pub mod Readings
+pub mod Unique
 pub mod Decoding
 pub mod Images
 pub mod Rewriting
 pub mod RoundTrips
+pub mod Apart
+pub mod Again
 pub mod Writing
 pub mod Sums
 pub mod Settled

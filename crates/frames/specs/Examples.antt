@@ -10,6 +10,7 @@ use Rattle.headers.specs.Answers.{accepted, find-answer}
 use Rattle.frames.specs.Grammar.{Tree, v1-2}
 use Rattle.frames.specs.Replies.{Reply, Complete, Incomplete, Invalid}
 use Rattle.frames.specs.Parsing.{parsed}
+use Rattle.frames.specs.Exactness.{Exact}
 use Rattle.frames.specs.Decoding.{decode-answer, decoded-records, tree-entries, Reading}
 use Rattle.frames.specs.Encoding.{Call, encode-answer, encode-image}
 
@@ -76,6 +77,7 @@ Finds block (name, value) =
 -- tree is none.
 pub record Holds (e : Example) : Type 0 where
   pub parses : parsed v1-2 (e .input) ≡ e .reply
+  pub exactly : Exact v1-2 (e .input) (e .reply)
   pub tree : Option Tree
   pub reading : Reading v1-2 (e .input) tree
   pub decodes : Given (e .block) (DecodesTo (tree-entries v1-2 tree))

@@ -3,6 +3,7 @@ ghost use mathlib.Core.Path.{_≡_};
 ghost use Prim.Native.Nat.{_<_};
 ghost use Rattle.frames.specs.Grammar.{v1-2};
 ghost use Rattle.frames.specs.Parsing.{parsed};
+ghost use Rattle.frames.specs.Exactness.{Exact};
 ghost use lib.ListN.{length};
 ghost use Rattle.headers.specs.Answers.{find-answer, left-in};
 ghost use Rattle.frames.specs.Answers.{parsed-says, packed, unpacked, SmallFrame, packed-decode, unpacked-decode, packed-encode, unpacked-encode, packed-find, unpacked-find};
@@ -42,6 +43,7 @@ pub extern "C" fn stomp_parse(octets: &[u8]) -> u64
     ensures { λ r. ⌜
         (r ≡ packed (parsed v1-2 (now (octets .entry))))
         × (unpacked r ≡ parsed v1-2 (now (octets .entry)))
+        × Exact v1-2 (now (octets .entry)) (unpacked r)
         ⌝ }
 {
     match crate::parse::parse(octets) {

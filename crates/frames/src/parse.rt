@@ -5,6 +5,7 @@ ghost use Rattle.frames.specs.Grammar.{v1-2};
 ghost use Rattle.frames.specs.Parsing.{parsed};
 ghost use Rattle.frames.specs.Exactness.{Exact};
 ghost use Rattle.frames.specs.Answers.{parsed-says};
+use crate::state::Scan;
 
 // The first item: 1 a heart-beat, 2 a frame; the octets used; of a frame its command, the number of its headers, and where its body
 // begins and how long it is.
@@ -46,7 +47,7 @@ pub fn parse(octets: &[u8]) -> Parsed
 {
     let st = crate::run::run(octets, 0, crate::state::nothing_read());
     let phase = st.phase;
-    if phase == 14 {
+    if phase == Scan::HEART_BEAT_READ {
         return Parsed::Complete(Item {
             kind: 1,
             len: st.at,
@@ -56,7 +57,7 @@ pub fn parse(octets: &[u8]) -> Parsed
             body_len: 0,
         });
     }
-    if phase == 15 {
+    if phase == Scan::FRAME_READ {
         let body = less(less(st.at, 1), st.len);
         return Parsed::Complete(Item {
             kind: 2,
@@ -67,7 +68,7 @@ pub fn parse(octets: &[u8]) -> Parsed
             body_len: st.len,
         });
     }
-    if phase == 16 {
+    if phase == Scan::REFUSED {
         return Parsed::Invalid(Refusal {
             code: st.code,
             offset: st.at,

@@ -55,7 +55,7 @@ fn on_start(st: Scan, x: u8) -> Scan
     ensures { λ r. ⌜ r ≡ on-start st x ⌝ }
 {
     if x == 10 {
-        return to_phase(st, 14, 0);
+        return to_phase(st, Scan::HEART_BEAT_READ, 0);
     }
     to_phase(st, 1, 0)
 }
@@ -92,10 +92,10 @@ fn step_line(st: Scan, x: u8) -> Scan
     ensures { λ r. ⌜ r ≡ scan-step st x ⌝ }
 {
     let phase = st.phase;
-    if phase == 7 {
+    if phase == Scan::IN_VALUE {
         return on_value(st, x);
     }
-    if phase == 9 {
+    if phase == Scan::IN_LENGTH {
         return on_length(st, x);
     }
     if phase == 8 {
@@ -104,7 +104,7 @@ fn step_line(st: Scan, x: u8) -> Scan
     if phase == 6 {
         return on_back(st, 511, 5, advance(st.matched, x), x);
     }
-    if (phase == 4) & is_nameless(st, x) {
+    if (phase == Scan::LINE_START) & is_nameless(st, x) {
         return on_begin(st, x);
     }
     on_name(st, x)
@@ -120,7 +120,7 @@ fn step_word(st: Scan, x: u8) -> Scan
         return on_10(st, to_phase(st, 4, st.command), x);
     }
     if phase == 1 {
-        return on_10(st, to_phase(st, 14, 0), x);
+        return on_10(st, to_phase(st, Scan::HEART_BEAT_READ, 0), x);
     }
     if (phase == 0) & ((x == 10) | (x == 13)) {
         return on_start(st, x);

@@ -24,6 +24,25 @@ pub struct Scan {
     pub code: u32,
 }
 
+// Where the next octet stands.
+impl Scan {
+    pub const START: u8 = 0;
+
+    pub const IN_COMMAND: u8 = 2;
+
+    pub const LINE_START: u8 = 4;
+
+    pub const IN_VALUE: u8 = 7;
+
+    pub const IN_LENGTH: u8 = 9;
+
+    pub const HEART_BEAT_READ: u8 = 14;
+
+    pub const FRAME_READ: u8 = 15;
+
+    pub const REFUSED: u8 = 16;
+}
+
 // Before the first octet.
 pub(crate) fn nothing_read() -> Scan
     ensures { λ r. ⌜ r ≡ nothing-read ⌝ }
@@ -101,7 +120,7 @@ pub(crate) fn frame_read(st: Scan) -> Scan
     ensures { λ r. ⌜ r ≡ frame-read st ⌝ }
 {
     Scan {
-        phase: 15,
+        phase: Scan::FRAME_READ,
         command: st.command,
         lines: st.lines,
         matched: 0,
@@ -118,7 +137,7 @@ pub(crate) fn refused(st: Scan, code: u32) -> Scan
     ensures { λ r. ⌜ r ≡ invalid st code ⌝ }
 {
     Scan {
-        phase: 16,
+        phase: Scan::REFUSED,
         command: 0,
         lines: 0,
         matched: 0,

@@ -5,7 +5,7 @@ use mathlib.Core.List.{List, [], _∷_, _++_}
 use Prim.Native.Nat.{ℕ, _+_}
 use lib.ListN.{length}
 use lib.Dec.{leb}
-use Rattle.headers.specs.Rows.{empty, every}
+use Rattle.headers.specs.Rows.{octets-of, empty, every}
 use Rattle.headers.specs.Text.{is-text}
 use Rattle.headers.specs.Escapes.{decode, encode, writable}
 use Rattle.headers.specs.Block.{Entry}
@@ -47,4 +47,4 @@ can-write s e =
 
 -- the header name `content-length`
 abbrev pub content-length : List ℕ
-content-length = 99 ∷ 111 ∷ 110 ∷ 116 ∷ 101 ∷ 110 ∷ 116 ∷ 45 ∷ 108 ∷ 101 ∷ 110 ∷ 103 ∷ 116 ∷ 104 ∷ []
+content-length = octets-of "content-length"

@@ -4,6 +4,7 @@ use mathlib.Core.List.{List, [], _∷_, _++_}
 use Prim.Native.Nat.{ℕ, _+_}
 use lib.ListN.{length, drop}
 use lib.Dec.{eqb, ltb}
+use Rattle.headers.specs.Rows.{octets-of}
 use Rattle.headers.specs.Numbers.{shortest}
 use Rattle.frames.specs.Replies.{Reply, Complete, Incomplete, Invalid}
 use Rattle.frames.specs.declared.parse.Item.{Item}
@@ -16,19 +17,19 @@ numbers (n ∷ m ∷ ms) = shortest n ++ (32 ∷ numbers (m ∷ ms))
 
 -- the words of a listing, with the blank or the line end behind them
 abbrev pub beat : List ℕ
-beat = 98 ∷ 101 ∷ 97 ∷ 116 ∷ 32 ∷ []
+beat = octets-of "beat "
 
 abbrev pub frame : List ℕ
-frame = 102 ∷ 114 ∷ 97 ∷ 109 ∷ 101 ∷ 32 ∷ []
+frame = octets-of "frame "
 
 abbrev pub refused : List ℕ
-refused = 114 ∷ 101 ∷ 102 ∷ 117 ∷ 115 ∷ 101 ∷ 100 ∷ 32 ∷ []
+refused = octets-of "refused "
 
 abbrev pub more : List ℕ
-more = 109 ∷ 111 ∷ 114 ∷ 101 ∷ 10 ∷ []
+more = octets-of "more\n"
 
 abbrev pub end : List ℕ
-end = 101 ∷ 110 ∷ 100 ∷ 10 ∷ []
+end = octets-of "end\n"
 
 -- what stands behind a number of a row: a blank, or a line end behind the last
 abbrev pub behind-at : ℕ → ℕ → ℕ

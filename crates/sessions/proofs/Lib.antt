@@ -16,3 +16,4 @@ pub mod Keeping
 pub mod Histories
 pub mod Closing
 pub mod InPlace
+pub mod Examples

@@ -4,6 +4,7 @@ use mathlib.Core.Option.{Option, none, some}
 use mathlib.Core.List.{List, [], _∷_}
 use Prim.Native.Nat.{ℕ}
 use lib.Dec.{eqb, ltb}
+use Rattle.headers.specs.Rows.{octets-of}
 use Rattle.headers.specs.Block.{Entry, first-value}
 use Rattle.frames.specs.Grammar.{Command, number, ABORT, ACK, BEGIN, COMMIT, CONNECT, CONNECTED, ERROR, MESSAGE, NACK, RECEIPT, SEND, STOMP, SUBSCRIBE, UNSUBSCRIBE}
 use Rattle.sessions.specs.Stores.{enters, wants-live}
@@ -19,13 +20,13 @@ use Rattle.sessions.specs.declared.command.Naming.{Naming}
 -- the names of the headers; Absent stands for none
 abbrev pub name-of : Header → List ℕ
 name-of Absent = []
-name-of AcceptVersion = 97 ∷ 99 ∷ 99 ∷ 101 ∷ 112 ∷ 116 ∷ 45 ∷ 118 ∷ 101 ∷ 114 ∷ 115 ∷ 105 ∷ 111 ∷ 110 ∷ []
-name-of HeartBeat = 104 ∷ 101 ∷ 97 ∷ 114 ∷ 116 ∷ 45 ∷ 98 ∷ 101 ∷ 97 ∷ 116 ∷ []
-name-of Host = 104 ∷ 111 ∷ 115 ∷ 116 ∷ []
-name-of Destination = 100 ∷ 101 ∷ 115 ∷ 116 ∷ 105 ∷ 110 ∷ 97 ∷ 116 ∷ 105 ∷ 111 ∷ 110 ∷ []
-name-of Id = 105 ∷ 100 ∷ []
-name-of Transaction = 116 ∷ 114 ∷ 97 ∷ 110 ∷ 115 ∷ 97 ∷ 99 ∷ 116 ∷ 105 ∷ 111 ∷ 110 ∷ []
-name-of Receipt = 114 ∷ 101 ∷ 99 ∷ 101 ∷ 105 ∷ 112 ∷ 116 ∷ []
+name-of AcceptVersion = octets-of "accept-version"
+name-of HeartBeat = octets-of "heart-beat"
+name-of Host = octets-of "host"
+name-of Destination = octets-of "destination"
+name-of Id = octets-of "id"
+name-of Transaction = octets-of "transaction"
+name-of Receipt = octets-of "receipt"
 
 -- the first value of a header
 abbrev pub value-of : Header → List Entry → Option (List ℕ)

@@ -61,10 +61,22 @@ live-by k id before a (frame n block time) =
     cond (is-accepted a && named-as k id n (named-id n (listed (entries block)))) (by-use (naming n .usage) before) before
 live-by k id before a (heart-beat time) = before
 
+-- the calls of a history, each with its answer
+pub record Event : Type 0 where
+  pub call : Call
+  pub answer : Answer
+
+abbrev pub trace : Session → List Call → List Event
+trace s [] = []
+trace s (c ∷ cs) = record { call = c; answer = answer-to s c } ∷ trace (next s c) cs
+
 -- whether an id is live after calls, told from the calls and their answers alone: it was entered, and not freed since
+abbrev pub live-told : Kind → List ℕ → Bool → List Event → Bool
+live-told k id before [] = before
+live-told k id before (e ∷ es) = live-told k id (live-by k id before (e .answer) (e .call)) es
+
 abbrev pub live-after : Kind → List ℕ → Bool → Session → List Call → Bool
-live-after k id before s [] = before
-live-after k id before s (c ∷ cs) = live-after k id (live-by k id before (answer-to s c) c) (next s c) cs
+live-after k id before s cs = live-told k id before (trace s cs)
 
 -- What closes a session: "38 and 39 leave the session unchanged; every other number closes it"; "DISCONNECT closes, accepted".
 pub data Closes (s : Session) : Call → Type 0 where

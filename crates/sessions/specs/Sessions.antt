@@ -2,7 +2,7 @@
 use mathlib.Core.Bool.{Bool, false, _&&_, _||_}
 use mathlib.Core.Path.{_≡_}
 use mathlib.Core.List.{List}
-use Prim.Native.Nat.{ℕ}
+use Prim.Native.Nat.{ℕ, _*_}
 use lib.ListN.{length, replicate}
 use lib.Dec.{eqb, leb}
 use Rattle.sessions.specs.Stores.{ids, laid, lengths, valid-store}
@@ -43,10 +43,10 @@ fresh sends wants offered = record {
   inbound = 0;
   outbound = 0;
   «last_heard» = 0;
-  subs = replicate 512 0;
-  txs = replicate 128 0;
-  «sub_lens» = replicate 16 0;
-  «tx_lens» = replicate 4 0;
+  subs = replicate (subscriptions-max * id-max) 0;
+  txs = replicate (transactions-max * id-max) 0;
+  «sub_lens» = replicate subscriptions-max 0;
+  «tx_lens» = replicate transactions-max 0;
   offered = offered;
   shared = replicate 3 false;
   phase = fresh-phase;

@@ -3,6 +3,7 @@ use mathlib.Core.Path.{_≡_, refl, sym, _∙_, ap, subst}
 use Prim.Native.Nat.{ℕ}
 use Rattle.frames.specs.Grammar.{v1-2}
 use Rattle.frames.specs.Parsing.{parsed}
+use Rattle.frames.specs.Exactness.{Exact}
 use Rattle.frames.specs.declared.parse.Parsed.{Parsed}
 use Rattle.frames.specs.Answers.{parsed-says, packed, unpacked, Small}
 use Rattle.frames.proofs.Packing.{packed-back, item-numbers, refusal-numbers, reply-small}
@@ -14,11 +15,12 @@ use Rattle.frames.proofs.exports.stomp_parse.Tie as tie
 small : (c : tie.After-parse) (p : Parsed) → c .parse .result ≡ p → Small (parsed-says p)
 small c p e = subst (λ z. Small (parsed-says z)) e (reply-small v1-2 _ _ (c .parse .ensures .1))
 
-gives : (c : tie.After-parse) (p : Parsed) (n : ℕ) → c .parse .result ≡ p → n ≡ packed (parsed-says p) → let r = parsed v1-2 (c .before .before .args .octets .now) in (n ≡ packed r) × (unpacked n ≡ r)
+gives : (c : tie.After-parse) (p : Parsed) (n : ℕ) → c .parse .result ≡ p → n ≡ packed (parsed-says p) → let xs = c .before .before .args .octets .now in (n ≡ packed (parsed v1-2 xs)) × (unpacked n ≡ parsed v1-2 xs) × Exact v1-2 xs (unpacked n)
 gives c p n e q =
     let h = ap parsed-says (sym e) ∙ c .parse .ensures .0 in
     let k = q ∙ ap packed h in
-    (k, ap unpacked k ∙ packed-back _ (subst Small h (small c p e)))
+    let back = ap unpacked k ∙ packed-back _ (subst Small h (small c p e)) in
+    (k, back, subst (Exact v1-2 _) (c .parse .ensures .0 ∙ sym back) (c .parse .ensures .1))
 
 parse-requires : tie.Need-parse-requires
 parse-requires c κs = search needs

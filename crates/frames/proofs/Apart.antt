@@ -1,0 +1,47 @@
+-- What an answer says tells it apart from every other of its enum. Assumes nothing.
+use mathlib.Core.Path.{_≡_, refl, sym, ap, _∙_}
+use mathlib.Core.Bool.{cond}
+use mathlib.Core.List.{[], _∷_}
+use Prim.Native.Nat.{ℕ}
+use lib.Dec.{eqb}
+use Rattle.headers.specs.Answers.{Answer, accepted, refused}
+use Rattle.frames.specs.Replies.{Reply, Complete, Incomplete, Invalid}
+use Rattle.frames.specs.Encoding.{Encoding, image-length, refusal}
+use Rattle.frames.specs.Answers.{parsed-says, decoded-says, encoded-says}
+use Rattle.frames.specs.declared.parse.Parsed.{Parsed}
+use Rattle.frames.specs.declared.decode.Decoded.{Decoded}
+use Rattle.frames.specs.declared.encode.Encoded.{Encoded}
+
+once : {A B : Type 0} (f : A → B) (g : B → A) → ((a : A) → g (f a) ≡ a) → (a b : A) → f a ≡ f b → a ≡ b
+once f g back a b e = sym (back a) ∙ ap g e ∙ back b
+
+abbrev parsed : Reply → Parsed
+parsed (Complete k u c h s l) = Parsed.Complete (record { kind = k; len = u; command = c; headers = h; body = s; «body_len» = l })
+parsed Incomplete = Parsed.Incomplete
+parsed (Invalid k n) = Parsed.Invalid (record { code = k; offset = n })
+
+pub parsed-once : (r s : Parsed) → parsed-says r ≡ parsed-says s → r ≡ s
+parsed-once = once parsed-says parsed (elim [ Parsed.Complete i ↦ refl | Parsed.Incomplete ↦ refl | Parsed.Invalid r ↦ refl ])
+
+abbrev decoded : Answer → Decoded
+decoded (accepted []) = Decoded.NotFrame
+decoded (accepted (n ∷ more)) = Decoded.Length n
+decoded (refused k) = cond (eqb k 20) Decoded.NotFrame (cond (eqb k 21) Decoded.TooShort Decoded.TooLong)
+
+pub decoded-once : (r s : Decoded) → decoded-says r ≡ decoded-says s → r ≡ s
+decoded-once = once decoded-says decoded (elim [ Decoded.Length n ↦ refl | Decoded.NotFrame ↦ refl | Decoded.TooShort ↦ refl | Decoded.TooLong ↦ refl ])
+
+abbrev encoded : Encoding → Encoded
+encoded (image-length n) = Encoded.Length n
+encoded (refusal k i) =
+    cond (eqb k 50) Encoded.UnknownCommand
+    (cond (eqb k 51) Encoded.Malformed
+    (cond (eqb k 52) Encoded.TooManyLines
+    (cond (eqb k 53) (Encoded.Unwritable i)
+    (cond (eqb k 54) Encoded.BadBody
+    (cond (eqb k 55) Encoded.WrongLength Encoded.TooShort)))))
+
+pub encoded-once : (r s : Encoded) → encoded-says r ≡ encoded-says s → r ≡ s
+encoded-once =
+    once encoded-says encoded
+    (elim [ Encoded.Length n ↦ refl | Encoded.UnknownCommand ↦ refl | Encoded.Malformed ↦ refl | Encoded.TooManyLines ↦ refl | Encoded.Unwritable i ↦ refl | Encoded.BadBody ↦ refl | Encoded.WrongLength ↦ refl | Encoded.TooShort ↦ refl ])
