@@ -1,28 +1,37 @@
--- A frame read by parse and decode, and encoded again from what they answered. Assumes nothing.
+-- The round trips by what the calls answered: a frame that parse and decode read, encoded again from what they gave; and the front of
+-- the target that encode leaves, parsed and decoded. Assumes nothing.
+--     one                     what parsing told: the octets are one frame
+--     call-again, again-is    the call with what parse and decode gave is the call of the frame's tree
+--     again-refused           it is refused only with 52 or 56
+--     front-is                the first octets of the target, as many as encode answered, are the image
+--     front-parsed            parsing them is Complete, with the numbers of the call
+--     front-decoded           decoding them gives the block's entries and the added one, and nothing else
 use mathlib.Core.Path.{_≡_, refl, sym, _∙_, ap, ap₂, subst}
 use mathlib.Core.Logic.{_⊎_}
 use mathlib.Core.Bool.{Bool, true, false, cond}
 use mathlib.Core.Option.{some}
 use mathlib.Core.List.{List, [], _∷_, _++_, append-nil}
-use Prim.Native.Nat.{ℕ, _<_}
+use Prim.Native.Nat.{ℕ, _+_, _<_}
 use native.Mathlib.Omega.{arith}
-use lib.ListN.{length, take, drop}
+use lib.ListN.{length, take, drop, getD}
 use lib.Seq.{take-append-seam}
 use lib.Dec.{ltb}
 use Rattle.headers.specs.Rows.{every, any, is-octet}
 use Rattle.headers.specs.Block.{Entry, image}
 use Rattle.headers.specs.Answers.{Answer, accepted, refused, left-in}
-use Rattle.frames.specs.Grammar.{Version, lines-max, Head, head, end}
+use Rattle.frames.specs.Grammar.{Version, number, word, style, lines-max, Head, head, end}
 use Rattle.frames.specs.Replies.{Complete}
 use Rattle.frames.specs.Parsing.{parsed}
 use Rattle.frames.specs.Decoding.{decode-answer, too-long, head-entries, Decodes}
-use Rattle.frames.specs.Encoding.{Call, adds-length, encode-answer, encode-image}
+use Rattle.frames.specs.Encoding.{Call, adds-length, written-entries, written-lines, encode-answer, encode-image}
 use Rattle.frames.proofs.Exact.{exact}
 use Rattle.frames.proofs.Readings.{OneFrame, one-frame}
 use Rattle.frames.proofs.Rewriting.{call-of, rewrite-refused-only}
-use Rattle.frames.proofs.RoundTrips.{decoded-reading}
+use Rattle.frames.proofs.Images.{Encoded, encoded-call}
+use Rattle.frames.proofs.RoundTrips.{Gives, decoded-reading, parsed-image, decoded-image}
 use Rattle.frames.proofs.Unique.{body-back}
 
+-- the length that decoding answers is that of the records
 decode-length : (room m : ℕ) (es : List Entry) → decode-answer room (some es) ≡ accepted (m ∷ []) → m ≡ length (image es)
 unfolding decode-answer
 decode-length room m es e = by (ltb room (length (image es))) (any too-long es) e
@@ -37,9 +46,11 @@ module _ (ver : Version) {xs before after : List ℕ} {c n s l m : ℕ} (o : eve
   abbrev pub call-again : Call
   call-again = record { command = c; block = take m after; body = take l (drop s xs) }
 
+  -- what parsing told: the octets are one frame
   pub one : OneFrame ver xs c n s l
   one = one-frame ver (exact ver xs o) p (λ e. let z : _≡_ {A = ℕ} 2 1 = e in omega arith) refl
 
+  -- it is the call of the frame's tree: its command, its decoded entries, its body
   pub again-is : call-again ≡ call-of ver (one .h) (one .b)
   again-is =
       let es = head-entries ver (one .h) in
@@ -54,3 +65,29 @@ module _ (ver : Version) {xs before after : List ℕ} {c n s l m : ℕ} (o : eve
   pub again-refused : (room k : ℕ) → encode-answer ver call-again room ≡ refused k
       → ((k ≡ 52) × (length (one .h .entries) ≡ lines-max) × (adds-length (head-entries ver (one .h)) (one .b) ≡ true)) ⊎ ((k ≡ 56) × (room < length (encode-image ver (call-of ver (one .h) (one .b)))))
   again-refused room k r = rewrite-refused-only ver (one .h) (one .e) (one .b) (one .valid) room k (ap (λ z. encode-answer ver z room) (sym again-is) ∙ r)
+
+module _ (ver : Version) (k : Call) (before after : List ℕ) (n : ℕ) (a : encode-answer ver k (length before) ≡ accepted (n ∷ [])) (w : after ≡ left-in (encode-answer ver k (length before)) (encode-image ver k) before) where
+  -- the command and the entries of the call
+  abbrev call : Encoded ver k (length before) (n ∷ [])
+  call = encoded-call ver k (length before) (n ∷ []) a
+
+  long : n ≡ length (encode-image ver k)
+  long = ap (λ l. getD l 0 0) (call .values-are)
+
+  pub front-is : take n after ≡ encode-image ver k
+  front-is = ap₂ take long (w ∙ ap (λ z. left-in z (encode-image ver k) before) a) ∙ take-append-seam (encode-image ver k) _
+
+  module _ (o : every is-octet (k .block) ≡ true) (p : every is-octet (k .body) ≡ true) where
+    pub front-parsed : parsed ver (take n after)
+        ≡ Complete 2 n (number (call .command)) (length (written-entries (call .all-entries) (k .body)))
+        (length (word (call .command)) + length (written-lines (style ver (call .command)) (written-entries (call .all-entries) (k .body))) + 2) (length (k .body))
+    front-parsed =
+        let c = call .command in
+        let es = written-entries (call .all-entries) (k .body) in
+        ap (parsed ver) front-is ∙ parsed-image ver k (length before) (n ∷ []) a o p
+        ∙ ap (λ z. Complete 2 z (number c) (length es) (length (word c) + length (written-lines (style ver c) es) + 2) (length (k .body))) (sym long)
+
+    pub front-decoded : {block left : List ℕ} {answer : Answer} → Decodes ver (take n after) block answer left
+        → Gives ver (written-entries (call .all-entries) (k .body)) block answer left
+    front-decoded {block} {left} {answer} d =
+        decoded-image ver k (length before) (n ∷ []) a o p (subst (λ z. Decodes ver z block answer left) front-is d)

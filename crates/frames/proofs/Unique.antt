@@ -1,11 +1,15 @@
--- What is claimed exactly fixes the answer. Assumes nothing.
+-- Guards of the definitions: what they claim fixes the answer, so that none of them can be weakened unseen. Assumes nothing.
+--     first-lowest     the number given is the lowest of those that fit
+--     claims-parsed    what a reply claims holds of no reply but `parsed`
+--     exact-once       no two replies are exact
+--     decodes-once     no two answers and blocks are what decoding gives
+--     body-back        the octets at the start and of the length that are told of a frame are its body
 use mathlib.Core.Path.{_≡_, refl, sym, _∙_, ap}
 use mathlib.Core.Bool.{Bool, true, false}
 use mathlib.Core.Option.{Option, some}
-use mathlib.Core.List.{List, [], _∷_, _++_}
+use mathlib.Core.List.{List, [], _∷_, _++_, append-assoc}
 use Prim.Native.Nat.{ℕ}
 use lib.ListN.{length, take, drop}
-use mathlib.Core.List.{append-assoc}
 use lib.Seq.{drop-append-seam, take-append-seam}
 use Rattle.headers.specs.Rows.{every, is-octet, first-of, All}
 use Rattle.headers.specs.Answers.{Answer, left-in}
@@ -21,10 +25,12 @@ use Rattle.frames.proofs.Exact.{exact}
 use Rattle.frames.proofs.Lowest.{lowest}
 use Rattle.frames.proofs.Readings.{reading-once}
 
+-- the first of a row that passes a test, by its place in the row
 first-is : (f : Reason → Bool) (before after : List Reason) (r : Reason) → All (λ q. f q ≡ false) before → f r ≡ true → first-of f (before ++ (r ∷ after)) ≡ some r
 first-is f [] after r h k = rw k
 first-is f (e ∷ es) after r h k = rw (h .0) (first-is f es after r (h .1) k)
 
+-- the number of the first reason that fits
 first-number : (f : Reason → Bool) (k : ℕ) → First f k → number-of (first-of f order) ≡ some k
 first-number f k x =
     ap (λ o. number-of (first-of f o)) (x .ordered) ∙ ap number-of (first-is f (x .earlier) (x .later) (x .reason) (x .none-earlier) (x .fitting)) ∙ ap some (x .number)
@@ -34,6 +40,7 @@ pub first-lowest : (f : Reason → Bool) (k : ℕ) → First f k → Lowest f k
 first-lowest f k x = lowest f k (first-number f k x)
 
 module _ (ver : Version) where
+  -- what a reply claims holds of the reply that parsing gives, and of no other
   pub claims-parsed : (xs : List ℕ) → every is-octet xs ≡ true → (r : Reply) → Claims ver xs r → r ≡ parsed ver xs
   unfolding refusal
   claims-parsed xs o (reply.Complete k u c h s l) (t, rest, b, e, one, not) = sym e ∙ sym (exact ver xs o .complete t rest b)

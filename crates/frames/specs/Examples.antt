@@ -4,7 +4,9 @@ use mathlib.Core.Path.{_≡_}
 use mathlib.Core.Option.{Option, none, some}
 use mathlib.Core.List.{List, [], _∷_}
 use Prim.Native.Nat.{ℕ}
+use Prim.Native.String.{String}
 use lib.ListN.{take, drop}
+use Rattle.headers.specs.Rows.{octets-of}
 use Rattle.headers.specs.Block.{Entry}
 use Rattle.headers.specs.Answers.{accepted, find-answer}
 use Rattle.frames.specs.Grammar.{Tree, v1-2}
@@ -14,36 +16,46 @@ use Rattle.frames.specs.Exactness.{Exact}
 use Rattle.frames.specs.Decoding.{decode-answer, decoded-records, tree-entries, Reading}
 use Rattle.frames.specs.Encoding.{Call, encode-answer, encode-image}
 
--- An example: octets, and what parsing them replies. Where document 01 says it, also the header block that they decode to and its
--- length; the image that the frame is encoded to again and its length; a header's name and its value in the block.
+-- An example: its label in document 01, octets, and what parsing them replies. Where document 01 says it, also the header block that
+-- they decode to and its length; the image that the frame is encoded to again and its length; a header's name and its value in the block.
 pub record Example : Type 0 where
+  pub label : String
   pub input : List ℕ
   pub reply : Reply
   pub block : Option (ℕ × List ℕ)
   pub image : Option (ℕ × List ℕ)
   pub looked-up : Option (List ℕ × List ℕ)
 
+-- an example of parsing alone; with a header's value too
+abbrev parses : String → List ℕ → Reply → Example
+parses label input reply = record { label = label; input = input; reply = reply; block = none; image = none; looked-up = none }
+
+abbrev finding : String → String → Example → Example
+finding name value e =
+    record { label = e .label; input = e .input; reply = e .reply; block = e .block; image = e .image; looked-up = some (octets-of name, octets-of value) }
+
 unfoldable pub examples : List Example
 examples =
-    record { input = []; reply = Incomplete; block = none; image = none; looked-up = none } ∷
-    record { input = 10 ∷ []; reply = Complete 1 1 0 0 0 0; block = none; image = none; looked-up = none } ∷
-    record { input = 13 ∷ 10 ∷ []; reply = Complete 1 2 0 0 0 0; block = none; image = none; looked-up = none } ∷
-    record { input = 13 ∷ 83 ∷ []; reply = Invalid 2 1; block = none; image = none; looked-up = none } ∷
-    record { input = 83 ∷ 69 ∷ 78 ∷ 84 ∷ []; reply = Invalid 1 3; block = none; image = none; looked-up = none } ∷
+    parses "P1" [] Incomplete ∷
+    parses "P2" (octets-of "\n") (Complete 1 1 0 0 0 0) ∷
+    parses "P3" (octets-of "\r\n") (Complete 1 2 0 0 0 0) ∷
+    parses "P4" (octets-of "\rS") (Invalid 2 1) ∷
+    parses "P5" (octets-of "SENT") (Invalid 1 3) ∷
     record {
-      input = 83 ∷ 69 ∷ 78 ∷ 68 ∷ 10 ∷ 100 ∷ 101 ∷ 115 ∷ 116 ∷ 105 ∷ 110 ∷ 97 ∷ 116 ∷ 105 ∷ 111 ∷ 110 ∷ 58 ∷ 47 ∷ 112 ∷ 10 ∷ 10 ∷ 111 ∷ 107 ∷ 0 ∷ [];
+      label = "P6";
+      input = octets-of "SEND\ndestination:/p\n\nok\0";
       reply = Complete 2 24 12 1 21 2;
-      block = some (19, 72 ∷ 68 ∷ 0 ∷ 11 ∷ 0 ∷ 2 ∷ 100 ∷ 101 ∷ 115 ∷ 116 ∷ 105 ∷ 110 ∷ 97 ∷ 116 ∷ 105 ∷ 111 ∷ 110 ∷ 47 ∷ 112 ∷ []);
-      image = some (41, 83 ∷ 69 ∷ 78 ∷ 68 ∷ 10 ∷ 100 ∷ 101 ∷ 115 ∷ 116 ∷ 105 ∷ 110 ∷ 97 ∷ 116 ∷ 105 ∷ 111 ∷ 110 ∷ 58 ∷ 47 ∷ 112 ∷ 10 ∷ 99 ∷ 111 ∷ 110 ∷ 116 ∷ 101 ∷ 110 ∷ 116 ∷ 45 ∷ 108 ∷ 101 ∷ 110 ∷ 103 ∷ 116 ∷ 104 ∷ 58 ∷ 50 ∷ 10 ∷ 10 ∷ 111 ∷ 107 ∷ 0 ∷ []);
+      block = some (19, 72 ∷ 68 ∷ 0 ∷ 11 ∷ 0 ∷ 2 ∷ octets-of "destination/p");
+      image = some (41, octets-of "SEND\ndestination:/p\ncontent-length:2\n\nok\0");
       looked-up = none;
     } ∷
-    record { input = 65 ∷ 67 ∷ 75 ∷ 10 ∷ 105 ∷ 100 ∷ 58 ∷ 97 ∷ 92 ∷ 99 ∷ 98 ∷ 10 ∷ 10 ∷ 0 ∷ []; reply = Complete 2 14 2 1 13 0; block = none; image = none; looked-up = some (105 ∷ 100 ∷ [], 97 ∷ 58 ∷ 98 ∷ []) } ∷
-    record { input = 65 ∷ 67 ∷ 75 ∷ 10 ∷ 105 ∷ 100 ∷ 58 ∷ 97 ∷ 92 ∷ 116 ∷ []; reply = Invalid 3 9; block = none; image = none; looked-up = none } ∷
-    record { input = 65 ∷ 67 ∷ 75 ∷ 10 ∷ 10 ∷ 120 ∷ []; reply = Invalid 7 5; block = none; image = none; looked-up = none } ∷
-    record { input = 83 ∷ 69 ∷ 78 ∷ 68 ∷ 10 ∷ 99 ∷ 111 ∷ 110 ∷ 116 ∷ 101 ∷ 110 ∷ 116 ∷ 45 ∷ 108 ∷ 101 ∷ 110 ∷ 103 ∷ 116 ∷ 104 ∷ 58 ∷ 49 ∷ 10 ∷ 10 ∷ 0 ∷ 0 ∷ []; reply = Complete 2 25 12 1 23 1; block = none; image = none; looked-up = none } ∷
-    record { input = 83 ∷ 69 ∷ 78 ∷ 68 ∷ 10 ∷ 99 ∷ 111 ∷ 110 ∷ 116 ∷ 101 ∷ 110 ∷ 116 ∷ 45 ∷ 108 ∷ 101 ∷ 110 ∷ 103 ∷ 116 ∷ 104 ∷ 58 ∷ 51 ∷ 50 ∷ 55 ∷ 54 ∷ 57 ∷ []; reply = Invalid 6 24; block = none; image = none; looked-up = none } ∷
-    record { input = 65 ∷ 67 ∷ 75 ∷ 10 ∷ 99 ∷ 111 ∷ 110 ∷ 116 ∷ 101 ∷ 110 ∷ 116 ∷ 45 ∷ 108 ∷ 101 ∷ 110 ∷ 103 ∷ 116 ∷ 104 ∷ 58 ∷ 49 ∷ []; reply = Invalid 6 19; block = none; image = none; looked-up = none } ∷
-    record { input = 77 ∷ 69 ∷ 83 ∷ 83 ∷ 65 ∷ 71 ∷ 69 ∷ 10 ∷ 114 ∷ 117 ∷ 110 ∷ 58 ∷ 98 ∷ 10 ∷ 114 ∷ 117 ∷ 110 ∷ 58 ∷ 97 ∷ 10 ∷ 10 ∷ 0 ∷ []; reply = Complete 2 22 9 2 21 0; block = none; image = none; looked-up = some (114 ∷ 117 ∷ 110 ∷ [], 98 ∷ []) } ∷
+    finding "id" "a:b" (parses "P7" (octets-of "ACK\nid:a\\cb\n\n\0") (Complete 2 14 2 1 13 0)) ∷
+    parses "P8" (octets-of "ACK\nid:a\\t") (Invalid 3 9) ∷
+    parses "P9" (octets-of "ACK\n\nx") (Invalid 7 5) ∷
+    parses "P10" (octets-of "SEND\ncontent-length:1\n\n\0\0") (Complete 2 25 12 1 23 1) ∷
+    parses "P11" (octets-of "SEND\ncontent-length:32769") (Invalid 6 24) ∷
+    parses "P12" (octets-of "ACK\ncontent-length:1") (Invalid 6 19) ∷
+    finding "run" "b" (parses "P13" (octets-of "MESSAGE\nrun:b\nrun:a\n\n\0") (Complete 2 22 9 2 21 0)) ∷
     []
 
 -- ---- What an example claims
@@ -73,8 +85,8 @@ abbrev pub Finds : List ℕ → List ℕ × List ℕ → Type 0
 Finds block (name, value) =
     (start : ℕ) × (len : ℕ) × (find-answer block name ≡ accepted (start ∷ len ∷ [])) × (take len (drop start block) ≡ value)
 
--- Parsing the input gives the reply, and of the input's parse tree holds what the example says further. Where the input is no item,
--- tree is none.
+-- Parsing the input gives the reply, the reply is exact, and of the input's parse tree holds what the example says further. Where the
+-- input is no item, tree is none.
 pub record Holds (e : Example) : Type 0 where
   pub parses : parsed v1-2 (e .input) ≡ e .reply
   pub exactly : Exact v1-2 (e .input) (e .reply)
