@@ -154,7 +154,7 @@ pub(crate) fn value_span(s: &[u8], i: usize, st: Scan) -> usize
     ensures { λ r. ⌜ Ahead (now (s .entry)) i st r ⌝ }
 {
     let style = crate::word::style_of(st.command);
-    let e = upto(i, 512 - st.len, s.len());
+    let e = upto(i, crate::limits::LINE - st.len, s.len());
     let mut j = i + plain_span(&s[i..e], style.escapes);
     while 2 <= e - j {
         if !headers::is_open(style, s[j]) {

@@ -35,10 +35,10 @@ pub struct Measured {
 fn is_long(name: usize, value: usize) -> bool
     ensures { λ r. ⌜ r ≡ ltb line-max (name + 1 + value) ⌝ }
 {
-    if 511 < name {
+    if crate::limits::NAME < name {
         return true;
     }
-    511 - name < value
+    crate::limits::NAME - name < value
 }
 
 // The records of the n header lines from a place of s on.
@@ -118,7 +118,7 @@ pub fn decode(frame: &[u8], block: &mut [u8]) -> Decoded
     }
     let style = crate::word::style_of(item.command);
     let from = crate::layout::first_line(frame);
-    if 16544 <= block.len() {
+    if crate::limits::BLOCK <= block.len() {
         return Decoded::Length(put_records(frame, from, item.headers, style, block));
     }
     let m = measure(frame, from, item.headers, style);

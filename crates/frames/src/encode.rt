@@ -147,7 +147,7 @@ fn settle(command: u32, block: &[u8], length: Declared, body: &[u8], room: usize
     let s = sum(block, crate::word::style_of(command));
     let adds = adds_length(length, body.len());
     let lines = if adds { s.count + 1 } else { s.count };
-    if 32 < lines {
+    if crate::limits::LINES < lines {
         return Encoded::TooManyLines;
     }
     if s.good < s.count {

@@ -9,6 +9,8 @@ ghost use Rattle.headers.specs.Text.{fresh, is-letter};
 ghost use Rattle.frames.specs.Refusals.{numbered, long-line, wrong-escape};
 ghost use Rattle.frames.specs.Scanning.{Bounded, style-of, in-line, invalid, advance, value-begins, body-begins, line-read, nameless-at};
 ghost use Rattle.frames.specs.Scanning.{on-name, on-begin, on-value, on-digit, on-length};
+use crate::limits;
+use crate::parse::Refusal;
 use crate::state::Scan;
 use crate::state::in_head;
 use crate::state::in_line;
@@ -58,9 +60,9 @@ pub(crate) fn body_begins(st: Scan) -> Scan
     ensures { λ r. ⌜ r ≡ body-begins st ⌝ }
 {
     if st.sized {
-        return in_head(st, 13, st.lines, st.sized, st.size);
+        return in_head(st, Scan::IN_COUNTED, st.lines, st.sized, st.size);
     }
-    in_head(st, 12, st.lines, st.sized, st.size)
+    in_head(st, Scan::IN_BODY, st.lines, st.sized, st.size)
 }
 
 // The colon is read.
@@ -69,12 +71,12 @@ fn value_begins(st: Scan) -> Scan
     ensures { λ r. ⌜ r ≡ value-begins st ⌝ }
 {
     if st.sized {
-        return in_line(st, 7, 0, st.size, st.len + 1);
+        return in_line(st, Scan::IN_VALUE, 0, st.size, st.len + 1);
     }
     if st.matched == 14 {
-        return in_line(st, 9, 0, 0, st.len + 1);
+        return in_line(st, Scan::IN_LENGTH, 0, 0, st.len + 1);
     }
-    in_line(st, 7, 0, st.size, st.len + 1)
+    in_line(st, Scan::IN_VALUE, 0, st.size, st.len + 1)
 }
 
 // One octet more of a line, where it has fewer than most.
@@ -85,7 +87,7 @@ fn grow(st: Scan, most: usize, phase: u8, matched: usize) -> Scan
     if st.len < most {
         return in_line(st, phase, matched, st.size, st.len + 1);
     }
-    refused(st, 4)
+    refused(st, Refusal::LONG_LINE)
 }
 
 pub(crate) fn on_name(st: Scan, x: u8) -> Scan
@@ -95,18 +97,18 @@ pub(crate) fn on_name(st: Scan, x: u8) -> Scan
     let style = style_of(st.command);
     if headers::is_stop(style, Field::Name, x) {
         if x != 58 {
-            return refused(st, 3);
+            return refused(st, Refusal::NO_COLON);
         }
         if st.len == 0 {
-            return refused(st, 3);
+            return refused(st, Refusal::NAMELESS);
         }
         return value_begins(st);
     }
     let matched = advance(st.matched, x);
     if headers::is_open(style, x) {
-        return grow(st, 510, 6, matched);
+        return grow(st, limits::NAME_BEFORE_ESCAPE, Scan::NAME_ESCAPE, matched);
     }
-    grow(st, 511, 5, matched)
+    grow(st, limits::NAME, Scan::IN_NAME, matched)
 }
 
 // An octet after a backslash: one more where it is the letter of an escape.
@@ -117,7 +119,7 @@ pub(crate) fn on_back(st: Scan, most: usize, phase: u8, matched: usize, x: u8) -
         (invalid st (numbered wrong-escape)) ⌝ }
 {
     if !headers::is_letter(style_of(st.command), x) {
-        return refused(st, 3);
+        return refused(st, Refusal::WRONG_ESCAPE);
     }
     grow(st, most, phase, matched)
 }
@@ -126,7 +128,7 @@ pub(crate) fn on_back(st: Scan, most: usize, phase: u8, matched: usize, x: u8) -
 pub(crate) fn is_nameless(st: Scan, x: u8) -> bool
     ensures { λ r. ⌜ r ≡ nameless-at st x ⌝ }
 {
-    ((x == 10) | (x == 13)) | ((x == 58) | (32 <= st.lines))
+    ((x == 10) | (x == 13)) | ((x == 58) | (limits::LINES <= st.lines))
 }
 
 // An octet that begins no name where a line would begin.
@@ -138,12 +140,12 @@ pub(crate) fn on_begin(st: Scan, x: u8) -> Scan
         return body_begins(st);
     }
     if x == 13 {
-        return in_head(st, 11, st.lines, st.sized, st.size);
+        return in_head(st, Scan::BLANK_CR, st.lines, st.sized, st.size);
     }
     if x == 58 {
-        return refused(st, 3);
+        return refused(st, Refusal::NAMELESS);
     }
-    refused(st, 5)
+    refused(st, Refusal::MANY_LINES)
 }
 
 // The line is read.
@@ -152,12 +154,12 @@ fn line_read(st: Scan, x: u8, sized: bool, size: usize) -> Scan
     ensures { λ r. ⌜ r ≡ line-read st x sized size ⌝ }
 {
     if x == 10 {
-        return in_head(st, 4, st.lines + 1, sized, size);
+        return in_head(st, Scan::LINE_START, st.lines + 1, sized, size);
     }
     if x == 13 {
-        return in_head(st, 10, st.lines + 1, sized, size);
+        return in_head(st, Scan::LINE_CR, st.lines + 1, sized, size);
     }
-    refused(st, 3)
+    refused(st, Refusal::SECOND_COLON)
 }
 
 pub(crate) fn on_value(st: Scan, x: u8) -> Scan
@@ -167,14 +169,14 @@ pub(crate) fn on_value(st: Scan, x: u8) -> Scan
     let style = style_of(st.command);
     if headers::is_stop(style, Field::Value, x) {
         if x == 58 {
-            return refused(st, 3);
+            return refused(st, Refusal::SECOND_COLON);
         }
         return line_read(st, x, st.sized, st.size);
     }
     if headers::is_open(style, x) {
-        return grow(st, 511, 8, 0);
+        return grow(st, limits::LINE_BEFORE_ESCAPE, Scan::VALUE_ESCAPE, 0);
     }
-    grow(st, 512, 7, 0)
+    grow(st, limits::LINE, Scan::IN_VALUE, 0)
 }
 
 // An octet of the first content-length that is no stop, where its line has fewer than most.
@@ -183,19 +185,19 @@ fn on_digit(st: Scan, most: usize, x: u8) -> Scan
     ensures { λ r. ⌜ r ≡ cond (ltb (st .len) most) (on-digit st x) (invalid st (numbered long-line)) ⌝ }
 {
     if most <= st.len {
-        return refused(st, 4);
+        return refused(st, Refusal::LONG_LINE);
     }
     if x < 48 {
-        return refused(st, 6);
+        return refused(st, Refusal::BAD_LENGTH);
     }
     if 57 < x {
-        return refused(st, 6);
+        return refused(st, Refusal::BAD_LENGTH);
     }
     let size = st.size * 10 + ((x - 48) as usize);
     if most_of(st.command) < size {
-        return refused(st, 6);
+        return refused(st, Refusal::BAD_LENGTH);
     }
-    in_line(st, 9, 0, size, st.len + 1)
+    in_line(st, Scan::IN_LENGTH, 0, size, st.len + 1)
 }
 
 pub(crate) fn on_length(st: Scan, x: u8) -> Scan
@@ -205,15 +207,15 @@ pub(crate) fn on_length(st: Scan, x: u8) -> Scan
     let style = style_of(st.command);
     if headers::is_stop(style, Field::Value, x) {
         if x == 58 {
-            return refused(st, 3);
+            return refused(st, Refusal::SECOND_COLON);
         }
         if st.len == 15 {
-            return refused(st, 6);
+            return refused(st, Refusal::BAD_LENGTH);
         }
         return line_read(st, x, true, st.size);
     }
     if headers::is_open(style, x) {
-        return on_digit(st, 511, x);
+        return on_digit(st, limits::LINE_BEFORE_ESCAPE, x);
     }
-    on_digit(st, 512, x)
+    on_digit(st, limits::LINE, x)
 }

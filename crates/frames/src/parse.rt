@@ -24,6 +24,39 @@ pub struct Refusal {
     pub offset: usize,
 }
 
+// The numbers of refusals: why the octet at the offset is refused.
+impl Refusal {
+    // It leaves no command, and does not begin a heart-beat.
+    pub const NO_COMMAND: u32 = 1;
+
+    // It follows 13 and is not 10.
+    pub const NO_10: u32 = 2;
+
+    // It is no escape's letter after a backslash.
+    pub const WRONG_ESCAPE: u32 = 3;
+
+    // It is a colon with an empty name.
+    pub const NAMELESS: u32 = 3;
+
+    // It is a second colon.
+    pub const SECOND_COLON: u32 = 3;
+
+    // It begins a line end before the colon.
+    pub const NO_COLON: u32 = 3;
+
+    // It makes the line, with what it still owes, longer than 512.
+    pub const LONG_LINE: u32 = 4;
+
+    // It begins a 33rd header line.
+    pub const MANY_LINES: u32 = 5;
+
+    // It spoils the first content-length.
+    pub const BAD_LENGTH: u32 = 6;
+
+    // It is where only octet 0 can be.
+    pub const PAST_BODY: u32 = 7;
+}
+
 // What parsing replies.
 pub enum Parsed {
     Complete(Item),

@@ -3,6 +3,7 @@ ghost use mathlib.Core.Path.{_≡_};
 ghost use Prim.Native.Nat.{_≤_, _<_};
 ghost use lib.ListN.{length};
 ghost use Rattle.frames.specs.Scanning.{Valid, Passed};
+use crate::limits;
 use crate::state::Scan;
 
 // On through the word of a command.
@@ -17,7 +18,7 @@ fn pass_word(s: &[u8], from: usize, begin: Scan) -> Scan
         if c == 0 {
             return st;
         }
-        st = crate::state::to_phase(st, 2, c);
+        st = crate::state::to_phase(st, Scan::IN_COMMAND, c);
         i += 1;
     }
     st
@@ -29,14 +30,14 @@ fn pass_length_name(s: &[u8], from: usize, begin: Scan) -> Scan
     ensures { λ r. ⌜ Passed (now (s .entry)) from begin r ⌝ }
 {
     let f = crate::ahead::upto(from, 14 - begin.matched, s.len());
-    let e = crate::ahead::upto(from, 511 - begin.len, f);
+    let e = crate::ahead::upto(from, limits::NAME - begin.len, f);
     let mut st = begin;
     let mut i = from;
     while i < e {
         if s[i] != crate::head::length_letter(st.matched) {
             return st;
         }
-        st = crate::state::in_line(st, 5, st.matched + 1, st.size, st.len + 1);
+        st = crate::state::in_line(st, Scan::IN_NAME, st.matched + 1, st.size, st.len + 1);
         i += 1;
     }
     st
@@ -48,7 +49,7 @@ fn pass_digits(s: &[u8], from: usize, begin: Scan) -> Scan
     ensures { λ r. ⌜ Passed (now (s .entry)) from begin r ⌝ }
 {
     let most = crate::word::most_of(begin.command);
-    let e = crate::ahead::upto(from, 512 - begin.len, s.len());
+    let e = crate::ahead::upto(from, limits::LINE - begin.len, s.len());
     let mut st = begin;
     let mut i = from;
     while i < e {
@@ -60,7 +61,7 @@ fn pass_digits(s: &[u8], from: usize, begin: Scan) -> Scan
         if most < size {
             return st;
         }
-        st = crate::state::in_line(st, 9, 0, size, st.len + 1);
+        st = crate::state::in_line(st, Scan::IN_LENGTH, 0, size, st.len + 1);
         i += 1;
     }
     st
@@ -71,7 +72,7 @@ fn pass_name(s: &[u8], i: usize, st: Scan) -> Scan
     requires { ⌜ (i ≤ length (now s)) × Valid st × (st .phase ≡ 5) × (st .matched ≡ 15) ⌝ }
     ensures { λ r. ⌜ Passed (now (s .entry)) i st r ⌝ }
 {
-    let e = crate::ahead::upto(i, 511 - st.len, s.len());
+    let e = crate::ahead::upto(i, limits::NAME - st.len, s.len());
     let k = crate::ahead::plain_span(&s[i..e], crate::word::style_of(st.command).escapes);
     crate::ahead::skip(st, k)
 }
@@ -81,7 +82,7 @@ fn pass_body(s: &[u8], i: usize, st: Scan) -> Scan
     requires { ⌜ (i ≤ length (now s)) × Valid st × (12 ≤ st .phase) × (st .phase ≤ 13) ⌝ }
     ensures { λ r. ⌜ Passed (now (s .entry)) i st r ⌝ }
 {
-    if st.phase == 13 {
+    if st.phase == Scan::IN_COUNTED {
         let e = crate::ahead::upto(i, st.size - st.len, s.len());
         return crate::ahead::skip(st, e - i);
     }
@@ -95,10 +96,10 @@ pub(crate) fn pass(s: &[u8], i: usize, st: Scan) -> Scan
     ensures { λ r. ⌜ Passed (now (s .entry)) i st r ⌝ }
 {
     let phase = st.phase;
-    if phase == 7 {
+    if phase == Scan::IN_VALUE {
         return crate::ahead::skip(st, crate::ahead::value_span(s, i, st));
     }
-    if phase == 5 {
+    if phase == Scan::IN_NAME {
         if st.matched == 15 {
             return pass_name(s, i, st);
         }
@@ -107,13 +108,13 @@ pub(crate) fn pass(s: &[u8], i: usize, st: Scan) -> Scan
         }
         return st;
     }
-    if phase == 2 {
+    if phase == Scan::IN_COMMAND {
         return pass_word(s, i, st);
     }
-    if phase == 9 {
+    if phase == Scan::IN_LENGTH {
         return pass_digits(s, i, st);
     }
-    if (phase == 12) | (phase == 13) {
+    if (phase == Scan::IN_BODY) | (phase == Scan::IN_COUNTED) {
         return pass_body(s, i, st);
     }
     st

@@ -13,7 +13,7 @@ pub(crate) fn run(s: &[u8], from: usize, begin: Scan) -> Scan
     let mut st = begin;
     let mut i = from;
     while i < s.len() {
-        if 13 < st.phase {
+        if Scan::IN_COUNTED < st.phase {
             return st;
         }
         let next = crate::pass::pass(s, i, st);

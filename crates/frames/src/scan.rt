@@ -12,6 +12,8 @@ use crate::head::on_begin;
 use crate::head::on_length;
 use crate::head::on_name;
 use crate::head::on_value;
+use crate::limits;
+use crate::parse::Refusal;
 use crate::state::Scan;
 use crate::state::frame_read;
 use crate::state::in_head;
@@ -25,7 +27,7 @@ use crate::word::whole_command;
 fn on_10(st: Scan, next: Scan, x: u8) -> Scan
     ensures { λ r. ⌜ r ≡ on-10 st next x ⌝ }
 {
-    if x == 10 { next } else { refused(st, 2) }
+    if x == 10 { next } else { refused(st, Refusal::NO_10) }
 }
 
 fn on_word(st: Scan, x: u8) -> Scan
@@ -34,19 +36,19 @@ fn on_word(st: Scan, x: u8) -> Scan
 {
     let c = next_command(st.command, st.at, x);
     if c != 0 {
-        return to_phase(st, 2, c);
+        return to_phase(st, Scan::IN_COMMAND, c);
     }
     let w = whole_command(st.command, st.at);
     if w == 0 {
-        return refused(st, 1);
+        return refused(st, Refusal::NO_COMMAND);
     }
     if x == 10 {
-        return to_phase(st, 4, w);
+        return to_phase(st, Scan::LINE_START, w);
     }
     if x == 13 {
-        return to_phase(st, 3, w);
+        return to_phase(st, Scan::COMMAND_CR, w);
     }
-    refused(st, 1)
+    refused(st, Refusal::NO_COMMAND)
 }
 
 // A line end at the start.
@@ -57,7 +59,7 @@ fn on_start(st: Scan, x: u8) -> Scan
     if x == 10 {
         return to_phase(st, Scan::HEART_BEAT_READ, 0);
     }
-    to_phase(st, 1, 0)
+    to_phase(st, Scan::HEART_BEAT_CR, 0)
 }
 
 fn on_body(st: Scan, x: u8) -> Scan
@@ -68,9 +70,9 @@ fn on_body(st: Scan, x: u8) -> Scan
         return frame_read(st);
     }
     if st.len < most_of(st.command) {
-        return in_line(st, 12, 0, 0, st.len + 1);
+        return in_line(st, Scan::IN_BODY, 0, 0, st.len + 1);
     }
-    refused(st, 7)
+    refused(st, Refusal::PAST_BODY)
 }
 
 fn on_counted(st: Scan, x: u8) -> Scan
@@ -78,12 +80,12 @@ fn on_counted(st: Scan, x: u8) -> Scan
     ensures { λ r. ⌜ r ≡ on-counted st x ⌝ }
 {
     if st.len < st.size {
-        return in_line(st, 13, 0, st.size, st.len + 1);
+        return in_line(st, Scan::IN_COUNTED, 0, st.size, st.len + 1);
     }
     if x == 0 {
         return frame_read(st);
     }
-    refused(st, 7)
+    refused(st, Refusal::PAST_BODY)
 }
 
 // One octet in a line.
@@ -98,11 +100,11 @@ fn step_line(st: Scan, x: u8) -> Scan
     if phase == Scan::IN_LENGTH {
         return on_length(st, x);
     }
-    if phase == 8 {
-        return on_back(st, 512, 7, 0, x);
+    if phase == Scan::VALUE_ESCAPE {
+        return on_back(st, limits::LINE, Scan::IN_VALUE, 0, x);
     }
-    if phase == 6 {
-        return on_back(st, 511, 5, advance(st.matched, x), x);
+    if phase == Scan::NAME_ESCAPE {
+        return on_back(st, limits::NAME, Scan::IN_NAME, advance(st.matched, x), x);
     }
     if (phase == Scan::LINE_START) & is_nameless(st, x) {
         return on_begin(st, x);
@@ -116,13 +118,13 @@ fn step_word(st: Scan, x: u8) -> Scan
     ensures { λ r. ⌜ r ≡ scan-step st x ⌝ }
 {
     let phase = st.phase;
-    if phase == 3 {
-        return on_10(st, to_phase(st, 4, st.command), x);
+    if phase == Scan::COMMAND_CR {
+        return on_10(st, to_phase(st, Scan::LINE_START, st.command), x);
     }
-    if phase == 1 {
+    if phase == Scan::HEART_BEAT_CR {
         return on_10(st, to_phase(st, Scan::HEART_BEAT_READ, 0), x);
     }
-    if (phase == 0) & ((x == 10) | (x == 13)) {
+    if (phase == Scan::START) & ((x == 10) | (x == 13)) {
         return on_start(st, x);
     }
     on_word(st, x)
@@ -134,16 +136,16 @@ fn step_body(st: Scan, x: u8) -> Scan
     ensures { λ r. ⌜ r ≡ scan-step st x ⌝ }
 {
     let phase = st.phase;
-    if phase == 12 {
+    if phase == Scan::IN_BODY {
         return on_body(st, x);
     }
-    if phase == 13 {
+    if phase == Scan::IN_COUNTED {
         return on_counted(st, x);
     }
-    if phase == 10 {
-        return on_10(st, in_head(st, 4, st.lines, st.sized, st.size), x);
+    if phase == Scan::LINE_CR {
+        return on_10(st, in_head(st, Scan::LINE_START, st.lines, st.sized, st.size), x);
     }
-    if phase == 11 {
+    if phase == Scan::BLANK_CR {
         return on_10(st, body_begins(st), x);
     }
     st
@@ -155,10 +157,10 @@ pub(crate) fn step(st: Scan, x: u8) -> Scan
     ensures { λ r. ⌜ r ≡ scan-step st x ⌝ }
 {
     let phase = st.phase;
-    if phase < 4 {
+    if phase < Scan::LINE_START {
         return step_word(st, x);
     }
-    if phase < 10 {
+    if phase < Scan::LINE_CR {
         return step_line(st, x);
     }
     step_body(st, x)

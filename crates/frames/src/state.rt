@@ -14,7 +14,7 @@ pub struct Scan {
     pub len: usize,
     // The octets of the item.
     pub at: usize,
-    // Where the next octet stands: see specs/Scanning.antt.
+    // Where the next octet is.
     pub phase: u8,
     // Whether a content-length is declared.
     pub sized: bool,
@@ -24,22 +24,57 @@ pub struct Scan {
     pub code: u32,
 }
 
-// Where the next octet stands.
+// The phases: where the next octet is.
 impl Scan {
+    // At the start.
     pub const START: u8 = 0;
 
+    // After the 13 of a heart-beat.
+    pub const HEART_BEAT_CR: u8 = 1;
+
+    // In a command.
     pub const IN_COMMAND: u8 = 2;
 
+    // After the 13 of its line end.
+    pub const COMMAND_CR: u8 = 3;
+
+    // Where a line or the empty line begins.
     pub const LINE_START: u8 = 4;
 
+    // In a name.
+    pub const IN_NAME: u8 = 5;
+
+    // After a backslash in it.
+    pub const NAME_ESCAPE: u8 = 6;
+
+    // In a value.
     pub const IN_VALUE: u8 = 7;
 
+    // After a backslash in it.
+    pub const VALUE_ESCAPE: u8 = 8;
+
+    // In the first content-length.
     pub const IN_LENGTH: u8 = 9;
 
+    // After the 13 of a line's end.
+    pub const LINE_CR: u8 = 10;
+
+    // After the 13 of the empty line.
+    pub const BLANK_CR: u8 = 11;
+
+    // In a body without a length.
+    pub const IN_BODY: u8 = 12;
+
+    // In a body with one.
+    pub const IN_COUNTED: u8 = 13;
+
+    // A heart-beat is read.
     pub const HEART_BEAT_READ: u8 = 14;
 
+    // A frame is read.
     pub const FRAME_READ: u8 = 15;
 
+    // Refused.
     pub const REFUSED: u8 = 16;
 }
 
@@ -48,7 +83,7 @@ pub(crate) fn nothing_read() -> Scan
     ensures { λ r. ⌜ r ≡ nothing-read ⌝ }
 {
     Scan {
-        phase: 0,
+        phase: Scan::START,
         command: 0,
         lines: 0,
         matched: 0,

@@ -5,6 +5,7 @@ ghost use Prim.Native.Nat.{_≤_};
 ghost use lib.ListN.{length, getD};
 ghost use Rattle.frames.specs.Scanning.{word-of, Valid, len-max, line-open, outside};
 ghost use Rattle.frames.specs.Validity.{leasts, is-reached, is-small, is-so-far, is-clean};
+use crate::limits;
 use crate::state::Scan;
 
 // The longest line or body at a phase.
@@ -12,14 +13,14 @@ fn len_max(phase: u8) -> usize
     ensures { λ r. ⌜ r ≡ len-max phase ⌝ }
 {
     match phase {
-        5 => 511,
-        6 => 510,
-        7 => 512,
-        8 => 511,
-        9 => 512,
-        12 => 32768,
-        13 => 32768,
-        15 => 32768,
+        Scan::IN_NAME => limits::NAME,
+        Scan::NAME_ESCAPE => limits::NAME_BEFORE_ESCAPE,
+        Scan::IN_VALUE => limits::LINE,
+        Scan::VALUE_ESCAPE => limits::LINE_BEFORE_ESCAPE,
+        Scan::IN_LENGTH => limits::LINE,
+        Scan::IN_BODY => limits::BODY,
+        Scan::IN_COUNTED => limits::BODY,
+        Scan::FRAME_READ => limits::BODY,
         _ => 0,
     }
 }
@@ -28,7 +29,7 @@ fn len_max(phase: u8) -> usize
 fn line_open(phase: u8) -> usize
     ensures { λ r. ⌜ r ≡ line-open phase ⌝ }
 {
-    if (5 <= phase) & (phase <= 9) { 1 } else { 0 }
+    if (Scan::IN_NAME <= phase) & (phase <= Scan::IN_LENGTH) { 1 } else { 0 }
 }
 
 // The octets of an item outside its lines and its body.
@@ -36,17 +37,17 @@ fn outside(phase: u8) -> usize
     ensures { λ r. ⌜ r ≡ outside phase ⌝ }
 {
     match phase {
-        0 => 0,
-        1 => 1,
-        2 => 11,
-        3 => 12,
-        10 => 12,
-        11 => 14,
-        12 => 15,
-        13 => 15,
-        14 => 2,
-        15 => 16,
-        16 => 49231,
+        Scan::START => 0,
+        Scan::HEART_BEAT_CR => 1,
+        Scan::IN_COMMAND => 11,
+        Scan::COMMAND_CR => 12,
+        Scan::LINE_CR => 12,
+        Scan::BLANK_CR => 14,
+        Scan::IN_BODY => 15,
+        Scan::IN_COUNTED => 15,
+        Scan::HEART_BEAT_READ => 2,
+        Scan::FRAME_READ => 16,
+        Scan::REFUSED => 49231,
         _ => 13,
     }
 }
@@ -86,16 +87,16 @@ fn is_small(st: Scan) -> bool
     ensures { λ r. ⌜ r ≡ is-small st ⌝ }
 {
     let phase = st.phase;
-    if 16 < phase {
+    if Scan::REFUSED < phase {
         return false;
     }
-    if 32 - line_open(phase) < st.lines {
+    if limits::LINES - line_open(phase) < st.lines {
         return false;
     }
     if len_max(phase) < st.len {
         return false;
     }
-    (st.size <= 32768) & (st.at <= outside(phase) + 514 * st.lines + st.len)
+    (st.size <= limits::BODY) & (st.at <= outside(phase) + 514 * st.lines + st.len)
 }
 
 // Whether the word and the body so far are some that a run can have.
@@ -105,10 +106,10 @@ fn is_so_far(st: Scan) -> bool
     let phase = st.phase;
     let reached = is_reached(st.command, st.at);
     let most = crate::word::most_of(st.command);
-    ((phase != 0) | ((st.command == 0) & (st.at == 0)))
-        & ((phase != 2) | reached)
-        & ((phase != 12) | (st.len <= most))
-        & ((phase != 13) | (st.len <= st.size))
+    ((phase != Scan::START) | ((st.command == 0) & (st.at == 0)))
+        & ((phase != Scan::IN_COMMAND) | reached)
+        & ((phase != Scan::IN_BODY) | (st.len <= most))
+        & ((phase != Scan::IN_COUNTED) | (st.len <= st.size))
 }
 
 // Whether what a phase does not use is 0.
@@ -116,11 +117,11 @@ fn is_clean(st: Scan) -> bool
     ensures { λ r. ⌜ r ≡ is-clean st ⌝ }
 {
     let phase = st.phase;
-    (!(phase < 4) | (st.lines == 0))
-        & (!(phase < 16) | (st.code == 0))
-        & (!(6 < phase) | (st.matched == 0))
-        & (st.sized | ((phase == 9) | (st.size == 0)))
-        & ((phase != 12) | !st.sized)
+    (!(phase < Scan::LINE_START) | (st.lines == 0))
+        & (!(phase < Scan::REFUSED) | (st.code == 0))
+        & (!(Scan::NAME_ESCAPE < phase) | (st.matched == 0))
+        & (st.sized | ((phase == Scan::IN_LENGTH) | (st.size == 0)))
+        & ((phase != Scan::IN_BODY) | !st.sized)
 }
 
 // Whether a state is valid: constant time, and every state that a run leaves passes.

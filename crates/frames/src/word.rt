@@ -118,13 +118,13 @@ pub(crate) fn most_of(command: u32) -> usize
     ensures { λ r. ⌜ r ≡ most-of command ⌝ }
 {
     if command == 8 {
-        return 32768;
+        return crate::limits::BODY;
     }
     if command == 9 {
-        return 32768;
+        return crate::limits::BODY;
     }
     if command == 12 {
-        return 32768;
+        return crate::limits::BODY;
     }
     0
 }
