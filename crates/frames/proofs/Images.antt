@@ -28,7 +28,7 @@ use Rattle.headers.proofs.Rows.{cond-case, and-left, and-right, and-no, not-emp
 use Rattle.headers.proofs.Coding.{decode-encode, encode-decode, encode-text, decode-bare, bare, content-length-bare}
 use Rattle.headers.proofs.Reading.{digits-text, is-text-text}
 use Rattle.headers.proofs.Numerals.{size-least}
-use Rattle.headers.proofs.Decimals.{digit-range, shortest-digits, length-shortest, amount-record, amount-shortest}
+use Rattle.headers.proofs.Decimals.{digit-range, digit-apart, shortest-digits, length-shortest, amount-record, amount-shortest}
 use Rattle.headers.proofs.LaidOut.{entries-block}
 use Rattle.headers.proofs.Settling.{raw-long}
 use Rattle.frames.specs.Grammar.{Version, Command, number, word, style, most, lines-max, body-max, end, Line, lines, LineOk, declared, LengthOk, BodyOk, Head, head, Tree, frame, octets, Shaped, Valid}
@@ -126,7 +126,8 @@ every-also p q on (x ∷ xs) h = rw (on x (and-left _ _ h)) (every-also p q on x
 digit-bare : (s : Style) (x : ℕ) → is-digit x ≡ true → bare s x ≡ true
 digit-bare s x h =
     let (lo, hi) = digit-range x h in
-    simp (ne-eqb x 13 (omega arith), ne-eqb x 10 (omega arith), ne-eqb x 58 (omega arith), ne-eqb x 92 (omega arith), and-no)
+    let (lf, cr, colon, slash) = digit-apart x lo hi in
+    simp (lf, cr, colon, slash, and-no)
 
 pub decode-digits : (s : Style) (v : List ℕ) → every is-digit v ≡ true → decode s v ≡ v
 decode-digits s v h = decode-bare s v (every-also is-digit (bare s) (digit-bare s) v h)

@@ -9,6 +9,7 @@ use borrow.Author.Tests.{eq-eqb, ne-eqb, le-leb, lt-ltb}
 use Rattle.headers.specs.Lines.{content-length}
 use Rattle.headers.specs.declared.text.Field.the-variants.{Name as in-name, Value as in-value}
 use Rattle.headers.proofs.Rows.{and-no}
+use Rattle.headers.proofs.Decimals.{digit-apart}
 use Rattle.frames.specs.declared.state.Scan.{Scan}
 use Rattle.frames.specs.Scanning.{style-of, most-of, next-command, to-phase, in-line, on-word, on-name, on-length, scan-step, scan, Valid, plain-in, skip, Ahead, Passed}
 use Rattle.frames.proofs.Upto.{upto-at}
@@ -63,7 +64,7 @@ letter-plain true m h = upto-at (λ n. plain-in true (getD content-length n 0)) 
 letter-plain false m h = upto-at (λ n. plain-in false (getD content-length n 0)) 14 m refl h
 
 digit-plain : (b : Bool) (x : ℕ) → 48 ≤ x → x ≤ 57 → plain-in b x ≡ true
-digit-plain b x h l = simp (ne-eqb x 10 (λ e. omega arith), ne-eqb x 13 (λ e. omega arith), ne-eqb x 58 (λ e. omega arith), ne-eqb x 92 (λ e. omega arith), and-no)
+digit-plain b x h l = let (lf, cr, colon, slash) = digit-apart x h l in simp (lf, cr, colon, slash, and-no)
 
 module _ (st : Scan) (x : ℕ) where
   -- a letter of a command

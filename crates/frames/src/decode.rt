@@ -26,7 +26,7 @@ pub enum Decoded {
 }
 
 // What the records of header lines come to: their octets, and whether a decoded line is too long.
-pub struct Measured {
+pub(crate) struct Measured {
     pub total: usize,
     pub long: bool,
 }

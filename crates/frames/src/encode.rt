@@ -34,7 +34,7 @@ pub enum Encoded {
 }
 
 // The content-length of a block: whether the block is well formed, whether an entry has the name, and where the first value stands.
-pub struct Declared {
+pub(crate) struct Declared {
     pub start: usize,
     pub end: usize,
     pub valid: bool,
@@ -43,7 +43,7 @@ pub struct Declared {
 
 // What the entries of a block come to: how many they are, or 33; how many from the front can be written; the octets of the lines of
 // those, with their line ends.
-pub struct Totals {
+pub(crate) struct Totals {
     pub count: usize,
     pub good: usize,
     pub total: usize,
@@ -101,10 +101,10 @@ fn sum(block: &[u8], style: Style) -> Totals
 }
 
 // Whether a length line is added: the body is not empty and no entry has the name.
-fn adds_length(length: Declared, body: usize) -> bool
-    ensures { λ r. ⌜ r ≡ not (eqb body 0) && not (length .present) ⌝ }
+fn adds_length(declared: Declared, body: usize) -> bool
+    ensures { λ r. ⌜ r ≡ not (eqb body 0) && not (declared .present) ⌝ }
 {
-    (body != 0) & !length.present
+    (body != 0) & !declared.present
 }
 
 // Whether a value is digits that say n.
@@ -132,8 +132,8 @@ fn image_length(command: u32, lines: usize, adds: bool, body: usize) -> usize
 }
 
 // The answer: every refusal in its order, or the image's length.
-fn settle(command: u32, block: &[u8], length: Declared, body: &[u8], room: usize) -> Encoded
-    requires { ⌜ Told (now block) length ⌝ }
+fn settle(command: u32, block: &[u8], declared: Declared, body: &[u8], room: usize) -> Encoded
+    requires { ⌜ Told (now block) declared ⌝ }
     ensures { λ r. ⌜ encoded-says r ≡ indexed
         (encode-answer v1-2 (record { command = command; block = now (block .entry); body = now (body .entry) }) room)
         (encode-index v1-2 (record { command = command; block = now (block .entry); body = now (body .entry) })) ⌝ }
@@ -141,11 +141,11 @@ fn settle(command: u32, block: &[u8], length: Declared, body: &[u8], room: usize
     if (command == 0) | (15 < command) {
         return Encoded::UnknownCommand;
     }
-    if !length.valid {
+    if !declared.valid {
         return Encoded::Malformed;
     }
     let s = sum(block, crate::word::style_of(command));
-    let adds = adds_length(length, body.len());
+    let adds = adds_length(declared, body.len());
     let lines = if adds { s.count + 1 } else { s.count };
     if crate::limits::LINES < lines {
         return Encoded::TooManyLines;
@@ -156,9 +156,9 @@ fn settle(command: u32, block: &[u8], length: Declared, body: &[u8], room: usize
     if crate::word::most_of(command) < body.len() {
         return Encoded::BadBody;
     }
-    let start = length.start;
-    let end = length.end;
-    if length.present {
+    let start = declared.start;
+    let end = declared.end;
+    if declared.present {
         if !says_length(&block[start..end], body.len()) {
             return Encoded::WrongLength;
         }
@@ -182,14 +182,14 @@ pub fn encode(command: u32, block: &[u8], body: &[u8], target: &mut [u8]) -> Enc
         (now (target .entry)))
         ⌝ }
 {
-    let length = declared_length(block);
-    let answer = settle(command, block, length, body, target.len());
+    let declared = declared_length(block);
+    let answer = settle(command, block, declared, body, target.len());
     if let Encoded::Length(n) = answer {
         crate::put::put_frame(
             target,
             command,
             block,
-            adds_length(length, body.len()),
+            adds_length(declared, body.len()),
             body,
         );
     }

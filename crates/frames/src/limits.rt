@@ -4,13 +4,13 @@
 pub const LINES: usize = 32;
 
 // The octets of a raw header line, its line end not counted.
-pub const LINE: usize = 512;
+pub const LINE: usize = headers::LINE_MAX;
 
 // The octets of a line before a backslash: the escape owes its letter.
 pub const LINE_BEFORE_ESCAPE: usize = 511;
 
 // The octets of a name, and of a name and a value together: the line has its colon too.
-pub const NAME: usize = 511;
+pub const NAME: usize = headers::TEXT_MAX;
 
 // The octets of a name before a backslash.
 pub const NAME_BEFORE_ESCAPE: usize = 510;

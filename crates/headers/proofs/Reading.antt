@@ -20,6 +20,7 @@ use Rattle.headers.specs.Numbers.{is-digit}
 use Rattle.headers.specs.declared.text.Style.{Style}
 use Rattle.headers.specs.declared.text.Field.{Field}
 use Rattle.headers.proofs.Rows.{cond-case, and-left, and-right, and-no, any-key}
+use Rattle.headers.proofs.Decimals.{digit-range, digit-apart}
 
 text-snoc : {s : Style} {f : Field} {xs u : List ℕ} → Text s f xs → Character s f u → Text s f (xs ++ u)
 text-snoc {u = u} none h = rw (append-nil u) at (more h none)
@@ -85,9 +86,9 @@ raw-feeds s f raw back r =
 -- digits are text
 digit-plain : (s : Style) (f : Field) (x : ℕ) → is-digit x ≡ true → plain s f x ≡ true
 digit-plain s f x h =
-    let lo : 48 ≤ x = leb-true 48 x (and-left (leb 48 x) (leb x 57) h) in
-    let hi : x ≤ 57 = leb-true x 57 (and-right (leb 48 x) (leb x 57) h) in
-    simp (ne-eqb x 10 (omega arith), ne-eqb x 13 (omega arith), ne-eqb x 58 (omega arith), ne-eqb x 92 (omega arith), and-no)
+    let (lo, hi) = digit-range x h in
+    let (lf, cr, colon, slash) = digit-apart x lo hi in
+    simp (lf, cr, colon, slash, and-no)
 
 pub digits-text : (s : Style) (f : Field) (v : List ℕ) → every is-digit v ≡ true → Text s f v
 digits-text s f [] h = none

@@ -15,6 +15,12 @@ use crate::text::encoded_length;
 use crate::text::encoded_width;
 use crate::text::put_encoded;
 
+// The octets of a raw header line, its line end not counted.
+pub const LINE_MAX: usize = 512;
+
+// The octets of its name and value: the line has its colon too.
+pub const TEXT_MAX: usize = 511;
+
 // The length of an entry's raw line, its line end not counted; or that it cannot be written (53).
 pub enum LineLength {
     Length(usize),
@@ -53,7 +59,7 @@ pub fn line_length(name: &[u8], value: &[u8], style: Style) -> LineLength
     if name.len() == 0 {
         return LineLength::Unwritable;
     }
-    if !both_fit(name.len(), value.len(), 511) {
+    if !both_fit(name.len(), value.len(), TEXT_MAX) {
         return LineLength::Unwritable;
     }
     let LineLength::Length(n) = text_length(name, style, Field::Name) else {
@@ -62,7 +68,7 @@ pub fn line_length(name: &[u8], value: &[u8], style: Style) -> LineLength
     let LineLength::Length(v) = text_length(value, style, Field::Value) else {
         return LineLength::Unwritable;
     };
-    if !both_fit(n, v, 511) {
+    if !both_fit(n, v, TEXT_MAX) {
         return LineLength::Unwritable;
     }
     LineLength::Length(n + 1 + v)
@@ -75,13 +81,13 @@ pub fn entry_length(text: &[u8], name: usize, style: Style) -> LineLength
     if (name == 0) | (text.len() == 0) {
         return LineLength::Unwritable;
     }
-    if 511 < text.len() {
+    if TEXT_MAX < text.len() {
         return LineLength::Unwritable;
     }
     let LineLength::Length(n) = text_length(text, style, Field::Value) else {
         return LineLength::Unwritable;
     };
-    if 511 < n {
+    if TEXT_MAX < n {
         return LineLength::Unwritable;
     }
     LineLength::Length(n + 1)

@@ -76,7 +76,7 @@ pub fn write_decoded(d: &mut [u8], name: &[u8], value: &[u8], style: Style) -> R
     if !decoded_fit(name, value, style, d.len() - 6) {
         return RecordWritten::TooShort;
     }
-    if !decoded_fit(name, value, style, 511) {
+    if !decoded_fit(name, value, style, crate::line::TEXT_MAX) {
         return RecordWritten::TooLong;
     }
     RecordWritten::Length(put_record(d, name, value, style))

@@ -10,7 +10,7 @@ ghost use Rattle.listing.specs.Streams.{Room, moved};
 use frames::parse::Parsed;
 
 // How far a stream is listed.
-pub struct Progress {
+pub(crate) struct Progress {
     // The octets read and not yet listed, in the one buffer.
     pub lo: usize,
     pub hi: usize,

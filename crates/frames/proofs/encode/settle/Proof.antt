@@ -40,14 +40,14 @@ returns-2 : tie.Need-returns-2
 returns-2 c =
     let b = c .before .before .before .before .before in
     let (d, n, q) = known-command (b .args .command) (c .before .before .if1 .left) in
-    sym (no-block (call-of b) (b .args .room) d q (entries-not (b .args .block .now) (sym (b .pre .validity) ∙ not-true (b .args .length .valid) (c .if2 .taken))))
+    sym (no-block (call-of b) (b .args .room) d q (entries-not (b .args .block .now) (sym (b .pre .validity) ∙ not-true (b .args .declared .valid) (c .if2 .taken))))
 
 -- from here on both are known
 abbrev start : tie.Else2 → tie.Start
 start c = c .before .before .before .before .before
 
 block-is : (c : tie.Else2) → is-block (start c .args .block .now) ≡ true
-block-is c = sym (start c .pre .validity) ∙ not-false (start c .args .length .valid) (c .if2 .left)
+block-is c = sym (start c .pre .validity) ∙ not-false (start c .args .declared .valid) (c .if2 .left)
 
 abbrev entries-at : tie.Else2 → List Entry
 entries-at c = listed (entries (start c .args .block .now))
@@ -88,7 +88,7 @@ answered c r e =
     let b = start (at c) in
     let es = entries-at (at c) in
     let (d, n, q) = known-command (b .args .command) (at c .before .before .if1 .left) in
-    let added = c .adds-length .ensures ∙ adds-told (b .args .block .now) (b .args .length) (b .pre) (block-is (at c)) (b .args .body .now) in
+    let added = c .adds-length .ensures ∙ adds-told (b .args .block .now) (b .args .declared) (b .pre) (block-is (at c)) (b .args .body .now) in
     let i = first-unwritable (style-of (b .args .command)) es in
     sym
     (settles (call-of b) (b .args .room) d q es n (entries-listed (b .args .block .now) (block-is (at c)))
@@ -173,10 +173,10 @@ says-length-requires : tie.Need-says-length-requires
 says-length-requires c κs = small-at (c .before .before)
 
 -- what it says of the body, by whether it is there
-said : (c : tie.Else6) (p : Bool) → start (at (from-6 c)) .args .length .present ≡ p
+said : (c : tie.Else6) (p : Bool) → start (at (from-6 c)) .args .declared .present ≡ p
     → says-length (length (body-at c)) (first-length (entries-at (at (from-6 c))))
-    ≡ says-length (length (body-at c)) (cond p (some (value-at (start (at (from-6 c)) .args .block .now) (start (at (from-6 c)) .args .length))) none)
-said c = let b = start (at (from-6 c)) in says-told (b .args .block .now) (b .args .length) (b .pre) (block-is (at (from-6 c))) (length (body-at c))
+    ≡ says-length (length (body-at c)) (cond p (some (value-at (start (at (from-6 c)) .args .block .now) (start (at (from-6 c)) .args .declared))) none)
+said c = let b = start (at (from-6 c)) in says-told (b .args .block .now) (b .args .declared) (b .pre) (block-is (at (from-6 c))) (length (body-at c))
 
 returns-6 : tie.Need-returns-6
 returns-6 c =
