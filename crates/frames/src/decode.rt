@@ -25,6 +25,15 @@ pub enum Decoded {
     TooLong,
 }
 
+// The numbers of its refusals.
+impl Decoded {
+    pub const NOT_FRAME: u64 = 20;
+
+    pub const TOO_SHORT: u64 = 21;
+
+    pub const TOO_LONG: u64 = 23;
+}
+
 // What the records of header lines come to: their octets, and whether a decoded line is too long.
 pub(crate) struct Measured {
     pub total: usize,

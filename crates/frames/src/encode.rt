@@ -33,6 +33,23 @@ pub enum Encoded {
     TooShort,
 }
 
+// The numbers of its refusals.
+impl Encoded {
+    pub const UNKNOWN_COMMAND: u64 = 50;
+
+    pub const MALFORMED: u64 = 51;
+
+    pub const TOO_MANY_LINES: u64 = 52;
+
+    pub const UNWRITABLE: u64 = 53;
+
+    pub const BAD_BODY: u64 = 54;
+
+    pub const WRONG_LENGTH: u64 = 55;
+
+    pub const TOO_SHORT: u64 = 56;
+}
+
 // The content-length of a block: whether the block is well formed, whether an entry has the name, and where the first value stands.
 pub(crate) struct Declared {
     pub start: usize,

@@ -16,6 +16,9 @@ use crate::parse::Parsed;
 use crate::parse::Refusal;
 use headers::Found;
 
+// A refusal of decode or encode is this many times its number: no length is as large.
+const REFUSED: u64 = 65536;
+
 // An item in one number.
 fn pack_item(i: Item) -> u64
     requires { ⌜ SmallFrame (i .len) (i .command) (i .headers) (i .body) (i .«body_len») ⌝ }
@@ -78,9 +81,9 @@ pub extern "C" fn stomp_decode(frame: &[u8], block: &mut [u8]) -> u64
 {
     match crate::decode::decode(frame, block) {
         Decoded::Length(n) => n as u64,
-        Decoded::NotFrame => 65536 * 20,
-        Decoded::TooShort => 65536 * 21,
-        Decoded::TooLong => 65536 * 23,
+        Decoded::NotFrame => REFUSED * Decoded::NOT_FRAME,
+        Decoded::TooShort => REFUSED * Decoded::TOO_SHORT,
+        Decoded::TooLong => REFUSED * Decoded::TOO_LONG,
     }
 }
 
@@ -100,12 +103,12 @@ pub extern "C" fn stomp_encode(command: u32, block: &[u8], body: &[u8], target: 
 {
     match crate::encode::encode(command, block, body, target) {
         Encoded::Length(n) => n as u64,
-        Encoded::UnknownCommand => 65536 * 50,
-        Encoded::Malformed => 65536 * 51,
-        Encoded::TooManyLines => 65536 * 52,
-        Encoded::Unwritable(i) => 65536 * 53 + (i as u64),
-        Encoded::BadBody => 65536 * 54,
-        Encoded::WrongLength => 65536 * 55,
-        Encoded::TooShort => 65536 * 56,
+        Encoded::UnknownCommand => REFUSED * Encoded::UNKNOWN_COMMAND,
+        Encoded::Malformed => REFUSED * Encoded::MALFORMED,
+        Encoded::TooManyLines => REFUSED * Encoded::TOO_MANY_LINES,
+        Encoded::Unwritable(i) => REFUSED * Encoded::UNWRITABLE + (i as u64),
+        Encoded::BadBody => REFUSED * Encoded::BAD_BODY,
+        Encoded::WrongLength => REFUSED * Encoded::WRONG_LENGTH,
+        Encoded::TooShort => REFUSED * Encoded::TOO_SHORT,
     }
 }
