@@ -11,6 +11,7 @@ use Rattle.headers.specs.declared.text.Field.{Field}
 use Rattle.headers.proofs.Rows.{or-false-left, or-false-right}
 use Rattle.frames.specs.declared.state.Scan.{Scan}
 use Rattle.frames.specs.Grammar.{lines-max}
+use Rattle.frames.specs.Refusals.{numbered, long-line, wrong-escape}
 use Rattle.frames.specs.Scanning.{style-of, advance, in-line, invalid, on-start, on-word, on-begin, on-name-by, on-name, on-value-by, on-value, scan-step, line-ends, nameless-at}
 
 -- an octet where a character begins: a stop, the backslash of an escape, or itself
@@ -47,7 +48,7 @@ module _ (o m n : ℕ) where
 -- an octet after a backslash, as the code takes it: t where it is the letter of an escape
 module _ (st : Scan) (x : ℕ) where
   abbrev after-back : Bool → ℕ → ℕ → ℕ → Scan
-  after-back t most p m = cond t (cond (ltb (st .len) most) (in-line st p m (st .size) (st .len + 1)) (invalid st 4)) (invalid st 3)
+  after-back t most p m = cond t (cond (ltb (st .len) most) (in-line st p m (st .size) (st .len + 1)) (invalid st (numbered long-line))) (invalid st (numbered wrong-escape))
 
   pub value-back : on-value st back x ≡ after-back (is-letter (style-of (st .command)) x) 512 7 0
   unfolding on-value

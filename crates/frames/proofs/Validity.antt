@@ -160,15 +160,15 @@ module _ (st : Scan) (v : Valid st) where
 
   module _ (x : ℕ) where
     valid-10 : (next : Scan) → Valid next → st .at ≤ 49231 → Valid (on-10 st next x)
-    valid-10 next n h = cond-case Valid (eqb x 10) (λ t. n) (λ t. valid-refused st 2 h)
+    valid-10 next n h = cond-case Valid (eqb x 10) (λ t. n) (λ t. valid-refused st _ h)
 
     valid-on-word : Reached (st .command) (st .at) → st .at ≤ 11 → Valid (on-word st x)
     unfolding on-word
     valid-on-word r h =
         cond-case Valid (eqb (next-command (st .command) (st .at) x) 0)
-        (λ t. cond-case Valid (eqb (whole-command (st .command) (st .at)) 0) (λ u. valid-refused st 1 (omega arith))
+        (λ t. cond-case Valid (eqb (whole-command (st .command) (st .at)) 0) (λ u. valid-refused st _ (omega arith))
         (λ u. cond-case Valid (eqb x 10) (λ q. valid-to st 4 (whole-command (st .command) (st .at)) refl (omega arith) refl (omega arith))
-        (λ q. cond-case Valid (eqb x 13) (λ w. valid-to st 3 (whole-command (st .command) (st .at)) refl (omega arith) refl (omega arith)) (λ w. valid-refused st 1 (omega arith)))))
+        (λ q. cond-case Valid (eqb x 13) (λ w. valid-to st 3 (whole-command (st .command) (st .at)) refl (omega arith) refl (omega arith)) (λ w. valid-refused st _ (omega arith)))))
         (λ t. let (r′, l) = reached-next (st .command) (st .at) x r t in valid-word st (next-command (st .command) (st .at) x) r′ l)
 
     valid-on-start : st .command ≡ 0 → st .at ≡ 0 → Valid (on-start st x)
@@ -181,7 +181,7 @@ module _ (st : Scan) (v : Valid st) where
     valid-line-read : (z : Bool) (s : ℕ) → st .lines + 1 ≤ 32 → s ≤ 32768 → st .at + 1 ≤ 526 + 514 * st .lines → (z ≡ false → s ≡ 0) → Valid (line-read st x z s)
     valid-line-read z s f l h u =
         cond-case Valid (eqb x 10) (λ t. valid-head st 4 (st .lines + 1) z s refl (omega arith) (omega arith) refl f l (omega arith) u)
-        (λ t. cond-case Valid (eqb x 13) (λ q. valid-head st 10 (st .lines + 1) z s refl (omega arith) (omega arith) refl f l (omega arith) u) (λ q. valid-refused st 3 (omega arith)))
+        (λ t. cond-case Valid (eqb x 13) (λ q. valid-head st 10 (st .lines + 1) z s refl (omega arith) (omega arith) refl f l (omega arith) u) (λ q. valid-refused st _ (omega arith)))
 
     valid-on-name : (p : Part) → st .lines + 1 ≤ 32 → st .len ≤ 511 → st .at ≤ 13 + 514 * st .lines + st .len → (st .sized ≡ false → st .size ≡ 0) → Valid (on-name st p x)
     unfolding on-name
@@ -191,19 +191,19 @@ module _ (st : Scan) (v : Valid st) where
         by (into fresh) =
             cond-case Valid (leb (st .len + 1 + 0 + 1) 512)
             (λ t. valid-line st 5 (advance (st .matched) x) (st .size) (st .len + 1) refl (omega arith) (omega arith) f (omega (arith, leb-true (st .len + 1 + 0 + 1) 512 t)) (v .small) (omega arith) (λ q. absurd (omega arith)) (λ e n. u e))
-            (λ t. valid-refused st 4 (omega arith))
+            (λ t. valid-refused st _ (omega arith))
         by (into back) =
             cond-case Valid (leb (st .len + 1 + 1 + 1) 512)
             (λ t. valid-line st 6 (advance (st .matched) x) (st .size) (st .len + 1) refl (omega arith) (omega arith) f (omega (arith, leb-true (st .len + 1 + 1 + 1) 512 t)) (v .small) (omega arith) (λ q. absurd (omega arith)) (λ e n. u e))
-            (λ t. valid-refused st 4 (omega arith))
+            (λ t. valid-refused st _ (omega arith))
         by (bad k) = valid-refused st (numbered (faulty k)) (omega arith)
         by stop =
             cond-case Valid (eqb x 58)
-            (λ t. cond-case Valid (eqb (st .len) 0) (λ q. valid-refused st 3 (omega arith))
+            (λ t. cond-case Valid (eqb (st .len) 0) (λ q. valid-refused st _ (omega arith))
             (λ q. cond-case Valid (not (st .sized) && eqb (st .matched) 14)
             (λ w. valid-line st 9 0 0 (st .len + 1) refl (omega arith) (omega arith) f (omega arith) (omega arith) (omega arith) (λ k. refl) (λ e n. refl))
             (λ w. valid-line st 7 0 (st .size) (st .len + 1) refl (omega arith) (omega arith) f (omega arith) (v .small) (omega arith) (λ k. refl) (λ e n. u e))))
-            (λ t. valid-refused st 3 (omega arith))
+            (λ t. valid-refused st _ (omega arith))
 
     valid-on-value : (p : Part) → st .lines + 1 ≤ 32 → st .len ≤ 512 → st .at ≤ 13 + 514 * st .lines + st .len → (st .sized ≡ false → st .size ≡ 0) → Valid (on-value st p x)
     unfolding on-value
@@ -212,12 +212,12 @@ module _ (st : Scan) (v : Valid st) where
         by : (i : Into) → Valid (on-value-by st x i)
         by (into fresh) =
             cond-case Valid (leb (st .len + 1 + 0) 512)
-            (λ t. valid-line st 7 0 (st .size) (st .len + 1) refl (omega arith) (omega arith) f (omega (arith, leb-true (st .len + 1 + 0) 512 t)) (v .small) (omega arith) (λ q. refl) (λ e n. u e)) (λ t. valid-refused st 4 (omega arith))
+            (λ t. valid-line st 7 0 (st .size) (st .len + 1) refl (omega arith) (omega arith) f (omega (arith, leb-true (st .len + 1 + 0) 512 t)) (v .small) (omega arith) (λ q. refl) (λ e n. u e)) (λ t. valid-refused st _ (omega arith))
         by (into back) =
             cond-case Valid (leb (st .len + 1 + 1) 512)
-            (λ t. valid-line st 8 0 (st .size) (st .len + 1) refl (omega arith) (omega arith) f (omega (arith, leb-true (st .len + 1 + 1) 512 t)) (v .small) (omega arith) (λ q. refl) (λ e n. u e)) (λ t. valid-refused st 4 (omega arith))
+            (λ t. valid-line st 8 0 (st .size) (st .len + 1) refl (omega arith) (omega arith) f (omega (arith, leb-true (st .len + 1 + 1) 512 t)) (v .small) (omega arith) (λ q. refl) (λ e n. u e)) (λ t. valid-refused st _ (omega arith))
         by (bad k) = valid-refused st (numbered (faulty k)) (omega arith)
-        by stop = cond-case Valid (eqb x 58) (λ t. valid-refused st 3 (omega arith)) (λ t. valid-line-read (st .sized) (st .size) f (v .small) (omega arith) u)
+        by stop = cond-case Valid (eqb x 58) (λ t. valid-refused st _ (omega arith)) (λ t. valid-line-read (st .sized) (st .size) f (v .small) (omega arith) u)
 
     valid-on-length : st .lines + 1 ≤ 32 → st .len ≤ 512 → st .at ≤ 13 + 514 * st .lines + st .len → Valid (on-length st x)
     unfolding on-length
@@ -228,23 +228,23 @@ module _ (st : Scan) (v : Valid st) where
             cond-case Valid (grows st x)
             (λ t. valid-line st 9 0 (st .size * 10 + digit-value x) (st .len + 1) refl (omega arith) (omega arith) f (omega arith)
             (omega (arith, leb-true (st .size * 10 + digit-value x) (most-of (st .command)) (and-right (is-digit x) (leb (st .size * 10 + digit-value x) (most-of (st .command))) t), most-small (st .command))) (omega arith) (λ q. refl) (λ e n. absurd (n refl)))
-            (λ t. valid-refused st 6 (omega arith))
+            (λ t. valid-refused st _ (omega arith))
 
         by : (i : Into) → Valid (on-length-by st x i)
-        by (into fresh) = cond-case Valid (leb (st .len + 1 + 0) 512) (λ t. digit 512 (omega arith) (omega (arith, leb-true (st .len + 1 + 0) 512 t))) (λ t. valid-refused st 4 (omega arith))
-        by (into back) = cond-case Valid (leb (st .len + 1 + 1) 512) (λ t. digit 512 (omega arith) (omega (arith, leb-true (st .len + 1 + 1) 512 t))) (λ t. valid-refused st 4 (omega arith))
+        by (into fresh) = cond-case Valid (leb (st .len + 1 + 0) 512) (λ t. digit 512 (omega arith) (omega (arith, leb-true (st .len + 1 + 0) 512 t))) (λ t. valid-refused st _ (omega arith))
+        by (into back) = cond-case Valid (leb (st .len + 1 + 1) 512) (λ t. digit 512 (omega arith) (omega (arith, leb-true (st .len + 1 + 1) 512 t))) (λ t. valid-refused st _ (omega arith))
         by (bad k) = valid-refused st (numbered (faulty k)) (omega arith)
         by stop =
-            cond-case Valid (eqb x 58) (λ t. valid-refused st 3 (omega arith))
-            (λ t. cond-case Valid (eqb (st .len) 15) (λ q. valid-refused st 6 (omega arith)) (λ q. valid-line-read true (st .size) f (v .small) (omega arith) (λ e. let z : _≡_ {A = ℕ} 0 1 = cc in absurd (omega arith))))
+            cond-case Valid (eqb x 58) (λ t. valid-refused st _ (omega arith))
+            (λ t. cond-case Valid (eqb (st .len) 15) (λ q. valid-refused st _ (omega arith)) (λ q. valid-line-read true (st .size) f (v .small) (omega arith) (λ e. let z : _≡_ {A = ℕ} 0 1 = cc in absurd (omega arith))))
 
     valid-on-begin : st .lines ≤ 32 → st .len ≤ 0 → st .at ≤ 13 + 514 * st .lines + st .len → (st .sized ≡ false → st .size ≡ 0) → Valid (on-begin st x)
     unfolding on-begin
     valid-on-begin f h l u =
         cond-case Valid (eqb x 10) (λ t. valid-begins st f (v .small) (omega arith) u)
         (λ t. cond-case Valid (eqb x 13) (λ q. valid-head st 11 (st .lines) (st .sized) (st .size) refl (omega arith) (omega arith) refl f (v .small) (omega arith) u)
-        (λ q. cond-case Valid (eqb x 58) (λ w. valid-refused st 3 (omega arith))
-        (λ w. cond-case Valid (ltb (st .lines) 32) (λ k. valid-on-name fresh (omega (arith, ltb-true (st .lines) 32 k)) (omega arith) l u) (λ k. valid-refused st 5 (omega arith)))))
+        (λ q. cond-case Valid (eqb x 58) (λ w. valid-refused st _ (omega arith))
+        (λ w. cond-case Valid (ltb (st .lines) 32) (λ k. valid-on-name fresh (omega (arith, ltb-true (st .lines) 32 k)) (omega arith) l u) (λ k. valid-refused st _ (omega arith)))))
 
     valid-frame : st .lines ≤ 32 → st .len ≤ 32768 → st .at ≤ 15 + 514 * st .lines + st .len → Valid (frame-read st)
     valid-frame f h l = bounded-valid (frame-read st) refl (omega arith) (omega arith) h (omega arith) (omega arith) (λ q. refl) (λ q. refl) (λ e n. refl) (λ q. absurd (omega arith))
@@ -255,14 +255,14 @@ module _ (st : Scan) (v : Valid st) where
         cond-case Valid (eqb x 0) (λ t. valid-frame f h l)
         (λ t. cond-case Valid (ltb (st .len) (most-of (st .command)))
         (λ q. let more = ltb-true (st .len) (most-of (st .command)) q in record { known = omega arith; few = omega arith; short = omega (arith, most-small (st .command)); small = omega arith; place = omega arith; fresh-word = λ k. absurd (omega arith); word-so-far = λ k. absurd (omega arith); body-so-far = λ k. omega arith; counted-so-far = λ k. absurd (omega arith); no-lines = λ k. absurd (omega arith); clean-code = λ k. refl; clean-match = λ k. refl; clean-size = λ k n. refl; unsized = λ k. v .unsized e })
-        (λ q. valid-refused st 7 (omega arith)))
+        (λ q. valid-refused st _ (omega arith)))
 
     valid-on-counted : st .phase ≡ 13 → st .lines ≤ 32 → st .len ≤ 32768 → st .at ≤ 15 + 514 * st .lines + st .len → Valid (on-counted st x)
     unfolding on-counted
     valid-on-counted e f h l =
         cond-case Valid (ltb (st .len) (st .size))
         (λ q. let more = ltb-true (st .len) (st .size) q in record { known = omega arith; few = omega arith; short = omega (arith, v .small); small = v .small; place = omega arith; fresh-word = λ k. absurd (omega arith); word-so-far = λ k. absurd (omega arith); body-so-far = λ k. absurd (omega arith); counted-so-far = λ k. omega arith; no-lines = λ k. absurd (omega arith); clean-code = λ k. refl; clean-match = λ k. refl; clean-size = λ k n. no-9 13 e (λ z. omega arith) k; unsized = λ k. absurd (omega arith) })
-        (λ q. cond-case Valid (eqb x 0) (λ t. valid-frame f h l) (λ t. valid-refused st 7 (omega arith)))
+        (λ q. cond-case Valid (eqb x 0) (λ t. valid-frame f h l) (λ t. valid-refused st _ (omega arith)))
 
     -- the octets of any state that goes on are few
     pub valid-step : Valid (scan-step st x)
