@@ -10,8 +10,8 @@
 
 enum { MOST_BLOCK = 65536, BENCH_BLOCK = 256 };
 
-/* The kinds of calls. */
-enum kind { MAKE, FRAME, BEAT, TIMED_OUT, SET };
+/* The kinds of calls. The session is altered where it lies by all of them. */
+enum kind { MAKE, FRAME, BEAT, TIMED_OUT, SET, FRAME_IN_PLACE, BEAT_IN_PLACE, TIMED_OUT_IN_PLACE };
 
 /* ---- calls on standard input */
 
@@ -121,9 +121,12 @@ static void one_call(struct session *s, int kind)
     static const char *const answers[2] = {"no", "yes"};
     switch (kind) {
     case MAKE: make_call(s); break;
-    case FRAME: frame_call(s); break;
-    case BEAT: write_answer(session_heart_beat(s, read_number()), accepted); break;
-    case TIMED_OUT: write_answer(session_timed_out(s, read_number()), answers); break;
+    case FRAME:
+    case FRAME_IN_PLACE: frame_call(s); break;
+    case BEAT:
+    case BEAT_IN_PLACE: write_answer(session_heart_beat(s, read_number()), accepted); break;
+    case TIMED_OUT:
+    case TIMED_OUT_IN_PLACE: write_answer(session_timed_out(s, read_number()), answers); break;
     case SET:
         read_record(s);
         printf("set");

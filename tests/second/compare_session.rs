@@ -8,36 +8,43 @@ use crate::random::Random;
 use crate::session::record::{Record, LENGTH};
 use crate::session::MAX_ID;
 use crate::session_calls::sequence::{sequence, Step};
-use crate::session_calls::Call;
+use crate::session_calls::{Call, NAMES};
 use std::collections::BTreeMap;
 use std::io;
 
-/// The answers to each kind of call.
-const ANSWERS: [(&str, &[&str]); 5] = [
-    ("make", &["made", "refused 34"]),
-    ("set", &["set"]),
-    (
-        "frame",
-        &[
-            "accepted",
-            "accepted receipt",
-            "refused 31",
-            "refused 32",
-            "refused 33",
-            "refused 38",
-            "refused 39",
-            "refused 40",
-            "refused 41",
-            "refused 42",
-            "refused 43",
-            "refused 44",
-            "refused 45",
-            "refused 46",
-            "refused 47",
-        ],
-    ),
-    ("heart-beat", &["accepted", "refused 38", "refused 40"]),
-    ("timed out", &["yes", "no", "refused 38"]),
+/// The answers to a frame.
+const FRAME: [&str; 15] = [
+    "accepted",
+    "accepted receipt",
+    "refused 31",
+    "refused 32",
+    "refused 33",
+    "refused 38",
+    "refused 39",
+    "refused 40",
+    "refused 41",
+    "refused 42",
+    "refused 43",
+    "refused 44",
+    "refused 45",
+    "refused 46",
+    "refused 47",
+];
+
+const HEART_BEAT: [&str; 3] = ["accepted", "refused 38", "refused 40"];
+
+const TIMED_OUT: [&str; 3] = ["yes", "no", "refused 38"];
+
+/// The answers to each kind of call, by its number.
+const ANSWERS: [&[&str]; 8] = [
+    &["made", "refused 34"],
+    &FRAME,
+    &HEART_BEAT,
+    &TIMED_OUT,
+    &["set"],
+    &FRAME,
+    &HEART_BEAT,
+    &TIMED_OUT,
 ];
 
 /// The parts of a record, with the octet that each begins at.
@@ -87,9 +94,9 @@ impl comparison::Tally for Tally {
     }
 
     fn print(&self) {
-        for (kind, answers) in ANSWERS {
+        for (kind, answers) in NAMES.iter().zip(ANSWERS) {
             for answer in answers {
-                let count = self.answers.get(&(kind, answer.to_string())).unwrap_or(&0);
+                let count = self.answers.get(&(*kind, answer.to_string())).unwrap_or(&0);
                 println!("{kind}: {answer} {count}");
             }
         }
@@ -165,13 +172,15 @@ fn print_call(call: &Call) {
         command,
         time,
         block,
+        ..
     } = call
     else {
         println!("call: {call:?}");
         return;
     };
     let length = block.len();
-    println!("call: frame, command {command}, time {time}, header block of {length} octets");
+    let name = call.name();
+    println!("call: {name}, command {command}, time {time}, header block of {length} octets");
     let Some(entries) = block::read(block) else {
         println!("  malformed: \"{}\"", front(block));
         return;

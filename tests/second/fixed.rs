@@ -9,7 +9,7 @@ use crate::client::command;
 use crate::session::opening::{Flags, MAX_INTERVAL, ONLY_1_2};
 use crate::session::record::{make, Record};
 use crate::session::{MAX_ID, SUBSCRIPTIONS, TRANSACTIONS};
-use crate::session_calls::{Call, Reply};
+use crate::session_calls::{first_record, Call, Reply, Way};
 
 /// A client's life: what is accepted up to DISCONNECT, a frame and a heart-beat behind it, and octets
 /// that are refused.
@@ -42,8 +42,15 @@ pub fn calls() -> Vec<u8> {
     all().iter().flat_map(Call::octets).collect()
 }
 
-/// The calls, in groups; all but the first begin with a session made or set.
+/// The calls: those by value, and from the first record on the same calls again, in place.
 pub fn all() -> Vec<Call> {
+    let by_value = by_value();
+    let in_place = by_value.iter().cloned().map(Call::in_place).collect();
+    [by_value, vec![set(&first_record())], in_place].concat()
+}
+
+/// The calls by value, in groups; all but the first begin with a session made or set.
+fn by_value() -> Vec<Call> {
     [
         clock(),
         last_heard(),
@@ -62,6 +69,7 @@ fn frame_at(time: u32, name: &[u8], entries: &[(&str, &str)]) -> Call {
     let entry = |(name, value): &(&str, &str)| Entry::new(name.as_bytes(), value.as_bytes());
     let entries: Vec<Entry> = entries.iter().map(entry).collect();
     Call::Frame {
+        way: Way::ByValue,
         command: command(name).0 as u32,
         time,
         block: block::write(&entries),
@@ -81,11 +89,17 @@ fn offers(sends: u32, wants: u32, offered: Flags) -> Call {
 }
 
 fn timed_out(time: u32) -> Call {
-    Call::TimedOut { time }
+    Call::TimedOut {
+        way: Way::ByValue,
+        time,
+    }
 }
 
 fn heart_beat(time: u32) -> Call {
-    Call::HeartBeat { time }
+    Call::HeartBeat {
+        way: Way::ByValue,
+        time,
+    }
 }
 
 fn set(record: &Record) -> Call {
@@ -248,6 +262,7 @@ fn openings() -> Vec<Call> {
 fn refusals() -> Vec<Call> {
     let opened = || set(&open(&["a"], &["t"]));
     let unknown = |command| Call::Frame {
+        way: Way::ByValue,
         command,
         time: 7,
         block: Vec::new(),
@@ -257,6 +272,7 @@ fn refusals() -> Vec<Call> {
         unknown(0),
         unknown(16),
         Call::Frame {
+            way: Way::ByValue,
             command: command(b"DISCONNECT").0 as u32,
             time: 7,
             block: b"HD\0\x01\0\0".to_vec(),

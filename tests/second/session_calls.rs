@@ -13,6 +13,26 @@ use crate::session::record::{make, Record};
 /// No header block of a call is longer.
 pub const MAX_BLOCK: usize = 65_536;
 
+/// The names of the calls, by their kind.
+pub const NAMES: [&str; 8] = [
+    "make",
+    "frame",
+    "heart-beat",
+    "timed out",
+    "set",
+    "frame in place",
+    "heart-beat in place",
+    "timed out in place",
+];
+
+/// How the session is given to a call: as a value, or lent and altered where it lies. The reply is the
+/// same.
+#[derive(Clone, Copy, PartialEq, Eq, Debug)]
+pub enum Way {
+    ByValue,
+    InPlace,
+}
+
 /// A call: the session record is the one that the call before it left.
 #[derive(Clone, PartialEq, Eq, Debug)]
 pub enum Call {
@@ -22,14 +42,17 @@ pub enum Call {
         offered: Flags,
     },
     Frame {
+        way: Way,
         command: u32,
         time: u32,
         block: Vec<u8>,
     },
     HeartBeat {
+        way: Way,
         time: u32,
     },
     TimedOut {
+        way: Way,
         time: u32,
     },
     Set(Box<Record>),
@@ -37,17 +60,34 @@ pub enum Call {
 
 impl Call {
     pub fn name(&self) -> &'static str {
+        NAMES[usize::from(self.kind())]
+    }
+
+    /// The octet that a call begins with.
+    fn kind(&self) -> u8 {
+        let in_place = |way: &Way| if *way == Way::InPlace { 4 } else { 0 };
         match self {
-            Call::Make { .. } => "make",
-            Call::Frame { .. } => "frame",
-            Call::HeartBeat { .. } => "heart-beat",
-            Call::TimedOut { .. } => "timed out",
-            Call::Set(_) => "set",
+            Call::Make { .. } => 0,
+            Call::Frame { way, .. } => 1 + in_place(way),
+            Call::HeartBeat { way, .. } => 2 + in_place(way),
+            Call::TimedOut { way, .. } => 3 + in_place(way),
+            Call::Set(_) => 4,
         }
+    }
+
+    /// The call in place, if it is one of those that can be.
+    pub fn in_place(mut self) -> Call {
+        if let Call::Frame { way, .. } | Call::HeartBeat { way, .. } | Call::TimedOut { way, .. } =
+            &mut self
+        {
+            *way = Way::InPlace;
+        }
+        self
     }
 
     /// The call as the program reads it.
     pub fn octets(&self) -> Vec<u8> {
+        let kind = [self.kind()];
         match self {
             Call::Make {
                 sends,
@@ -55,31 +95,36 @@ impl Call {
                 offered,
             } => {
                 let numbers = [sends.to_be_bytes(), wants.to_be_bytes()].concat();
-                [&[0], &numbers[..], &offered.map(u8::from)].concat()
+                [&kind, &numbers[..], &offered.map(u8::from)].concat()
             }
             Call::Frame {
                 command,
                 time,
                 block,
+                ..
             } => {
                 let numbers = [*command, *time, block.len() as u32].map(u32::to_be_bytes);
-                [&[1], &numbers.concat()[..], block].concat()
+                [&kind, &numbers.concat()[..], block].concat()
             }
-            Call::HeartBeat { time } => [&[2], &time.to_be_bytes()[..]].concat(),
-            Call::TimedOut { time } => [&[3], &time.to_be_bytes()[..]].concat(),
-            Call::Set(record) => [&[4], &record.octets()[..]].concat(),
+            Call::HeartBeat { time, .. } | Call::TimedOut { time, .. } => {
+                [&kind, &time.to_be_bytes()[..]].concat()
+            }
+            Call::Set(record) => [&kind, &record.octets()[..]].concat(),
         }
     }
 
     /// The next call, if it is whole.
     fn read(reader: &mut Reader) -> Option<Call> {
-        Some(match reader.octet()? {
+        let kind = reader.octet()?;
+        let way = if kind > 4 { Way::InPlace } else { Way::ByValue };
+        Some(match kind {
             0 => Call::Make {
                 sends: reader.number()?,
                 wants: reader.number()?,
                 offered: reader.flags()?,
             },
-            1 => Call::Frame {
+            1 | 5 => Call::Frame {
+                way,
                 command: reader.number()?,
                 time: reader.number()?,
                 block: {
@@ -87,10 +132,12 @@ impl Call {
                     reader.octets(length)?.to_vec()
                 },
             },
-            2 => Call::HeartBeat {
+            2 | 6 => Call::HeartBeat {
+                way,
                 time: reader.number()?,
             },
-            3 => Call::TimedOut {
+            3 | 7 => Call::TimedOut {
+                way,
                 time: reader.number()?,
             },
             4 => Call::Set(Box::new(Record::read(reader)?)),
@@ -150,9 +197,10 @@ fn answer(record: &mut Record, call: &Call) -> String {
             command,
             time,
             block,
+            ..
         } => written(record.frame(*command, block, *time)),
-        Call::HeartBeat { time } => written(record.heart_beat(*time)),
-        Call::TimedOut { time } => match record.timed_out(*time) {
+        Call::HeartBeat { time, .. } => written(record.heart_beat(*time)),
+        Call::TimedOut { time, .. } => match record.timed_out(*time) {
             Ok(true) => "yes".to_string(),
             Ok(false) => "no".to_string(),
             Err(number) => format!("refused {number}"),

@@ -1,7 +1,8 @@
 // Calls on one session record, read from standard input, each as an octet, its kind, and what the kind asks; numbers have four octets,
 // high first. 0 make: the offers sends and wants, and three flags; 1 frame: command, time, length of the header block, and the block;
-// 2 heart-beat: time; 3 timed out: time; 4 set: a whole record, which becomes the session's. For each call a line with its answer and
-// the highest version shared, and the record after it, as kind 4 has it, with a line end behind.
+// 2 heart-beat: time; 3 timed out: time; 4 set: a whole record, which becomes the session's; 5, 6, 7 as 1, 2, 3, on the session where it
+// lies. For each call a line with its answer and the highest version shared, and the record after it, as kind 4 has it, with a line end
+// behind.
 ghost use Prim.Native.Nat.{_≤_, _<_};
 use libc::STDERR_FILENO;
 use libc::STDIN_FILENO;
@@ -14,6 +15,8 @@ use sessions::session::Outcome;
 use sessions::session::Session;
 use sessions::session::SessionAnswer;
 use sessions::session::TimedOut;
+
+mod in_place;
 
 // The session, and whether calls may follow.
 struct State {
@@ -188,22 +191,48 @@ fn came_to(outcome: Outcome) -> State {
     answered(session)
 }
 
-fn frame(session: Session, head: &[u8; 27]) -> State {
+// A frame, to the session by value, or lent.
+fn frame_by(session: Session, command: u32, block: &[u8], time: u32, lent: bool) -> Outcome {
+    if lent {
+        return in_place::frame(session, command, block, time);
+    }
+    session.frame(command, block, time)
+}
+
+fn frame(session: Session, head: &[u8; 27], lent: bool) -> State {
     let mut block = io::large_buffer();
     let n = at_most(number_at(head, 8));
     if !read_front(&mut block, n) {
         return cut(session);
     }
-    came_to(session.frame(number_at(head, 0), &block[0..n], number_at(head, 4)))
+    came_to(frame_by(
+        session,
+        number_at(head, 0),
+        &block[0..n],
+        number_at(head, 4),
+        lent,
+    ))
 }
 
 fn heart_beat(session: Session, head: &[u8; 27]) -> State {
     came_to(session.heart_beat(number_at(head, 0)))
 }
 
+fn heart_beat_in_place(session: Session, head: &[u8; 27]) -> State {
+    came_to(in_place::heart_beat(session, number_at(head, 0)))
+}
+
 fn timed_out(session: Session, head: &[u8; 27]) -> State {
     say_timed_out(session.timed_out(number_at(head, 0)));
     answered(session)
+}
+
+fn timed_out_in_place(session: Session, head: &[u8; 27]) -> State {
+    let outcome = in_place::timed_out(session, number_at(head, 0));
+    let answer = outcome.answer;
+    let after = outcome.session;
+    say_timed_out(answer);
+    answered(after)
 }
 
 fn set(session: Session, head: &[u8; 27]) -> State {
@@ -242,13 +271,13 @@ fn head_length(kind: u8) -> usize
 {
     match kind {
         0 => 11,
-        1 => 12,
+        1 | 5 => 12,
         4 => 27,
         _ => 4,
     }
 }
 
-// What stands behind a kind up to 4, and the call.
+// What stands behind a kind up to 7, and the call.
 fn call_of(session: Session, kind: u8) -> State {
     let h = read_head(head_length(kind));
     let head = h.octets;
@@ -257,10 +286,13 @@ fn call_of(session: Session, kind: u8) -> State {
     }
     match kind {
         0 => make(&head),
-        1 => frame(session, &head),
+        1 => frame(session, &head, false),
         2 => heart_beat(session, &head),
         3 => timed_out(session, &head),
-        _ => set(session, &head),
+        4 => set(session, &head),
+        5 => frame(session, &head, true),
+        6 => heart_beat_in_place(session, &head),
+        _ => timed_out_in_place(session, &head),
     }
 }
 
@@ -274,7 +306,7 @@ fn call(state: State) -> State {
             more: false,
         };
     }
-    if 4 < kind[0] {
+    if 7 < kind[0] {
         return stopped(session, b"a call has an unknown kind");
     }
     call_of(session, kind[0])

@@ -55,7 +55,7 @@ fn calls_change_only_what_they_may() {
             (Call::Make { .. } | Call::Set(_), _) => continue,
             (Call::TimedOut { .. }, _) | (_, Some(38 | 39)) => {}
             (_, Some(_)) => expected.phase = 2,
-            (Call::HeartBeat { time }, None) => expected.state.last_heard = *time,
+            (Call::HeartBeat { time, .. }, None) => expected.state.last_heard = *time,
             (Call::Frame { command, time, .. }, None) => {
                 let after = &reply.record;
                 expected.state.last_heard = *time;
@@ -75,7 +75,7 @@ fn calls_change_only_what_they_may() {
         }
         assert_eq!(reply.record, expected, "{call:?}");
     }
-    assert_eq!(answers.len(), 2 + 1 + 15 + 3 + 3);
+    assert_eq!(answers.len(), 2 + 1 + 2 * (15 + 3 + 3));
 }
 
 /// The ids of one kind, each with its place, by what the history of accepted calls says.

@@ -5,7 +5,7 @@ use crate::item::COMMANDS;
 use crate::lives::life;
 use crate::random::Random;
 use crate::replay::{replay, write};
-use crate::session_calls::{read, replies};
+use crate::session_calls::{read, replies, Call, NAMES};
 use std::collections::BTreeSet;
 
 fn lines(stream: &[u8], sends: u32, wants: u32) -> String {
@@ -62,7 +62,7 @@ fn the_fixed_stream_is_replayed() {
     assert_eq!(answers, expected);
 }
 
-/// The answers to the fixed calls, group by group; a comma stands between two.
+/// The answers to the fixed calls by value, group by group; a comma stands between two.
 const ANSWERS: [&str; 9] = [
     "no,accepted,made,no,accepted,no,no,yes,yes,accepted,no,no,yes,set,no,yes,no",
     "set,accepted,accepted receipt,accepted receipt,accepted,refused 43,no,refused 40,refused 40,\
@@ -90,8 +90,20 @@ fn the_fixed_calls_are_answered() {
         .into_iter()
         .map(|reply| reply.answer)
         .collect();
-    let expected = ANSWERS.join(",");
+    let once = ANSWERS.join(",");
+    let expected = [&once, "set", &once].join(",");
     assert_eq!(answers, expected.split(',').collect::<Vec<_>>());
+}
+
+/// The calls in place have the replies of those by value.
+#[test]
+fn the_fixed_calls_in_place_have_the_same_replies() {
+    let calls = fixed::all();
+    let half = calls.len() / 2;
+    let replies = replies(&calls);
+    assert_eq!(replies[..half], replies[half + 1..]);
+    let names: BTreeSet<&str> = calls.iter().map(Call::name).collect();
+    assert_eq!(names, BTreeSet::from(NAMES));
 }
 
 /// Where the fixed calls put ids and what they leave of last-heard and intervals.

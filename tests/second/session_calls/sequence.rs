@@ -2,7 +2,7 @@
 
 use super::blocks::block;
 use super::records::{self, interval, other_flags, over_limit, time};
-use super::{first_record, Call, Reply};
+use super::{first_record, Call, Reply, Way};
 use crate::calls::unknown_command;
 use crate::client::right::{leaving, right};
 use crate::client::wrong::{wrong, FRESH, OPEN};
@@ -46,12 +46,21 @@ fn call(random: &mut Random, record: &Record) -> Call {
     if random.once_in(if ended { 2 } else { 12 }) {
         return another(random);
     }
-    match random.below(8) {
-        0 => Call::HeartBeat { time: time(random) },
+    let call = match random.below(8) {
+        0 => Call::HeartBeat {
+            way: Way::ByValue,
+            time: time(random),
+        },
         1 | 2 => Call::TimedOut {
+            way: Way::ByValue,
             time: time_to_ask(random, record),
         },
         _ => frame(random, session),
+    };
+    if random.once_in(2) {
+        call.in_place()
+    } else {
+        call
     }
 }
 
@@ -96,6 +105,7 @@ fn frame(random: &mut Random, session: Option<Session>) -> Call {
     let known = frame.command.0 as u32;
     let unknown = random.once_in(24);
     Call::Frame {
+        way: Way::ByValue,
         command: if unknown {
             unknown_command(random)
         } else {
