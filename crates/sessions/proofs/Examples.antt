@@ -1,43 +1,147 @@
--- Document 01's session examples, and a short life of a client, as one table. A trial.
-use mathlib.Core.Path.{_≡_, refl}
-use mathlib.Core.Bool.{Bool, true, false}
-use mathlib.Core.List.{List, [], _∷_, _++_}
-use Prim.Native.Nat.{ℕ}
-use Prim.Native.String.{String}
-use Rattle.headers.specs.Rows.{octets-of}
-use Rattle.headers.specs.Block.{Entry, image, entries, entries-within, at-record}
+-- The examples hold. Assumes nothing.
+--     lives-hold               every row's claim
+--     flags-and-clock-hold     the clock, and the flags that no row shows
+use mathlib.Core.Path.{refl}
+use Rattle.headers.specs.Rows.{All}
+use Rattle.headers.specs.Block.{entries, entries-within, at-record}
 use Rattle.headers.specs.Numbers.{evaluate, numeral, amount}
-use Rattle.headers.specs.Answers.{Answer, accepted, refused, is-block}
+use Rattle.headers.specs.Answers.{is-block}
 use Rattle.sessions.specs.Stores.{ids, laid, clean, distinct, valid-store, replaced}
 use Rattle.sessions.specs.Values.{split, is-item, versions, heart-beats}
-use Rattle.sessions.specs.Opening.{passed}
 use Rattle.sessions.specs.Sessions.{is-valid}
-use Rattle.sessions.specs.Calls.{made, making-answer, frame-answer, frame-session, heart-beat-answer, heart-beat-session}
-use Rattle.sessions.specs.Histories.{Call, frame, heart-beat, answer-to, next, after}
-use Rattle.sessions.specs.declared.session.Session.{Session}
+use Rattle.sessions.specs.Calls.{made, making-answer, frame-answer, frame-session, heart-beat-answer, heart-beat-session, timed-out-answer}
+use Rattle.sessions.specs.Examples.{Holds, lives, FlagsAndClock}
+use Rattle.sessions.specs.Examples.{intervals, clocks, makings, versions-offered, heart-beats-offered, missing-headers, accepted-frames}
+use Rattle.sessions.specs.Examples.{repeated-headers, out-of-turn, bad-lengths, live-ids, full-stores, kept-and-closed, records}
 
-abbrev entry : String → String → Entry
-entry n v = record { name = octets-of n; value = octets-of v }
+-- the definitions that a row is computed by: the calls, header blocks and their values, stores
+unfoldable calls : Unit {0}
+unfolding made making-answer frame-answer frame-session heart-beat-answer heart-beat-session timed-out-answer is-valid
+calls = tt
 
-abbrev connect : Call
-connect = frame 5 (image (entry "accept-version" "1.0,1.2" ∷ entry "host" "h" ∷ entry "heart-beat" "1000,0" ∷ [])) 7
+unfoldable blocks : Unit {0}
+unfolding is-block entries entries-within at-record evaluate numeral amount versions heart-beats split is-item
+blocks = tt
 
-abbrev first : Session
-first = made 500 2000 (false ∷ false ∷ true ∷ [])
+unfoldable stores : Unit {0}
+unfolding valid-store ids clean distinct laid replaced
+stores = tt
 
-abbrev pub answers : Session → List Call → List Answer
-answers s [] = []
-answers s (c ∷ cs) = answer-to s c ∷ answers (next s c) cs
+-- a row holds, and so do those after it
+infixr 5 _also_
+abbrev _also_ : {A B : Type 0} → A → B → A × B
+a also b = (a, b)
 
--- "Offers 1000,0 and 500,2000 give 2000 and 0."
-pub offers : ((after first (connect ∷ [])) .inbound ≡ 2000) × ((after first (connect ∷ [])) .outbound ≡ 0)
-unfolding made making-answer frame-answer frame-session is-block entries entries-within at-record evaluate numeral amount versions heart-beats split is-item is-valid valid-store ids clean distinct laid
-offers = (refl, refl)
+intervals-hold : All Holds intervals
+unfolding intervals calls blocks stores
+intervals-hold = refl also refl also refl also refl also refl also refl also refl also refl also tt
 
-pub clock : passed 10 4294967290 ≡ 16
-clock = refl
+clocks-hold : All Holds clocks
+unfolding clocks calls blocks stores
+clocks-hold = refl also refl also refl also refl also refl also tt
 
-pub life : answers first (connect ∷ frame 14 (image (entry "destination" "/d" ∷ entry "id" "a" ∷ [])) 8 ∷ frame 14 (image (entry "destination" "/d" ∷ entry "id" "a" ∷ entry "receipt" "r" ∷ [])) 9 ∷ heart-beat 10 ∷ [])
-    ≡ accepted (0 ∷ []) ∷ accepted (0 ∷ []) ∷ refused 45 ∷ refused 40 ∷ []
-unfolding made making-answer frame-answer frame-session heart-beat-answer heart-beat-session is-block entries entries-within at-record evaluate numeral amount versions heart-beats split is-item is-valid valid-store ids clean distinct laid replaced
-life = refl
+makings-hold : All Holds makings
+unfolding makings calls blocks stores
+makings-hold = refl also refl also refl also refl also refl also refl also refl also refl also tt
+
+versions-offered-hold : All Holds versions-offered
+unfolding versions-offered calls blocks stores
+versions-offered-hold =
+    refl also refl also refl also refl also refl also refl also refl also refl also
+    refl also refl also refl also refl also refl also refl also refl also refl also
+    refl also refl also
+    tt
+
+heart-beats-offered-hold : All Holds heart-beats-offered
+unfolding heart-beats-offered calls blocks stores
+heart-beats-offered-hold =
+    refl also refl also refl also refl also refl also refl also refl also refl also
+    refl also refl also
+    tt
+
+missing-headers-hold : All Holds missing-headers
+unfolding missing-headers calls blocks stores
+missing-headers-hold =
+    refl also refl also refl also refl also refl also refl also refl also refl also
+    refl also refl also refl also refl also refl also
+    tt
+
+accepted-frames-hold : All Holds accepted-frames
+unfolding accepted-frames calls blocks stores
+accepted-frames-hold = refl also refl also refl also refl also refl also tt
+
+repeated-headers-hold : All Holds repeated-headers
+unfolding repeated-headers calls blocks stores
+repeated-headers-hold = refl also tt
+
+out-of-turn-hold : All Holds out-of-turn
+unfolding out-of-turn calls blocks stores
+out-of-turn-hold =
+    refl also refl also refl also refl also refl also refl also refl also refl also
+    refl also refl also refl also refl also refl also refl also refl also refl also
+    refl also refl also refl also
+    tt
+
+bad-lengths-hold : All Holds bad-lengths
+unfolding bad-lengths calls blocks stores
+bad-lengths-hold =
+    refl also refl also refl also refl also refl also refl also refl also refl also
+    refl also refl also refl also refl also
+    tt
+
+live-ids-hold : All Holds live-ids
+unfolding live-ids calls blocks stores
+live-ids-hold =
+    refl also refl also refl also refl also refl also refl also refl also refl also
+    refl also refl also refl also refl also
+    tt
+
+full-stores-hold : All Holds full-stores
+unfolding full-stores calls blocks stores
+full-stores-hold = refl also refl also refl also refl also refl also refl also tt
+
+kept-and-closed-hold : All Holds kept-and-closed
+unfolding kept-and-closed calls blocks stores
+kept-and-closed-hold = refl also refl also refl also tt
+
+records-hold : All Holds records
+unfolding records calls blocks stores
+records-hold =
+    refl also refl also refl also refl also refl also refl also refl also refl also
+    refl also refl also refl also refl also refl also refl also refl also refl also
+    refl also refl also refl also refl also refl also refl also refl also
+    tt
+
+pub lives-hold : All (All Holds) lives
+lives-hold =
+    intervals-hold also
+    clocks-hold also
+    makings-hold also
+    versions-offered-hold also
+    heart-beats-offered-hold also
+    missing-headers-hold also
+    accepted-frames-hold also
+    repeated-headers-hold also
+    out-of-turn-hold also
+    bad-lengths-hold also
+    live-ids-hold also
+    full-stores-hold also
+    kept-and-closed-hold also
+    records-hold also
+    tt
+
+pub flags-and-clock-hold : FlagsAndClock
+unfolding blocks
+flags-and-clock-hold =
+    record {
+      rolled-over = refl;
+      not-rolled-over = refl;
+      versions-1-0 = refl;
+      versions-1-1 = refl;
+      versions-1-2 = refl;
+      both-1-0 = refl;
+      both-1-1 = refl;
+      highest-1-0 = refl;
+      highest-1-1 = refl;
+      highest-1-2 = refl;
+    }

@@ -10,3 +10,4 @@ pub mod Histories
 pub mod Places
 pub mod Reads
 pub mod Steps
+pub mod Examples

@@ -1,0 +1,707 @@
+-- Short lives of sessions as a table, and what a row claims: document 01's session examples, and rows that together have every command,
+-- header, version, limit and number of a session. That all hold is proofs/Examples.antt. Assumes nothing.
+use mathlib.Core.Path.{_≡_}
+use mathlib.Core.Bool.{Bool, true, false}
+use mathlib.Core.Option.{some}
+use mathlib.Core.List.{List, [], _∷_, _++_, map}
+use Prim.Native.Nat.{ℕ}
+use Prim.Native.String.{String}
+use lib.ListN.{replicate}
+use Rattle.headers.specs.Rows.{octets-of}
+use Rattle.headers.specs.Block.{Entry, image}
+use Rattle.headers.specs.Answers.{Answer, accepted, refused}
+use Rattle.frames.specs.Grammar.{Command, number, ABORT, ACK, BEGIN, COMMIT, CONNECT, CONNECTED, DISCONNECT, ERROR}
+use Rattle.frames.specs.Grammar.{MESSAGE, NACK, RECEIPT, SEND, STOMP, SUBSCRIBE, UNSUBSCRIBE}
+use Rattle.sessions.specs.Values.{versions}
+use Rattle.sessions.specs.Opening.{shared-flags, highest, passed}
+use Rattle.sessions.specs.Sessions.{fresh-phase, open-phase, closed-phase, fresh, ids-of, with-ids, with-stores, with-state, heard}
+use Rattle.sessions.specs.Calls.{made, making-answer, timed-out-answer}
+use Rattle.sessions.specs.Histories.{Call, frame, heart-beat, Event, trace, after}
+use Rattle.sessions.specs.declared.command.Kind.the-variants.{Subscriptions, Transactions}
+use Rattle.sessions.specs.declared.session.Session.{Session}
+
+-- ---- A row
+
+-- How a session begins: made with offers, with what making answers; or given, as any record may be.
+pub data Start : Type 0 where
+  making : (sends wants : ℕ) (offered : List Bool) (answer : Answer) → Start
+  given : Session → Start
+
+-- What a session has: its offers, its intervals, its live ids in the order of their places, and the highest version shared.
+pub record State : Type 0 where
+  pub sends : ℕ
+  pub wants : ℕ
+  pub offered : List Bool
+  pub phase : ℕ
+  pub inbound : ℕ
+  pub outbound : ℕ
+  pub last-heard : ℕ
+  pub subscriptions : List (List ℕ)
+  pub transactions : List (List ℕ)
+  pub highest-shared : ℕ
+
+-- The question whether the peer is timed out, at a time, with its answer.
+pub record Question : Type 0 where
+  pub time : ℕ
+  pub answer : Answer
+
+-- A life: how the session begins, the calls on it with their answers, what it has then, and questions that it is then asked.
+pub record Life : Type 0 where
+  pub start : Start
+  pub events : List Event
+  pub left : State
+  pub asked : List Question
+
+-- ---- What a row claims
+
+abbrev pub started : Start → Start
+started (making sends wants offered a) = making sends wants offered (making-answer sends wants offered)
+started (given s) = given s
+
+abbrev pub session-of : Start → Session
+session-of (making sends wants offered a) = made sends wants offered
+session-of (given s) = s
+
+abbrev pub without-free : List (List ℕ) → List (List ℕ)
+without-free [] = []
+without-free ([] ∷ ids) = without-free ids
+without-free ((x ∷ xs) ∷ ids) = (x ∷ xs) ∷ without-free ids
+
+abbrev pub state-of : Session → State
+state-of s = record {
+  sends = s .sends;
+  wants = s .wants;
+  offered = s .offered;
+  phase = s .phase;
+  inbound = s .inbound;
+  outbound = s .outbound;
+  last-heard = s .«last_heard»;
+  subscriptions = without-free (ids-of Subscriptions s);
+  transactions = without-free (ids-of Transactions s);
+  highest-shared = highest (s .shared);
+}
+
+abbrev pub calls : List Event → List Call
+calls es = map (λ (e : Event). e .call) es
+
+abbrev pub asked-of : Session → Question → Question
+asked-of s q = record { time = q .time; answer = timed-out-answer s (q .time) }
+
+-- the life that the definitions give for the same beginning, calls and questions
+abbrev pub defined : Life → Life
+defined l = record {
+  start = started (l .start);
+  events = trace (session-of (l .start)) (calls (l .events));
+  left = state-of (after (session-of (l .start)) (calls (l .events)));
+  asked = map (asked-of (after (session-of (l .start)) (calls (l .events)))) (l .asked);
+}
+
+abbrev pub Holds : Life → Type 0
+Holds l = defined l ≡ l
+
+-- ---- Words for rows
+
+infix 70 _⇒_
+abbrev _⇒_ : Call → Answer → Event
+c ⇒ a = record { call = c; answer = a }
+
+-- accepted, and no receipt is owed; accepted, and one is
+abbrev ok : Answer
+ok = accepted (0 ∷ [])
+
+abbrev receipt-owed : Answer
+receipt-owed = accepted (1 ∷ [])
+
+-- the peer is timed out at a time, and it is not
+abbrev late : ℕ → Question
+late time = record { time = time; answer = accepted (1 ∷ []) }
+
+abbrev in-time : ℕ → Question
+in-time time = record { time = time; answer = accepted (0 ∷ []) }
+
+abbrev entry : String → String → Entry
+entry n v = record { name = octets-of n; value = octets-of v }
+
+abbrev frame-of : Command → List Entry → ℕ → Call
+frame-of c es time = frame (number c) (image es) time
+
+abbrev v1-2 : List Bool
+v1-2 = false ∷ false ∷ true ∷ []
+
+-- a server that offers 1.2 and no heart-beats, and a client that opens a session with it at time 1
+abbrev server : Start
+server = making 0 0 v1-2 (accepted [])
+
+abbrev connect : Event
+connect = frame-of CONNECT (entry "accept-version" "1.2" ∷ entry "host" "h" ∷ []) 1 ⇒ ok
+
+-- that session, in a phase, last heard from at a time, with these live ids
+abbrev having : ℕ → ℕ → List String → List String → State
+having phase time subscriptions transactions = record {
+  sends = 0;
+  wants = 0;
+  offered = v1-2;
+  phase = phase;
+  inbound = 0;
+  outbound = 0;
+  last-heard = time;
+  subscriptions = map octets-of subscriptions;
+  transactions = map octets-of transactions;
+  highest-shared = 12;
+}
+
+-- the same before it is opened
+abbrev unopened : ℕ → ℕ → State
+unopened phase time = record {
+  sends = 0;
+  wants = 0;
+  offered = v1-2;
+  phase = phase;
+  inbound = 0;
+  outbound = 0;
+  last-heard = time;
+  subscriptions = [];
+  transactions = [];
+  highest-shared = 0;
+}
+
+-- a frame that is refused with a number as the first, and as one after the session was opened
+abbrev first-refused : Command → List Entry → ℕ → Life
+first-refused c es k = record { start = server; events = frame-of c es 1 ⇒ refused k ∷ []; left = unopened closed-phase 0; asked = [] }
+
+abbrev then-refused : Command → List Entry → ℕ → Life
+then-refused c es k = record { start = server; events = connect ∷ frame-of c es 2 ⇒ refused k ∷ []; left = having closed-phase 1 [] []; asked = [] }
+
+-- ---- The rows
+
+-- "Offers 1000,0 and 500,2000 give 2000 and 0", and the other way round: the client's and the server's offers, and the intervals from
+-- client to server and back. "0 if the client's first or the server's second is 0, else the larger."
+abbrev offers : String → ℕ → ℕ → ℕ → ℕ → Life
+offers client sends wants inbound outbound = record {
+  start = making sends wants v1-2 (accepted []);
+  events = frame-of CONNECT (entry "accept-version" "1.2" ∷ entry "host" "h" ∷ entry "heart-beat" client ∷ []) 1 ⇒ ok ∷ [];
+  left = record {
+    sends = sends;
+    wants = wants;
+    offered = v1-2;
+    phase = open-phase;
+    inbound = inbound;
+    outbound = outbound;
+    last-heard = 1;
+    subscriptions = [];
+    transactions = [];
+    highest-shared = 12;
+  };
+  asked = [];
+}
+
+unfoldable pub intervals : List Life
+intervals =
+    offers "1000,0" 500 2000 2000 0 ∷
+    offers "500,2000" 1000 0 0 2000 ∷
+    offers "2000,500" 0 1000 2000 0 ∷
+    offers "0,1000" 2000 500 0 2000 ∷
+    offers "300,400" 100 200 300 400 ∷
+    offers "0,0" 100 200 0 0 ∷
+    offers "3600000,3600000" 3600000 3600000 3600000 3600000 ∷
+    offers "0003600000,00" 1 1 3600000 0 ∷
+    []
+
+-- "more than twice that interval has passed since last-heard": the interval is 8. Heard from at 4,294,967,290, at 10 just twice that
+-- has passed. A heart-beat is heard too. A session that is not open, or whose interval is 0, is never timed out.
+abbrev heard-at : ℕ → ℕ → State
+heard-at phase time = record {
+  sends = 0;
+  wants = 8;
+  offered = v1-2;
+  phase = phase;
+  inbound = 8;
+  outbound = 0;
+  last-heard = time;
+  subscriptions = [];
+  transactions = [];
+  highest-shared = 12;
+}
+
+abbrev connect-at : ℕ → Event
+connect-at time = frame-of CONNECT (entry "accept-version" "1.2" ∷ entry "host" "h" ∷ entry "heart-beat" "5,0" ∷ []) time ⇒ ok
+
+unfoldable pub clocks : List Life
+clocks =
+    record {
+      start = making 0 8 v1-2 (accepted []);
+      events = connect-at 4294967290 ∷ [];
+      left = heard-at open-phase 4294967290;
+      asked = in-time 4294967290 ∷ in-time 4294967295 ∷ in-time 0 ∷ in-time 10 ∷ late 11 ∷ late 4294967289 ∷ [];
+    } ∷
+    record {
+      start = making 0 8 v1-2 (accepted []);
+      events = connect-at 4294967290 ∷ heart-beat 3 ⇒ ok ∷ [];
+      left = heard-at open-phase 3;
+      asked = late 2 ∷ in-time 3 ∷ in-time 19 ∷ late 20 ∷ [];
+    } ∷
+    record {
+      start = making 0 8 v1-2 (accepted []);
+      events = connect-at 1 ∷ frame-of DISCONNECT [] 2 ⇒ ok ∷ [];
+      left = heard-at closed-phase 2;
+      asked = in-time 100 ∷ [];
+    } ∷
+    record { start = server; events = connect ∷ []; left = having open-phase 1 [] []; asked = in-time 100 ∷ [] } ∷
+    record { start = server; events = heart-beat 1 ⇒ ok ∷ []; left = unopened fresh-phase 1; asked = in-time 100 ∷ [] } ∷
+    []
+
+-- "offers above 3,600,000, or with version marks other than 1.2 alone": refused with 34, and a closed session whose other fields are 0
+abbrev unmade : ℕ → ℕ → List Bool → Life
+unmade sends wants offered = record {
+  start = making sends wants offered (refused 34);
+  events = heart-beat 1 ⇒ refused 40 ∷ [];
+  left = record {
+    sends = 0;
+    wants = 0;
+    offered = false ∷ false ∷ false ∷ [];
+    phase = closed-phase;
+    inbound = 0;
+    outbound = 0;
+    last-heard = 0;
+    subscriptions = [];
+    transactions = [];
+    highest-shared = 0;
+  };
+  asked = in-time 100 ∷ [];
+}
+
+unfoldable pub makings : List Life
+makings =
+    unmade 3600001 0 v1-2 ∷
+    unmade 0 3600001 v1-2 ∷
+    unmade 0 0 (false ∷ false ∷ false ∷ []) ∷
+    unmade 0 0 (true ∷ false ∷ false ∷ []) ∷
+    unmade 0 0 (false ∷ true ∷ false ∷ []) ∷
+    unmade 0 0 (true ∷ false ∷ true ∷ []) ∷
+    unmade 0 0 (false ∷ true ∷ true ∷ []) ∷
+    unmade 0 0 (true ∷ true ∷ true ∷ []) ∷
+    []
+
+-- "31 malformed, 32 none shared"; 33 where heart-beat is not "two numbers, digits only, a comma between, each at most 3,600,000"
+abbrev opens-as : Command → String → Answer → State → Life
+opens-as c versions a left = record {
+  start = server;
+  events = frame-of c (entry "accept-version" versions ∷ entry "host" "h" ∷ []) 1 ⇒ a ∷ [];
+  left = left;
+  asked = [];
+}
+
+abbrev versions-accepted : Command → String → Life
+versions-accepted c versions = opens-as c versions ok (having open-phase 1 [] [])
+
+abbrev versions-refused : String → ℕ → Life
+versions-refused versions k = opens-as CONNECT versions (refused k) (unopened closed-phase 0)
+
+unfoldable pub versions-offered : List Life
+versions-offered =
+    versions-accepted CONNECT "1.2" ∷
+    versions-accepted STOMP "1.2" ∷
+    versions-accepted CONNECT "1.0,1.2" ∷
+    versions-accepted CONNECT "1.2,1.1,1.2,10.11" ∷
+    versions-refused "1.0,1.1" 32 ∷
+    versions-refused "2.2" 32 ∷
+    versions-refused "1.20" 32 ∷
+    versions-refused "01.2" 32 ∷
+    versions-refused "" 31 ∷
+    versions-refused "1" 31 ∷
+    versions-refused "1." 31 ∷
+    versions-refused ".2" 31 ∷
+    versions-refused "1.2," 31 ∷
+    versions-refused ",1.2" 31 ∷
+    versions-refused "1.2.0" 31 ∷
+    versions-refused "1.2, 1.1" 31 ∷
+    first-refused STOMP (entry "accept-version" "x" ∷ entry "host" "h" ∷ []) 31 ∷
+    first-refused STOMP (entry "accept-version" "1.1" ∷ entry "host" "h" ∷ []) 32 ∷
+    []
+
+abbrev heart-beat-refused : Command → String → Life
+heart-beat-refused c heart-beats = first-refused c (entry "accept-version" "1.2" ∷ entry "host" "h" ∷ entry "heart-beat" heart-beats ∷ []) 33
+
+unfoldable pub heart-beats-offered : List Life
+heart-beats-offered =
+    heart-beat-refused CONNECT "3600001,0" ∷
+    heart-beat-refused CONNECT "0,3600001" ∷
+    heart-beat-refused CONNECT "" ∷
+    heart-beat-refused CONNECT "1" ∷
+    heart-beat-refused CONNECT "1," ∷
+    heart-beat-refused CONNECT ",1" ∷
+    heart-beat-refused CONNECT "1,2,3" ∷
+    heart-beat-refused CONNECT "1, 2" ∷
+    heart-beat-refused STOMP "x,0" ∷
+    first-refused CONNECT (entry "accept-version" "1.1" ∷ entry "host" "h" ∷ entry "heart-beat" "x" ∷ []) 32 ∷
+    []
+
+-- "43 header missing": each header that a command needs
+unfoldable pub missing-headers : List Life
+missing-headers =
+    first-refused CONNECT (entry "host" "h" ∷ []) 43 ∷
+    first-refused CONNECT (entry "accept-version" "x" ∷ []) 43 ∷
+    first-refused STOMP (entry "host" "h" ∷ []) 43 ∷
+    first-refused STOMP (entry "accept-version" "1.2" ∷ []) 43 ∷
+    then-refused SEND (entry "transaction" "t" ∷ []) 43 ∷
+    then-refused SUBSCRIBE (entry "id" "" ∷ []) 43 ∷
+    then-refused SUBSCRIBE (entry "destination" "/d" ∷ []) 43 ∷
+    then-refused UNSUBSCRIBE (entry "destination" "/d" ∷ []) 43 ∷
+    then-refused ACK (entry "transaction" "t" ∷ []) 43 ∷
+    then-refused NACK (entry "transaction" "t" ∷ []) 43 ∷
+    then-refused BEGIN (entry "id" "a" ∷ []) 43 ∷
+    then-refused COMMIT (entry "id" "a" ∷ []) 43 ∷
+    then-refused ABORT (entry "id" "a" ∷ []) 43 ∷
+    []
+
+-- Every command with the headers that it needs and no more, accepted; and with a receipt, which CONNECT and STOMP never owe. Ids that
+-- were freed are entered again, in the first free place.
+unfoldable pub accepted-frames : List Life
+accepted-frames =
+    record {
+      start = server;
+      events =
+          connect ∷
+          heart-beat 2 ⇒ ok ∷
+          frame-of SUBSCRIBE (entry "destination" "/d" ∷ entry "id" "a" ∷ []) 3 ⇒ ok ∷
+          frame-of SUBSCRIBE (entry "destination" "/d" ∷ entry "id" "b" ∷ []) 4 ⇒ ok ∷
+          frame-of UNSUBSCRIBE (entry "id" "a" ∷ []) 5 ⇒ ok ∷
+          frame-of SUBSCRIBE (entry "destination" "/d" ∷ entry "id" "c" ∷ []) 6 ⇒ ok ∷
+          frame-of SUBSCRIBE (entry "destination" "/d" ∷ entry "id" "a" ∷ []) 7 ⇒ ok ∷
+          frame-of SEND (entry "destination" "/d" ∷ []) 8 ⇒ ok ∷
+          frame-of ACK (entry "id" "" ∷ []) 9 ⇒ ok ∷
+          frame-of NACK (entry "id" "a" ∷ []) 10 ⇒ ok ∷
+          [];
+      left = having open-phase 10 ("c" ∷ "b" ∷ "a" ∷ []) [];
+      asked = [];
+    } ∷
+    record {
+      start = server;
+      events =
+          connect ∷
+          frame-of BEGIN (entry "transaction" "t" ∷ []) 2 ⇒ ok ∷
+          frame-of BEGIN (entry "transaction" "u" ∷ []) 3 ⇒ ok ∷
+          frame-of SEND (entry "destination" "/d" ∷ entry "transaction" "t" ∷ []) 4 ⇒ ok ∷
+          frame-of ACK (entry "id" "m" ∷ entry "transaction" "t" ∷ []) 5 ⇒ ok ∷
+          frame-of NACK (entry "id" "m" ∷ entry "transaction" "u" ∷ []) 6 ⇒ ok ∷
+          frame-of COMMIT (entry "transaction" "t" ∷ []) 7 ⇒ ok ∷
+          frame-of BEGIN (entry "transaction" "v" ∷ []) 8 ⇒ ok ∷
+          frame-of ABORT (entry "transaction" "u" ∷ []) 9 ⇒ ok ∷
+          frame-of BEGIN (entry "transaction" "t" ∷ []) 10 ⇒ ok ∷
+          [];
+      left = having open-phase 10 [] ("v" ∷ "t" ∷ []);
+      asked = [];
+    } ∷
+    record {
+      start = server;
+      events = connect ∷ frame-of DISCONNECT [] 2 ⇒ ok ∷ frame-of SEND (entry "destination" "/d" ∷ []) 3 ⇒ refused 40 ∷ heart-beat 4 ⇒ refused 40 ∷ [];
+      left = having closed-phase 2 [] [];
+      asked = [];
+    } ∷
+    record {
+      start = server;
+      events =
+          frame-of CONNECT (entry "accept-version" "1.2" ∷ entry "host" "h" ∷ entry "receipt" "r" ∷ []) 1 ⇒ ok ∷
+          frame-of SUBSCRIBE (entry "destination" "/d" ∷ entry "id" "a" ∷ entry "receipt" "r" ∷ []) 2 ⇒ receipt-owed ∷
+          frame-of UNSUBSCRIBE (entry "id" "a" ∷ entry "receipt" "r" ∷ []) 3 ⇒ receipt-owed ∷
+          frame-of SEND (entry "destination" "/d" ∷ entry "receipt" "" ∷ []) 4 ⇒ receipt-owed ∷
+          frame-of ACK (entry "id" "a" ∷ entry "receipt" "r" ∷ []) 5 ⇒ receipt-owed ∷
+          frame-of NACK (entry "id" "a" ∷ entry "receipt" "r" ∷ []) 6 ⇒ receipt-owed ∷
+          frame-of BEGIN (entry "transaction" "t" ∷ entry "receipt" "r" ∷ []) 7 ⇒ receipt-owed ∷
+          frame-of COMMIT (entry "transaction" "t" ∷ entry "receipt" "r" ∷ []) 8 ⇒ receipt-owed ∷
+          frame-of BEGIN (entry "transaction" "t" ∷ entry "receipt" "r" ∷ []) 9 ⇒ receipt-owed ∷
+          frame-of ABORT (entry "transaction" "t" ∷ entry "receipt" "r" ∷ []) 10 ⇒ receipt-owed ∷
+          frame-of DISCONNECT (entry "receipt" "r" ∷ []) 11 ⇒ receipt-owed ∷
+          [];
+      left = having closed-phase 11 [] [];
+      asked = [];
+    } ∷
+    record {
+      start = server;
+      events = frame-of STOMP (entry "accept-version" "1.2" ∷ entry "host" "h" ∷ entry "receipt" "r" ∷ []) 1 ⇒ ok ∷ [];
+      left = having open-phase 1 [] [];
+      asked = [];
+    } ∷
+    []
+
+-- Of entries with one name the first counts.
+unfoldable pub repeated-headers : List Life
+repeated-headers =
+    record {
+      start = server;
+      events =
+          frame-of CONNECT (entry "accept-version" "1.2" ∷ entry "accept-version" "x" ∷ entry "host" "h" ∷ []) 1 ⇒ ok ∷
+          frame-of SUBSCRIBE (entry "destination" "/d" ∷ entry "id" "a" ∷ entry "id" "b" ∷ []) 2 ⇒ ok ∷
+          frame-of BEGIN (entry "transaction" "t" ∷ entry "transaction" "u" ∷ []) 3 ⇒ ok ∷
+          [];
+      left = having open-phase 3 ("a" ∷ []) ("t" ∷ []);
+      asked = [];
+    } ∷
+    []
+
+-- "41 a server's command", also of a session that is not open; "42 not open, or a second CONNECT/STOMP"
+unfoldable pub out-of-turn : List Life
+out-of-turn =
+    first-refused CONNECTED [] 41 ∷
+    first-refused ERROR [] 41 ∷
+    first-refused MESSAGE [] 41 ∷
+    first-refused RECEIPT [] 41 ∷
+    then-refused CONNECTED [] 41 ∷
+    then-refused ERROR [] 41 ∷
+    then-refused MESSAGE [] 41 ∷
+    then-refused RECEIPT [] 41 ∷
+    first-refused ABORT [] 42 ∷
+    first-refused ACK [] 42 ∷
+    first-refused BEGIN [] 42 ∷
+    first-refused COMMIT [] 42 ∷
+    first-refused DISCONNECT [] 42 ∷
+    first-refused NACK [] 42 ∷
+    first-refused SEND [] 42 ∷
+    first-refused SUBSCRIBE [] 42 ∷
+    first-refused UNSUBSCRIBE [] 42 ∷
+    then-refused CONNECT [] 42 ∷
+    then-refused STOMP [] 42 ∷
+    []
+
+-- "44 the id that names a subscription or transaction is empty or over 32": 32 octets are accepted, 33 are not, for either kind
+abbrev long : String
+long = "0123456789abcdef0123456789abcdef"
+
+abbrev longer : String
+longer = "0123456789abcdef0123456789abcdef0"
+
+unfoldable pub bad-lengths : List Life
+bad-lengths =
+    record {
+      start = server;
+      events =
+          connect ∷
+          frame-of SUBSCRIBE (entry "destination" "/d" ∷ entry "id" long ∷ []) 2 ⇒ ok ∷
+          frame-of BEGIN (entry "transaction" long ∷ []) 3 ⇒ ok ∷
+          frame-of SEND (entry "destination" "/d" ∷ entry "transaction" long ∷ []) 4 ⇒ ok ∷
+          frame-of UNSUBSCRIBE (entry "id" long ∷ []) 5 ⇒ ok ∷
+          [];
+      left = having open-phase 5 [] (long ∷ []);
+      asked = [];
+    } ∷
+    then-refused SUBSCRIBE (entry "destination" "/d" ∷ entry "id" "" ∷ []) 44 ∷
+    then-refused SUBSCRIBE (entry "destination" "/d" ∷ entry "id" longer ∷ []) 44 ∷
+    then-refused UNSUBSCRIBE (entry "id" "" ∷ []) 44 ∷
+    then-refused UNSUBSCRIBE (entry "id" longer ∷ []) 44 ∷
+    then-refused BEGIN (entry "transaction" "" ∷ []) 44 ∷
+    then-refused BEGIN (entry "transaction" longer ∷ []) 44 ∷
+    then-refused COMMIT (entry "transaction" "" ∷ []) 44 ∷
+    then-refused ABORT (entry "transaction" "" ∷ []) 44 ∷
+    then-refused SEND (entry "destination" "/d" ∷ entry "transaction" "" ∷ []) 44 ∷
+    then-refused ACK (entry "id" "m" ∷ entry "transaction" "" ∷ []) 44 ∷
+    then-refused NACK (entry "id" "m" ∷ entry "transaction" "" ∷ []) 44 ∷
+    []
+
+-- "45 id already live; 46 not live": ids of one kind do not count as ids of the other, and ids that were freed are live no more
+abbrev subscribe : String → ℕ → Call
+subscribe id time = frame-of SUBSCRIBE (entry "destination" "/d" ∷ entry "id" id ∷ []) time
+
+abbrev begin : String → ℕ → Call
+begin transaction time = frame-of BEGIN (entry "transaction" transaction ∷ []) time
+
+abbrev with-both : Command → List Entry → ℕ → Life
+with-both c es k = record {
+  start = server;
+  events = connect ∷ subscribe "a" 2 ⇒ ok ∷ begin "t" 3 ⇒ ok ∷ frame-of c es 4 ⇒ refused k ∷ [];
+  left = having closed-phase 3 ("a" ∷ []) ("t" ∷ []);
+  asked = [];
+}
+
+abbrev freed-by : Command → Life
+freed-by c = record {
+  start = server;
+  events =
+      connect ∷
+      begin "t" 2 ⇒ ok ∷
+      frame-of c (entry "transaction" "t" ∷ []) 3 ⇒ ok ∷
+      frame-of SEND (entry "destination" "/d" ∷ entry "transaction" "t" ∷ []) 4 ⇒ refused 46 ∷
+      [];
+  left = having closed-phase 3 [] [];
+  asked = [];
+}
+
+unfoldable pub live-ids : List Life
+live-ids =
+    with-both SUBSCRIBE (entry "destination" "/d" ∷ entry "id" "a" ∷ []) 45 ∷
+    with-both BEGIN (entry "transaction" "t" ∷ []) 45 ∷
+    with-both UNSUBSCRIBE (entry "id" "t" ∷ []) 46 ∷
+    with-both COMMIT (entry "transaction" "a" ∷ []) 46 ∷
+    with-both ABORT (entry "transaction" "a" ∷ []) 46 ∷
+    with-both SEND (entry "destination" "/d" ∷ entry "transaction" "a" ∷ []) 46 ∷
+    with-both ACK (entry "id" "a" ∷ entry "transaction" "a" ∷ []) 46 ∷
+    with-both NACK (entry "id" "a" ∷ entry "transaction" "a" ∷ []) 46 ∷
+    freed-by COMMIT ∷
+    freed-by ABORT ∷
+    record {
+      start = server;
+      events =
+          connect ∷
+          subscribe "a" 2 ⇒ ok ∷
+          frame-of UNSUBSCRIBE (entry "id" "a" ∷ []) 3 ⇒ ok ∷
+          frame-of UNSUBSCRIBE (entry "id" "a" ∷ []) 4 ⇒ refused 46 ∷
+          [];
+      left = having closed-phase 3 [] [];
+      asked = [];
+    } ∷
+    record {
+      start = server;
+      events = connect ∷ subscribe "t" 2 ⇒ ok ∷ begin "t" 3 ⇒ ok ∷ frame-of DISCONNECT (entry "transaction" "u" ∷ []) 4 ⇒ ok ∷ [];
+      left = having closed-phase 4 ("t" ∷ []) ("t" ∷ []);
+      asked = [];
+    } ∷
+    []
+
+-- "47 all places live": 16 subscriptions, 4 transactions; an id that is live gets 45 there too
+abbrev texts-16 : List String
+texts-16 = "a" ∷ "b" ∷ "c" ∷ "d" ∷ "e" ∷ "f" ∷ "g" ∷ "h" ∷ "i" ∷ "j" ∷ "k" ∷ "l" ∷ "m" ∷ "n" ∷ "o" ∷ "p" ∷ []
+
+abbrev texts-4 : List String
+texts-4 = "t" ∷ "u" ∷ "v" ∷ "w" ∷ []
+
+-- all calls at time 1, accepted; then one at time 2
+abbrev filled : (String → ℕ → Call) → List String → Call → Answer → List Event
+filled enter ids last a = (connect ∷ map (λ id. enter id 1 ⇒ ok) ids) ++ (last ⇒ a ∷ [])
+
+unfoldable pub full-stores : List Life
+full-stores =
+    record { start = server; events = filled subscribe texts-16 (subscribe "q" 2) (refused 47); left = having closed-phase 1 texts-16 []; asked = [] } ∷
+    record { start = server; events = filled subscribe texts-16 (subscribe "p" 2) (refused 45); left = having closed-phase 1 texts-16 []; asked = [] } ∷
+    record { start = server; events = filled subscribe texts-16 (begin "q" 2) ok; left = having open-phase 2 texts-16 ("q" ∷ []); asked = [] } ∷
+    record { start = server; events = filled begin texts-4 (begin "x" 2) (refused 47); left = having closed-phase 1 [] texts-4; asked = [] } ∷
+    record { start = server; events = filled begin texts-4 (begin "t" 2) (refused 45); left = having closed-phase 1 [] texts-4; asked = [] } ∷
+    record { start = server; events = filled begin texts-4 (subscribe "x" 2) ok; left = having open-phase 2 ("x" ∷ []) texts-4; asked = [] } ∷
+    []
+
+-- "39 unknown command or malformed sheet", which leaves the session as it was, in any phase; "40 closed", for every other call
+unfoldable pub kept-and-closed : List Life
+kept-and-closed =
+    record {
+      start = server;
+      events = frame 0 [] 1 ⇒ refused 39 ∷ frame 16 [] 1 ⇒ refused 39 ∷ frame (number CONNECT) (72 ∷ []) 1 ⇒ refused 39 ∷ connect ∷ [];
+      left = having open-phase 1 [] [];
+      asked = [];
+    } ∷
+    record {
+      start = server;
+      events = connect ∷ frame 0 [] 2 ⇒ refused 39 ∷ frame 16 [] 2 ⇒ refused 39 ∷ frame (number ERROR) (72 ∷ []) 2 ⇒ refused 39 ∷ subscribe "a" 3 ⇒ ok ∷ [];
+      left = having open-phase 3 ("a" ∷ []) [];
+      asked = [];
+    } ∷
+    record {
+      start = server;
+      events =
+          connect ∷
+          frame-of SEND [] 2 ⇒ refused 43 ∷
+          frame 0 [] 3 ⇒ refused 39 ∷
+          frame (number SEND) (72 ∷ []) 3 ⇒ refused 39 ∷
+          frame-of ERROR [] 3 ⇒ refused 40 ∷
+          frame-of CONNECT [] 3 ⇒ refused 40 ∷
+          frame-of DISCONNECT [] 3 ⇒ refused 40 ∷
+          heart-beat 3 ⇒ refused 40 ∷
+          [];
+      left = having closed-phase 1 [] [];
+      asked = [];
+    } ∷
+    []
+
+-- "38 unsound session record (unknown phase, length over 32, two equal live ids of one kind, non-zero unused octets, offer or interval
+-- over the limit, marks that making refuses unless closed)": before every other number, and the record stays as it is. Beside each of
+-- them, a record just within the rule.
+abbrev with-numbers : ℕ → ℕ → ℕ → ℕ → List Bool → ℕ → Session
+with-numbers sends wants inbound outbound offered phase = with-state (fresh sends wants offered) inbound outbound 0 (replicate 3 false) phase
+
+abbrev in-state : List Bool → ℕ → Session
+in-state offered phase = with-numbers 0 0 0 0 offered phase
+
+-- an open session with these ids in the first two places of each kind; and with these octets and lengths in the first place
+abbrev with-texts : List String → List String → Session
+with-texts subscriptions transactions =
+    with-ids Transactions (with-ids Subscriptions (in-state v1-2 open-phase) (map octets-of subscriptions ++ replicate 14 []))
+    (map octets-of transactions ++ replicate 2 [])
+
+abbrev with-octets : ℕ → ℕ → ℕ → ℕ → Session
+with-octets sub sub-len tx tx-len =
+    with-stores (in-state v1-2 open-phase) (sub ∷ replicate 511 0) (sub-len ∷ replicate 15 0) (tx ∷ replicate 127 0) (tx-len ∷ replicate 3 0)
+
+abbrev invalid : Session → Life
+invalid s = record {
+  start = given s;
+  events = heart-beat 1 ⇒ refused 38 ∷ frame 0 [] 1 ⇒ refused 38 ∷ frame-of SEND (entry "destination" "/d" ∷ []) 1 ⇒ refused 38 ∷ [];
+  left = state-of s;
+  asked = record { time = 1; answer = refused 38 } ∷ [];
+}
+
+abbrev valid : Session → Life
+valid s = record { start = given s; events = heart-beat 1 ⇒ ok ∷ []; left = state-of (heard s 1); asked = in-time 1 ∷ [] }
+
+abbrev valid-closed : Session → Life
+valid-closed s = record { start = given s; events = heart-beat 1 ⇒ refused 40 ∷ []; left = state-of s; asked = in-time 1 ∷ [] }
+
+unfoldable pub records : List Life
+records =
+    invalid (in-state v1-2 3) ∷
+    valid (in-state v1-2 fresh-phase) ∷
+    valid (in-state v1-2 open-phase) ∷
+    valid-closed (in-state v1-2 closed-phase) ∷
+    invalid (with-octets 1 33 0 0) ∷
+    invalid (with-octets 0 0 1 33) ∷
+    valid (with-texts (long ∷ "" ∷ []) (long ∷ "" ∷ [])) ∷
+    invalid (with-texts ("a" ∷ "a" ∷ []) ("" ∷ "" ∷ [])) ∷
+    invalid (with-texts ("" ∷ "" ∷ []) ("a" ∷ "a" ∷ [])) ∷
+    valid (with-texts ("a" ∷ "b" ∷ []) ("a" ∷ "b" ∷ [])) ∷
+    invalid (with-octets 1 0 0 0) ∷
+    invalid (with-octets 0 0 1 0) ∷
+    valid (with-octets 1 1 1 1) ∷
+    invalid (with-numbers 3600001 0 0 0 v1-2 open-phase) ∷
+    invalid (with-numbers 0 3600001 0 0 v1-2 open-phase) ∷
+    invalid (with-numbers 0 0 3600001 0 v1-2 open-phase) ∷
+    invalid (with-numbers 0 0 0 3600001 v1-2 open-phase) ∷
+    invalid (with-numbers 0 0 0 3600001 v1-2 closed-phase) ∷
+    valid (with-numbers 3600000 3600000 3600000 3600000 v1-2 open-phase) ∷
+    invalid (in-state (true ∷ false ∷ true ∷ []) open-phase) ∷
+    invalid (in-state (false ∷ true ∷ true ∷ []) fresh-phase) ∷
+    invalid (in-state (false ∷ false ∷ false ∷ []) open-phase) ∷
+    valid-closed (in-state (true ∷ true ∷ false ∷ []) closed-phase) ∷
+    []
+
+-- ---- The whole table
+
+abbrev pub lives : List (List Life)
+lives =
+    intervals ∷
+    clocks ∷
+    makings ∷
+    versions-offered ∷
+    heart-beats-offered ∷
+    missing-headers ∷
+    accepted-frames ∷
+    repeated-headers ∷
+    out-of-turn ∷
+    bad-lengths ∷
+    live-ids ∷
+    full-stores ∷
+    kept-and-closed ∷
+    records ∷
+    []
+
+-- ---- The clock, and what no life shows while a server offers 1.2 alone
+
+pub record FlagsAndClock : Type 0 where
+  -- "Then 4,294,967,290, now 10: 16 passed."
+  pub rolled-over : passed 10 4294967290 ≡ 16
+  pub not-rolled-over : passed 4294967290 10 ≡ 4294967280
+  -- "The versions both sides have are kept as three yes-or-no marks"
+  pub versions-1-0 : versions (octets-of "1.0") ≡ some (true ∷ false ∷ false ∷ [])
+  pub versions-1-1 : versions (octets-of "1.1,9.9") ≡ some (false ∷ true ∷ false ∷ [])
+  pub versions-1-2 : versions (octets-of "1.2,1.0") ≡ some (true ∷ false ∷ true ∷ [])
+  pub both-1-0 : shared-flags (true ∷ true ∷ false ∷ []) (true ∷ false ∷ true ∷ []) ≡ true ∷ false ∷ false ∷ []
+  pub both-1-1 : shared-flags (false ∷ true ∷ true ∷ []) (true ∷ true ∷ false ∷ []) ≡ false ∷ true ∷ false ∷ []
+  -- "the highest is chosen"
+  pub highest-1-0 : highest (true ∷ false ∷ false ∷ []) ≡ 10
+  pub highest-1-1 : highest (true ∷ true ∷ false ∷ []) ≡ 11
+  pub highest-1-2 : highest (true ∷ true ∷ true ∷ []) ≡ 12
