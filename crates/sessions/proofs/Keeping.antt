@@ -22,7 +22,7 @@ use Rattle.frames.specs.Grammar.{DISCONNECT}
 use Rattle.sessions.specs.Stores.{distinct, valid-store, used, use-checks}
 use Rattle.sessions.specs.Places.{Fits}
 use Rattle.sessions.specs.Values.{HeartBeats, heart-beat-max, both, heart-beats-in, heart-beats, split}
-use Rattle.sessions.specs.Opening.{only-1-2, interval}
+use Rattle.sessions.specs.Opening.{may-offer, interval}
 use Rattle.sessions.specs.Headers.{value-of, is, opens, naming}
 use Rattle.sessions.specs.Sessions.{id-max, fresh-phase, open-phase, closed-phase, in-phase, fresh, ids-of, with-stores, with-ids, with-phase, closed, heard, right-flags, small-numbers, valid-numbers, valid-ids, is-valid, Sized}
 use Rattle.sessions.specs.Calls.{making-checks, making-answer, made-by, made, shared-by, heart-beats-of, client-versions, client-heart-beats, opened-by, usage-of, named-id, naming-checks, frame-answer, naming-effect, effect, frame-session, heart-beat-answer, heart-beat-session}
@@ -177,9 +177,9 @@ module _ (s : Session) (h : Held s) where
   held-heard : (time : ℕ) → Held (heard s time)
   held-heard time = held-by (heard s time) (refl, refl, refl, refl) (h .valid .known) (h .valid .offers) (h .valid .intervals) (h .valid .flags)
 
-  -- a fresh one offers 1.2 alone
-  fresh-flags : in-phase fresh-phase s ≡ true → only-1-2 (s .offered) ≡ true
-  fresh-flags f = sym (ap (λ p. eqb p closed-phase || only-1-2 (s .offered)) (eqb-true (s .phase) fresh-phase f)) ∙ h .valid .flags
+  -- a fresh one offers what it may
+  fresh-flags : in-phase fresh-phase s ≡ true → may-offer (s .offered) ≡ true
+  fresh-flags f = sym (ap (λ p. eqb p closed-phase || may-offer (s .offered)) (eqb-true (s .phase) fresh-phase f)) ∙ h .valid .flags
 
   held-opened : in-phase fresh-phase s ≡ true → (shared : List Bool) (o : Option HeartBeats) → OfSome Small o → Held (opened-by s shared o)
   held-opened f shared none small = h
@@ -267,7 +267,7 @@ held-after s (c ∷ cs) h = held-after (next s c) cs (held-next s c h)
 -- ---- a session that is made
 
 held-fresh : (sends wants : ℕ) (offered : List Bool) (phase : ℕ) → sends ≤ heart-beat-max → wants ≤ heart-beat-max → phase ≤ closed-phase
-    → eqb phase closed-phase || only-1-2 offered ≡ true → Held (with-phase (fresh sends wants offered) phase)
+    → eqb phase closed-phase || may-offer offered ≡ true → Held (with-phase (fresh sends wants offered) phase)
 held-fresh sends wants offered phase a b known flags =
     record {
       sized = record {
@@ -292,13 +292,13 @@ held-made sends wants offered = by (making-answer sends wants offered) refl
   where
     by : (A : Answer) → settle (making-checks sends wants offered) [] ≡ A → Held (made-by A sends wants offered)
     by (accepted v) e =
-        let small : ltb heart-beat-max sends || (ltb heart-beat-max wants || not (only-1-2 offered)) ≡ false = all-pass (making-checks sends wants offered) [] v e .0 in
-        let rest = or-false-right (ltb heart-beat-max sends) (ltb heart-beat-max wants || not (only-1-2 offered)) small in
+        let small : ltb heart-beat-max sends || (ltb heart-beat-max wants || not (may-offer offered)) ≡ false = all-pass (making-checks sends wants offered) [] v e .0 in
+        let rest = or-false-right (ltb heart-beat-max sends) (ltb heart-beat-max wants || not (may-offer offered)) small in
         held-fresh sends wants offered fresh-phase
-        (ltb-false heart-beat-max sends (or-false-left (ltb heart-beat-max sends) (ltb heart-beat-max wants || not (only-1-2 offered)) small))
-        (ltb-false heart-beat-max wants (or-false-left (ltb heart-beat-max wants) (not (only-1-2 offered)) rest))
+        (ltb-false heart-beat-max sends (or-false-left (ltb heart-beat-max sends) (ltb heart-beat-max wants || not (may-offer offered)) small))
+        (ltb-false heart-beat-max wants (or-false-left (ltb heart-beat-max wants) (not (may-offer offered)) rest))
         (omega arith)
-        (not-false (only-1-2 offered) (or-false-right (ltb heart-beat-max wants) (not (only-1-2 offered)) rest))
+        (not-false (may-offer offered) (or-false-right (ltb heart-beat-max wants) (not (may-offer offered)) rest))
     by (refused k) e = held-fresh 0 0 (replicate 3 false) closed-phase (omega arith) (omega arith) (omega arith) refl
 
 -- ---- validity is kept

@@ -13,9 +13,9 @@ use borrow.Author.Tests.{eqb-true}
 use Rattle.headers.specs.Rows.{every}
 use Rattle.headers.specs.Block.{Entry, entries, listed}
 use Rattle.headers.specs.Answers.{accepted, refused, Check, settle}
-use Rattle.headers.proofs.Rows.{and-left, and-right, and-no}
+use Rattle.headers.proofs.Rows.{and-left, and-right}
 use Rattle.sessions.specs.Values.{heart-beat-max}
-use Rattle.sessions.specs.Opening.{only-1-2}
+use Rattle.sessions.specs.Opening.{may-offer}
 use Rattle.sessions.specs.Headers.{has, opens, naming}
 use Rattle.sessions.specs.Sessions.{fresh, closed, heard, is-valid}
 use Rattle.sessions.specs.Answers.{bit, answer-says}
@@ -131,7 +131,7 @@ module _ (s : Session) (n : ℕ) (es : List Entry) (time : ℕ) (r : Outcome) wh
 
   -- an id that is not named, and one that is
   pub naming-none : (receipt : Bool) → named-id n es ≡ none → r ≡ accepted-by s receipt time → GivesNaming s n es receipt time r
-  naming-none receipt e q = rw e (gives-accepted _ receipt s s time r (simp and-no) q)
+  naming-none receipt e q = rw e (gives-accepted _ receipt s s time r refl q)
 
   pub naming-some : (receipt : Bool) (id : List ℕ) → named-id n es ≡ some id → GivesUse (naming n .kind) s (usage-of n) id receipt time r → GivesNaming s n es receipt time r
   naming-some receipt id e g = rw e g
@@ -149,12 +149,12 @@ unfolding heart-beat-answer heart-beat-session
 heart-beat-gives s time r g = (g .answered, g .left)
 
 module _ (sends wants : ℕ) (offered : List Bool) (made-session : Session) where
-  pub making-refused : ltb heart-beat-max sends || (ltb heart-beat-max wants || not (only-1-2 offered)) ≡ true → made-session ≡ closed (fresh 0 0 (replicate 3 false))
+  pub making-refused : ltb heart-beat-max sends || (ltb heart-beat-max wants || not (may-offer offered)) ≡ true → made-session ≡ closed (fresh 0 0 (replicate 3 false))
       → (refused 34 ≡ making-answer sends wants offered) × (made-session ≡ made sends wants offered)
   unfolding making-answer made
   making-refused h e = rw h (refl, e)
 
-  pub making-made : ltb heart-beat-max sends || (ltb heart-beat-max wants || not (only-1-2 offered)) ≡ false → made-session ≡ fresh sends wants offered
+  pub making-made : ltb heart-beat-max sends || (ltb heart-beat-max wants || not (may-offer offered)) ≡ false → made-session ≡ fresh sends wants offered
       → (accepted [] ≡ making-answer sends wants offered) × (made-session ≡ made sends wants offered)
   unfolding making-answer made
   making-made h e = rw h (refl, e)

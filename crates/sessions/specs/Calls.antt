@@ -6,13 +6,12 @@ use mathlib.Core.List.{List, [], _∷_}
 use Prim.Native.Nat.{ℕ}
 use lib.ListN.{replicate}
 use lib.Dec.{eqb, ltb}
-use Rattle.headers.specs.Rows.{empty, any}
 use Rattle.headers.specs.Block.{Entry, entries, listed}
 use Rattle.headers.specs.Answers.{Answer, accepted, refused, Check, settle, is-block}
 use Rattle.frames.specs.Grammar.{DISCONNECT}
-use Rattle.sessions.specs.Stores.{live, used, enters, wants-live, bad-length}
+use Rattle.sessions.specs.Stores.{used, use-checks}
 use Rattle.sessions.specs.Values.{HeartBeats, versions, heart-beats, heart-beat-max}
-use Rattle.sessions.specs.Opening.{shared-flags, none-shared, only-1-2, interval, overdue}
+use Rattle.sessions.specs.Opening.{shared-flags, none-shared, may-offer, interval, overdue}
 use Rattle.sessions.specs.Headers.{value-of, has, is-some, lacks, is, unknown, from-server, opens, needed, names, names-id, naming}
 use Rattle.sessions.specs.Sessions.{id-max, fresh-phase, open-phase, closed-phase, in-phase, fresh, ids-of, with-ids, closed, opened, heard, is-valid}
 use Rattle.sessions.specs.Answers.{bit}
@@ -29,7 +28,7 @@ left-by (refused k) before after = cond (eqb k 38 || eqb k 39) before (closed be
 -- session whose other fields are 0".
 abbrev pub making-checks : ℕ → ℕ → List Bool → List Check
 making-checks sends wants offered =
-    record { fails = ltb heart-beat-max sends || (ltb heart-beat-max wants || not (only-1-2 offered)); number = 34 } ∷ []
+    record { fails = ltb heart-beat-max sends || (ltb heart-beat-max wants || not (may-offer offered)); number = 34 } ∷ []
 
 unfoldable pub making-answer : ℕ → ℕ → List Bool → Answer
 making-answer sends wants offered = settle (making-checks sends wants offered) []
@@ -85,25 +84,19 @@ named-id n es = cond (names-id (usage-of n)) (value-of (names (naming n .kind)) 
 abbrev pub named-ids : Session → ℕ → List (List ℕ)
 named-ids s n = ids-of (naming n .kind) s
 
--- a test of the id; where none is named it says no
-abbrev pub of-id : Option (List ℕ) → (List ℕ → Bool) → Bool
-of-id none f = false
-of-id (some id) f = f id
-
 -- ---- a frame
 
 -- "42 not open, or a second CONNECT/STOMP"
 abbrev pub out-of-phase : Session → ℕ → Bool
 out-of-phase s n = cond (opens n) (not (in-phase fresh-phase s)) (not (in-phase open-phase s))
 
--- "44 the id that names a subscription or transaction is empty or over 32; 45 id already live; 46 not live; 47 all places live"
+-- 44 to 47: the checks of the id that a frame names; a frame that names none passes them
+abbrev pub id-checks : Session → ℕ → Option (List ℕ) → List Check
+id-checks s n none = []
+id-checks s n (some id) = use-checks id-max (usage-of n) id (named-ids s n)
+
 abbrev pub naming-checks : Session → ℕ → List Entry → List Check
-naming-checks s n es =
-    record { fails = of-id (named-id n es) (bad-length id-max); number = 44 } ∷
-    record { fails = enters (usage-of n) && of-id (named-id n es) (λ id. live id (named-ids s n)); number = 45 } ∷
-    record { fails = wants-live (usage-of n) && of-id (named-id n es) (λ id. not (live id (named-ids s n))); number = 46 } ∷
-    record { fails = enters (usage-of n) && of-id (named-id n es) (λ id. not (any empty (named-ids s n))); number = 47 } ∷
-    []
+naming-checks s n es = id-checks s n (named-id n es)
 
 -- "43 header missing"
 abbrev pub lacks-needed : ℕ → List Entry → Bool

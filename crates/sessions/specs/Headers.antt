@@ -3,10 +3,11 @@ use mathlib.Core.Bool.{Bool, true, false, cond, _||_, not}
 use mathlib.Core.Option.{Option, none, some}
 use mathlib.Core.List.{List, [], _∷_}
 use Prim.Native.Nat.{ℕ}
-use lib.Dec.{eqb, ltb}
+use lib.Dec.{eqb}
 use Rattle.headers.specs.Rows.{octets-of}
 use Rattle.headers.specs.Block.{Entry, first-value}
 use Rattle.frames.specs.Grammar.{Command, number, ABORT, ACK, BEGIN, COMMIT, CONNECT, CONNECTED, ERROR, MESSAGE, NACK, RECEIPT, SEND, STOMP, SUBSCRIBE, UNSUBSCRIBE}
+use Rattle.frames.specs.Encoding.{command-of}
 use Rattle.sessions.specs.Stores.{enters, wants-live}
 use Rattle.sessions.specs.declared.store.Use.{Use}
 use Rattle.sessions.specs.declared.store.Use.the-variants.{Nothing, Need, Enter, Free}
@@ -54,9 +55,9 @@ lacks Receipt es = not (has Receipt es)
 abbrev pub is : Command → ℕ → Bool
 is c n = eqb n (number c)
 
--- "unknown command"
+-- "unknown command": the number is no command's
 abbrev pub unknown : ℕ → Bool
-unknown n = eqb n 0 || ltb 15 n
+unknown n = not (is-some (command-of n))
 
 -- "a server's command"
 abbrev pub from-server : ℕ → Bool

@@ -19,9 +19,9 @@ none-shared fs = not (flag fs 0 || (flag fs 1 || flag fs 2))
 abbrev pub highest : List Bool → ℕ
 highest fs = cond (flag fs 2) 12 (cond (flag fs 1) 11 (cond (flag fs 0) 10 0))
 
--- version flags "1.2 alone"
-abbrev pub only-1-2 : List Bool → Bool
-only-1-2 fs = not (flag fs 0) && (not (flag fs 1) && flag fs 2)
+-- the version flags that a server may offer: making refuses "version marks other than 1.2 alone"
+abbrev pub may-offer : List Bool → Bool
+may-offer fs = not (flag fs 0) && (not (flag fs 1) && flag fs 2)
 
 -- "0 if the client's first or the server's second is 0, else the larger": the interval from the side that can send every a
 -- milliseconds to the side that wants to hear every b

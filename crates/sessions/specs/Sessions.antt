@@ -7,7 +7,7 @@ use lib.ListN.{length, replicate}
 use lib.Dec.{eqb, leb}
 use Rattle.sessions.specs.Stores.{ids, laid, lengths, valid-store}
 use Rattle.sessions.specs.Values.{heart-beat-max}
-use Rattle.sessions.specs.Opening.{only-1-2}
+use Rattle.sessions.specs.Opening.{may-offer}
 use Rattle.sessions.specs.declared.command.Kind.{Kind}
 use Rattle.sessions.specs.declared.command.Kind.the-variants.{Subscriptions, Transactions}
 use Rattle.sessions.specs.declared.session.Session.{Session}
@@ -114,7 +114,7 @@ abbrev pub small-numbers : Session → Bool
 small-numbers s = leb (s .sends) heart-beat-max && (leb (s .wants) heart-beat-max && (leb (s .inbound) heart-beat-max && leb (s .outbound) heart-beat-max))
 
 abbrev pub right-flags : Session → Bool
-right-flags s = in-phase closed-phase s || only-1-2 (s .offered)
+right-flags s = in-phase closed-phase s || may-offer (s .offered)
 
 abbrev pub valid-numbers : Session → Bool
 valid-numbers s = leb (s .phase) closed-phase && (small-numbers s && right-flags s)

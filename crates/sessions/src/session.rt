@@ -120,7 +120,7 @@ impl Session {
         ensures { λ r. ⌜ (making-says (r .answer) ≡ making-answer sends wants offered) × (r .session ≡ made sends wants offered) ⌝ }
     {
         if (HEART_BEAT_MAX < sends)
-            | ((HEART_BEAT_MAX < wants) | !crate::value::is_only_1_2(offered))
+            | ((HEART_BEAT_MAX < wants) | !crate::value::may_offer(offered))
         {
             return Making {
                 session: Session::fresh(0, 0, [false; 3]).closed(),
@@ -171,7 +171,7 @@ impl Session {
         let offered = self.offered;
         let intervals = (self.inbound <= HEART_BEAT_MAX) & (self.outbound <= HEART_BEAT_MAX);
         let small = (self.sends <= HEART_BEAT_MAX) & ((self.wants <= HEART_BEAT_MAX) & intervals);
-        let flags = (self.phase == Session::CLOSED) | crate::value::is_only_1_2(offered);
+        let flags = (self.phase == Session::CLOSED) | crate::value::may_offer(offered);
         (self.phase <= Session::CLOSED) & (small & flags)
     }
 

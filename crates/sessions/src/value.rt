@@ -5,7 +5,7 @@ ghost use Prim.Native.Nat.{_+_, _≤_};
 ghost use lib.ListN.{length, drop};
 ghost use Rattle.headers.specs.Rows.{same};
 ghost use Rattle.sessions.specs.Values.{before, some-digits, is-item, version, versions, heart-beats};
-ghost use Rattle.sessions.specs.Opening.{shared-flags, none-shared, only-1-2, interval as interval-of};
+ghost use Rattle.sessions.specs.Opening.{shared-flags, none-shared, may-offer, interval as interval-of};
 ghost use Rattle.sessions.specs.Reads.{counted, versions-say, heart-beats-say};
 use headers::DecimalRead;
 
@@ -134,9 +134,9 @@ pub(crate) fn is_none_shared(flags: [bool; 3]) -> bool
     !(flags[0] | (flags[1] | flags[2]))
 }
 
-// Whether flags say 1.2 alone.
-pub(crate) fn is_only_1_2(flags: [bool; 3]) -> bool
-    ensures { λ r. ⌜ r ≡ only-1-2 flags ⌝ }
+// Whether a server may offer these versions: 1.2 alone.
+pub(crate) fn may_offer(flags: [bool; 3]) -> bool
+    ensures { λ r. ⌜ r ≡ may-offer flags ⌝ }
 {
     !flags[0] & (!flags[1] & flags[2])
 }
