@@ -63,7 +63,7 @@ module _ (s : Session) (open-yet : s .phase ≢ closed-phase) where
           cond-case (λ (r : Session). r .phase ≡ closed-phase → Closes s (frame n block time)) (opens n)
           (λ o h. absurd (opening-open (shared-by s (client-versions es)) (client-heart-beats es) h))
           (λ o. cond-case (λ (r : Session). r .phase ≡ closed-phase → Closes s (frame n block time)) (is DISCONNECT n)
-          (λ d h. disconnect v e (eqb-true n 7 d))
+          (λ d h. disconnect v e (eqb-true n (number DISCONNECT) d))
           (λ d h. absurd (open-yet (sym (naming-phase s n (named-id n es)) ∙ h))))
   closing (heart-beat time) = by (heart-beat-answer s) refl
     where
@@ -82,7 +82,7 @@ closes s (by-number {c = frame n block time} k e a b) =
     ap (λ A. (left-by A s left) .phase) e ∙ ap (λ (r : Session). r .phase) (other-number s left k a b)
 closes s (by-number {c = heart-beat time} k e a b) =
     ap (λ A. (left-by A s (heard s time)) .phase) e ∙ ap (λ (r : Session). r .phase) (other-number s (heard s time) k a b)
-closes s (by-disconnect block time v e) = ap (λ A. (left-by A s (heard (effect s 7 (listed (entries block))) time)) .phase) e
+closes s (by-disconnect block time v e) = ap (λ A. (left-by A s (heard (effect s (number DISCONNECT) (listed (entries block))) time)) .phase) e
 
 -- ---- a closed session
 
@@ -91,11 +91,11 @@ module _ (s : Session) (h : s .phase ≡ closed-phase) where
   pub closed-frame : (n : ℕ) (block : List ℕ)
       → frame-answer s n block ≡ cond (not (is-valid s)) (refused 38) (cond (unknown n || not (is-block block)) (refused 39) (refused 40))
   unfolding frame-answer
-  closed-frame n block = rw (eq-eqb (s .phase) 2 h)
+  closed-frame n block = rw (eq-eqb (s .phase) closed-phase h)
 
   pub closed-heart-beat : heart-beat-answer s ≡ cond (not (is-valid s)) (refused 38) (refused 40)
   unfolding heart-beat-answer
-  closed-heart-beat = rw (eq-eqb (s .phase) 2 h)
+  closed-heart-beat = rw (eq-eqb (s .phase) closed-phase h)
 
   -- closed once more, it is the same
   closed-again : closed s ≡ s

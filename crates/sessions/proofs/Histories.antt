@@ -13,11 +13,11 @@ use Rattle.headers.specs.Rows.{same}
 use Rattle.headers.specs.Block.{Entry, entries, listed}
 use Rattle.headers.specs.Answers.{Answer, accepted, refused, settle}
 use Rattle.headers.proofs.Rows.{cond-case}
-use Rattle.frames.specs.Grammar.{CONNECT, DISCONNECT, STOMP}
+use Rattle.frames.specs.Grammar.{number, CONNECT, DISCONNECT, STOMP}
 use Rattle.sessions.specs.Stores.{ids, live, used, use-checks}
 use Rattle.sessions.specs.Values.{HeartBeats}
 use Rattle.sessions.specs.Headers.{is, opens, naming}
-use Rattle.sessions.specs.Sessions.{id-max, ids-of, with-ids, closed, heard, is-valid, Sized}
+use Rattle.sessions.specs.Sessions.{subscriptions-max, transactions-max, id-max, ids-of, with-ids, closed, heard, is-valid, Sized}
 use Rattle.sessions.specs.Calls.{left-by, making-answer, made-by, made, shared-by, client-versions, client-heart-beats, opened-by, usage-of, named-id, frame-answer, naming-effect, effect, frame-session, heart-beat-answer, heart-beat-session}
 use Rattle.sessions.specs.Histories.{Call, frame, heart-beat, answer-to, next, after, same-kind, by-use, named-as, live-by, live-after}
 use Rattle.sessions.specs.declared.store.Use.{Use}
@@ -41,10 +41,10 @@ ids-with Transactions s is h = ids-laid id-max is h
 
 -- neither the opening frame nor DISCONNECT names an id
 opening-names : (n : ℕ) (es : List Entry) → opens n ≡ true → named-id n es ≡ none
-opening-names n es h = or-either (is CONNECT n) (is STOMP n) h (λ e. ap (λ m. named-id m es) (eqb-true n 5 e)) (λ e. ap (λ m. named-id m es) (eqb-true n 13 e))
+opening-names n es h = or-either (is CONNECT n) (is STOMP n) h (λ e. ap (λ m. named-id m es) (eqb-true n (number CONNECT) e)) (λ e. ap (λ m. named-id m es) (eqb-true n (number STOMP) e))
 
 closing-names : (n : ℕ) (es : List Entry) → is DISCONNECT n ≡ true → named-id n es ≡ none
-closing-names n es h = ap (λ m. named-id m es) (eqb-true n 7 h)
+closing-names n es h = ap (λ m. named-id m es) (eqb-true n (number DISCONNECT) h)
 
 -- ---- one call
 
@@ -133,10 +133,10 @@ unfolding made
 made-none k id n sends wants offered = by (making-answer sends wants offered) k
   where
     by : (A : Answer) (j : Kind) → live id (ids-of j (made-by A sends wants offered)) ≡ false
-    by (accepted v) Subscriptions = ap (live id) (zeros-ids id-max 16) ∙ none-live 16 id n
-    by (accepted v) Transactions = ap (live id) (zeros-ids id-max 4) ∙ none-live 4 id n
-    by (refused j) Subscriptions = ap (live id) (zeros-ids id-max 16) ∙ none-live 16 id n
-    by (refused j) Transactions = ap (live id) (zeros-ids id-max 4) ∙ none-live 4 id n
+    by (accepted v) Subscriptions = ap (live id) (zeros-ids id-max subscriptions-max) ∙ none-live subscriptions-max id n
+    by (accepted v) Transactions = ap (live id) (zeros-ids id-max transactions-max) ∙ none-live transactions-max id n
+    by (refused j) Subscriptions = ap (live id) (zeros-ids id-max subscriptions-max) ∙ none-live subscriptions-max id n
+    by (refused j) Transactions = ap (live id) (zeros-ids id-max transactions-max) ∙ none-live transactions-max id n
 
 pub made-history : (k : Kind) (id : List ℕ) → id ≢ [] → (sends wants : ℕ) (offered : List Bool) (cs : List Call)
     → live id (ids-of k (after (made sends wants offered) cs)) ≡ live-after k id false (made sends wants offered) cs

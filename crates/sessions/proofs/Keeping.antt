@@ -24,8 +24,9 @@ use Rattle.sessions.specs.Places.{Fits}
 use Rattle.sessions.specs.Values.{HeartBeats, heart-beat-max, both, heart-beats-in, heart-beats, split}
 use Rattle.sessions.specs.Opening.{may-offer, interval}
 use Rattle.sessions.specs.Headers.{value-of, is, opens, naming}
-use Rattle.sessions.specs.Sessions.{id-max, fresh-phase, open-phase, closed-phase, in-phase, fresh, ids-of, with-stores, with-ids, with-phase, closed, heard, right-flags, small-numbers, valid-numbers, valid-ids, is-valid, Sized}
+use Rattle.sessions.specs.Sessions.{subscriptions-max, transactions-max, id-max, fresh-phase, open-phase, closed-phase, in-phase, fresh, ids-of, with-stores, with-ids, with-phase, closed, heard, right-flags, small-numbers, valid-numbers, valid-ids, is-valid, Sized}
 use Rattle.sessions.specs.Calls.{making-checks, making-answer, made-by, made, shared-by, heart-beats-of, client-versions, client-heart-beats, opened-by, usage-of, named-id, naming-checks, frame-answer, naming-effect, effect, frame-session, heart-beat-answer, heart-beat-session}
+use Rattle.sessions.specs.Steps.{count-of}
 use Rattle.sessions.specs.Histories.{Call, frame, heart-beat, next, after}
 use Rattle.sessions.specs.declared.store.Use.{Use}
 use Rattle.sessions.specs.declared.command.Header.the-variants.{HeartBeat}
@@ -115,10 +116,6 @@ interval-small a b m h k = cond-case (_≤ m) (eqb a 0 || eqb b 0) (λ e. omega 
 
 -- ---- the ids of a kind
 
-abbrev pub places : Kind → ℕ
-places Subscriptions = 16
-places Transactions = 4
-
 -- two sessions with the same stores
 abbrev pub SameStores : Session → Session → Type 0
 SameStores r s = (r .subs ≡ s .subs) × (r .«sub_lens» ≡ s .«sub_lens») × (r .txs ≡ s .txs) × (r .«tx_lens» ≡ s .«tx_lens»)
@@ -130,19 +127,19 @@ pub record Held (s : Session) : Type 0 where
 
 -- its ids
 module _ (s : Session) (h : Held s) where
-  subscriptions-fit : Fits id-max 16 (s .subs) (s .«sub_lens»)
-  subscriptions-fit = valid-fits id-max (s .subs) (s .«sub_lens») (h .valid .subscriptions) 16 (h .sized .sub-lens-long) (h .sized .subs-long)
+  subscriptions-fit : Fits id-max subscriptions-max (s .subs) (s .«sub_lens»)
+  subscriptions-fit = valid-fits id-max (s .subs) (s .«sub_lens») (h .valid .subscriptions) subscriptions-max (h .sized .sub-lens-long) (h .sized .subs-long)
 
-  transactions-fit : Fits id-max 4 (s .txs) (s .«tx_lens»)
-  transactions-fit = valid-fits id-max (s .txs) (s .«tx_lens») (h .valid .transactions) 4 (h .sized .tx-lens-long) (h .sized .txs-long)
+  transactions-fit : Fits id-max transactions-max (s .txs) (s .«tx_lens»)
+  transactions-fit = valid-fits id-max (s .txs) (s .«tx_lens») (h .valid .transactions) transactions-max (h .sized .tx-lens-long) (h .sized .txs-long)
 
-  pub held-long : (k : Kind) → length (ids-of k s) ≡ places k
+  pub held-long : (k : Kind) → length (ids-of k s) ≡ count-of k
   held-long Subscriptions = length-ids id-max (s .subs) (s .«sub_lens») ∙ h .sized .sub-lens-long
   held-long Transactions = length-ids id-max (s .txs) (s .«tx_lens») ∙ h .sized .tx-lens-long
 
   pub held-short : (k : Kind) → are-short id-max (ids-of k s) ≡ true
-  held-short Subscriptions = ids-short id-max 16 (s .subs) (s .«sub_lens») subscriptions-fit
-  held-short Transactions = ids-short id-max 4 (s .txs) (s .«tx_lens») transactions-fit
+  held-short Subscriptions = ids-short id-max subscriptions-max (s .subs) (s .«sub_lens») subscriptions-fit
+  held-short Transactions = ids-short id-max transactions-max (s .txs) (s .«tx_lens») transactions-fit
 
   pub held-distinct : (k : Kind) → distinct (ids-of k s) ≡ true
   held-distinct Subscriptions = valid-distinct id-max (s .subs) (s .«sub_lens») (h .valid .subscriptions)
@@ -203,7 +200,7 @@ module _ (s : Session) (h : Held s) where
         transactions = b;
       }
 
-  held-with : (k : Kind) (is : List (List ℕ)) → length is ≡ places k → are-short id-max is ≡ true → distinct is ≡ true → Held (with-ids k s is)
+  held-with : (k : Kind) (is : List (List ℕ)) → length is ≡ count-of k → are-short id-max is ≡ true → distinct is ≡ true → Held (with-ids k s is)
   held-with Subscriptions is l m d =
       record {
         sized = record {
@@ -271,18 +268,18 @@ held-fresh : (sends wants : ℕ) (offered : List Bool) (phase : ℕ) → sends �
 held-fresh sends wants offered phase a b known flags =
     record {
       sized = record {
-        subs-long = length-replicate {A = ℕ} 512 0;
-        sub-lens-long = length-replicate {A = ℕ} 16 0;
-        txs-long = length-replicate {A = ℕ} 128 0;
-        tx-lens-long = length-replicate {A = ℕ} 4 0;
+        subs-long = length-replicate {A = ℕ} (subscriptions-max * id-max) 0;
+        sub-lens-long = length-replicate {A = ℕ} subscriptions-max 0;
+        txs-long = length-replicate {A = ℕ} (transactions-max * id-max) 0;
+        tx-lens-long = length-replicate {A = ℕ} transactions-max 0;
       };
       valid = record {
         known = known;
         offers = (a, b);
         intervals = (omega arith, omega arith);
         flags = flags;
-        subscriptions = zeros-valid id-max 16;
-        transactions = zeros-valid id-max 4;
+        subscriptions = zeros-valid id-max subscriptions-max;
+        transactions = zeros-valid id-max transactions-max;
       };
     }
 

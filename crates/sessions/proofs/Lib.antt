@@ -7,7 +7,7 @@ pub mod Filling
 pub mod Stores
 pub mod Values
 pub mod Locating
-pub mod Commands
+pub mod Known
 pub mod Checks
 pub mod Steps
 pub mod Using

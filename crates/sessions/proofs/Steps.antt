@@ -14,9 +14,10 @@ use Rattle.headers.specs.Rows.{every}
 use Rattle.headers.specs.Block.{Entry, entries, listed}
 use Rattle.headers.specs.Answers.{accepted, refused, Check, settle}
 use Rattle.headers.proofs.Rows.{and-left, and-right}
+use Rattle.frames.specs.Grammar.{number, CONNECT, DISCONNECT, STOMP}
 use Rattle.sessions.specs.Values.{heart-beat-max}
 use Rattle.sessions.specs.Opening.{may-offer}
-use Rattle.sessions.specs.Headers.{has, opens, naming}
+use Rattle.sessions.specs.Headers.{has, is, opens, naming}
 use Rattle.sessions.specs.Sessions.{fresh, closed, heard, is-valid}
 use Rattle.sessions.specs.Answers.{bit, answer-says}
 use Rattle.sessions.specs.Calls.{usage-of, named-id, naming-effect, lacks-needed, frame-checks, owes-receipt, frame-answer, effect, frame-session, heart-beat-checks, heart-beat-answer, heart-beat-session, making-answer, made, is-timed-out, timed-out-answer}
@@ -103,26 +104,26 @@ module _ {receipt : Bool} {before after : Session} {r : Outcome} (k : ℕ) (cs :
 
 module _ (s : Session) (n : ℕ) (es : List Entry) (time : ℕ) (r : Outcome) where
   -- the opening frame: no id is named, and no receipt is owed
-  opening-is : (n ≡ 5) ⊎ (n ≡ 13) → lacks-needed n es ≡ false → GivesOpening s es time r → GivesEntries s n es time r
-  opening-is q h g = ⊎-elim (λ (e : n ≡ 5). rw e (gives-on _ _ (rw e at h) (gives-alike (opening-checks s es) _ refl g)))
-      (λ (e : n ≡ 13). rw e (gives-on _ _ (rw e at h) (gives-alike (opening-checks s es) _ refl g))) q
+  opening-is : (n ≡ number CONNECT) ⊎ (n ≡ number STOMP) → lacks-needed n es ≡ false → GivesOpening s es time r → GivesEntries s n es time r
+  opening-is q h g = ⊎-elim (λ (e : n ≡ number CONNECT). rw e (gives-on _ _ (rw e at h) (gives-alike (opening-checks s es) _ refl g)))
+      (λ (e : n ≡ number STOMP). rw e (gives-on _ _ (rw e at h) (gives-alike (opening-checks s es) _ refl g))) q
 
-  opening-number : opens n ≡ true → (n ≡ 5) ⊎ (n ≡ 13)
-  opening-number = by (eqb n 5) (eqb n 13) refl refl
+  opening-number : opens n ≡ true → (n ≡ number CONNECT) ⊎ (n ≡ number STOMP)
+  opening-number = by (is CONNECT n) (is STOMP n) refl refl
     where
-      by : (a b : Bool) → eqb n 5 ≡ a → eqb n 13 ≡ b → a || b ≡ true → (n ≡ 5) ⊎ (n ≡ 13)
-      by true b p q h = inl (eqb-true n 5 p)
-      by false true p q h = inr (eqb-true n 13 q)
+      by : (a b : Bool) → is CONNECT n ≡ a → is STOMP n ≡ b → a || b ≡ true → (n ≡ number CONNECT) ⊎ (n ≡ number STOMP)
+      by true b p q h = inl (eqb-true n (number CONNECT) p)
+      by false true p q h = inr (eqb-true n (number STOMP) q)
       by false false p q h = absurd (let z : _≡_ {A = ℕ} 0 1 = cc in omega arith)
 
   pub entries-opening : lacks-needed n es ≡ false → opens n ≡ true → GivesOpening s es time r → GivesEntries s n es time r
   entries-opening h o g = opening-is (opening-number o) h g
 
-  pub entries-disconnect : n ≡ 7 → (receipt : Bool) → receipt ≡ has Receipt es → r ≡ accepted-by (closed s) receipt time → GivesEntries s n es time r
+  pub entries-disconnect : n ≡ number DISCONNECT → (receipt : Bool) → receipt ≡ has Receipt es → r ≡ accepted-by (closed s) receipt time → GivesEntries s n es time r
   entries-disconnect e receipt h q = rw (e, ← h) (gives-accepted _ receipt s (closed s) time r refl q)
 
   -- any other frame
-  pub entries-naming : (receipt : Bool) → lacks-needed n es ≡ false → opens n ≡ false → eqb n 7 ≡ false → receipt ≡ has Receipt es
+  pub entries-naming : (receipt : Bool) → lacks-needed n es ≡ false → opens n ≡ false → is DISCONNECT n ≡ false → receipt ≡ has Receipt es
       → GivesNaming s n es receipt time r → GivesEntries s n es time r
   entries-naming receipt h o d e g =
       let same-effect : effect s n es ≡ naming-effect s n (named-id n es) = rw (o, d) in

@@ -12,7 +12,8 @@ use Rattle.headers.specs.Rows.{empty}
 use Rattle.headers.specs.Answers.{accepted, settle}
 use Rattle.headers.proofs.Rows.{and-left, and-right, or-false-right}
 use Rattle.sessions.specs.Stores.{valid-store, used, use-checks}
-use Rattle.sessions.specs.Sessions.{subscriptions-max, transactions-max, id-max, ids-of, with-stores, with-ids, valid-numbers, valid-ids, is-valid, Sized}
+use Rattle.sessions.specs.Values.{heart-beat-max}
+use Rattle.sessions.specs.Sessions.{subscriptions-max, transactions-max, id-max, closed-phase, ids-of, with-stores, with-ids, valid-numbers, valid-ids, is-valid, Sized}
 use Rattle.sessions.specs.Places.{Fits, stored, Settles, put-in}
 use Rattle.sessions.specs.Steps.{closed-by, accepted-by, count-of, put-of, GivesUse}
 use Rattle.sessions.specs.declared.store.Use.{Use}
@@ -122,8 +123,8 @@ module _ (s : Session) (i : ℕ) (id store : List ℕ) (m : ℕ) (l : m ≡ leng
   transaction-stored is e = rw (is, e, l)
 
 -- the interval of a valid session is small
-pub small-inbound : (s : Session) → is-valid s ≡ true → s .inbound ≤ 3600000
+pub small-inbound : (s : Session) → is-valid s ≡ true → s .inbound ≤ heart-beat-max
 unfolding is-valid
 small-inbound s v =
-    let small = and-left _ _ (and-right (leb (s .phase) 2) _ (and-left (valid-numbers s) (valid-ids s) v)) in
-    leb-true _ _ (and-left _ _ (and-right (leb (s .wants) 3600000) _ (and-right (leb (s .sends) 3600000) _ small)))
+    let small = and-left _ _ (and-right (leb (s .phase) closed-phase) _ (and-left (valid-numbers s) (valid-ids s) v)) in
+    leb-true _ _ (and-left _ _ (and-right (leb (s .wants) heart-beat-max) _ (and-right (leb (s .sends) heart-beat-max) _ small)))

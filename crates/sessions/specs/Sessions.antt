@@ -127,7 +127,7 @@ is-valid s = valid-numbers s && valid-ids s
 
 -- the sizes that the arrays of every record have
 pub record Sized (s : Session) : Type 0 where
-  pub subs-long : length (s .subs) ≡ 512
-  pub sub-lens-long : length (s .«sub_lens») ≡ 16
-  pub txs-long : length (s .txs) ≡ 128
-  pub tx-lens-long : length (s .«tx_lens») ≡ 4
+  pub subs-long : length (s .subs) ≡ subscriptions-max * id-max
+  pub sub-lens-long : length (s .«sub_lens») ≡ subscriptions-max
+  pub txs-long : length (s .txs) ≡ transactions-max * id-max
+  pub tx-lens-long : length (s .«tx_lens») ≡ transactions-max

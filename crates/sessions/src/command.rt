@@ -2,45 +2,16 @@
 ghost use mathlib.Core.Path.{_≡_};
 ghost use Rattle.sessions.specs.Headers.{unknown, from-server, opens as opens-by, one as one-header, needed as needed-names, names, naming-of, naming as naming-by, names-id};
 ghost use Rattle.sessions.specs.Steps.{phase-number};
+use crate::commands;
+use crate::refusals;
 use crate::session::Session;
 use crate::store::Use;
-
-// The commands that a session tells apart, by their numbers.
-const ABORT: u32 = 1;
-
-const ACK: u32 = 2;
-
-const BEGIN: u32 = 3;
-
-const COMMIT: u32 = 4;
-
-const CONNECT: u32 = 5;
-
-const CONNECTED: u32 = 6;
-
-pub(crate) const DISCONNECT: u32 = 7;
-
-const ERROR: u32 = 8;
-
-const MESSAGE: u32 = 9;
-
-const NACK: u32 = 10;
-
-const RECEIPT: u32 = 11;
-
-const SEND: u32 = 12;
-
-const STOMP: u32 = 13;
-
-const SUBSCRIBE: u32 = 14;
-
-const UNSUBSCRIBE: u32 = 15;
 
 // Whether the number is no command's.
 pub(crate) fn is_unknown(command: u32) -> bool
     ensures { λ r. ⌜ r ≡ unknown command ⌝ }
 {
-    (command == 0) | (UNSUBSCRIBE < command)
+    (command == 0) | (commands::UNSUBSCRIBE < command)
 }
 
 // The headers that a session looks at, and none of them.
@@ -77,38 +48,44 @@ pub(crate) struct Naming {
 pub(crate) fn is_from_server(command: u32) -> bool
     ensures { λ r. ⌜ r ≡ from-server command ⌝ }
 {
-    (command == CONNECTED) | ((command == ERROR) | ((command == MESSAGE) | (command == RECEIPT)))
+    (command == commands::CONNECTED)
+        | ((command == commands::ERROR)
+            | ((command == commands::MESSAGE) | (command == commands::RECEIPT)))
 }
 
 // Whether the command opens a session.
 pub(crate) fn opens(command: u32) -> bool
     ensures { λ r. ⌜ r ≡ opens-by command ⌝ }
 {
-    (command == CONNECT) | (command == STOMP)
+    (command == commands::CONNECT) | (command == commands::STOMP)
 }
 
 pub(crate) fn needed_by(command: u32) -> Needed
     ensures { λ r. ⌜ r ≡ needed-names command ⌝ }
 {
-    if (command == CONNECT) | (command == STOMP) {
+    if (command == commands::CONNECT) | (command == commands::STOMP) {
         return Needed {
             first: Header::AcceptVersion,
             second: Header::Host,
         };
     }
-    if command == SEND {
+    if command == commands::SEND {
         return one(Header::Destination);
     }
-    if command == SUBSCRIBE {
+    if command == commands::SUBSCRIBE {
         return Needed {
             first: Header::Destination,
             second: Header::Id,
         };
     }
-    if (command == UNSUBSCRIBE) | ((command == ACK) | (command == NACK)) {
+    if (command == commands::UNSUBSCRIBE)
+        | ((command == commands::ACK) | (command == commands::NACK))
+    {
         return one(Header::Id);
     }
-    if (command == BEGIN) | ((command == COMMIT) | (command == ABORT)) {
+    if (command == commands::BEGIN)
+        | ((command == commands::COMMIT) | (command == commands::ABORT))
+    {
         return one(Header::Transaction);
     }
     one(Header::Absent)
@@ -126,25 +103,25 @@ fn one(h: Header) -> Needed
 pub(crate) fn naming_of(command: u32) -> Naming
     ensures { λ r. ⌜ r ≡ naming-by command ⌝ }
 {
-    if command == SUBSCRIBE {
+    if command == commands::SUBSCRIBE {
         return Naming {
             kind: Kind::Subscriptions,
             usage: Use::Enter,
         };
     }
-    if command == UNSUBSCRIBE {
+    if command == commands::UNSUBSCRIBE {
         return Naming {
             kind: Kind::Subscriptions,
             usage: Use::Free,
         };
     }
-    if command == BEGIN {
+    if command == commands::BEGIN {
         return transaction(Use::Enter);
     }
-    if (command == COMMIT) | (command == ABORT) {
+    if (command == commands::COMMIT) | (command == commands::ABORT) {
         return transaction(Use::Free);
     }
-    if (command == SEND) | ((command == ACK) | (command == NACK)) {
+    if (command == commands::SEND) | ((command == commands::ACK) | (command == commands::NACK)) {
         return transaction(Use::Need);
     }
     transaction(Use::Nothing)
@@ -186,19 +163,19 @@ pub(crate) fn phase_refusal(phase: u8, command: u32) -> u32
     ensures { λ r. ⌜ r ≡ phase-number phase command ⌝ }
 {
     if phase == Session::CLOSED {
-        return 40;
+        return refusals::CLOSED;
     }
     if is_from_server(command) {
-        return 41;
+        return refusals::FROM_SERVER;
     }
     if opens(command) {
         if phase == Session::FRESH {
             return 0;
         }
-        return 42;
+        return refusals::OUT_OF_PHASE;
     }
     if phase == Session::OPEN {
         return 0;
     }
-    42
+    refusals::OUT_OF_PHASE
 }

@@ -2,6 +2,8 @@
 mod store; // ids in a flat store
 mod value; // header values with parts: accept-version and heart-beat
 mod clock; // time passed
+pub mod commands; // their numbers
+pub mod refusals; // the numbers that a session refuses with
 mod command; // which headers a command needs, what it does with an id, and in which phase it may come
 mod locate; // where a header's first value stands
 pub mod session; // the session as a value

@@ -11,10 +11,11 @@ ghost use Rattle.sessions.specs.Answers.{answer-says, making-says, timed
 ghost use Rattle.sessions.specs.Calls.{making-answer, made, frame-answer, frame-session, heart-beat-answer, heart-beat-session, timed-out-answer};
 ghost use Rattle.sessions.specs.Places.{Settles};
 ghost use Rattle.sessions.specs.Steps.{kept-by, closed-by, accepted-by, count-of, put-of, GivesUse, GivesOpening, GivesNaming, GivesEntries};
-use crate::command::DISCONNECT;
 use crate::command::Header;
 use crate::command::Kind;
 use crate::command::Naming;
+use crate::commands;
+use crate::refusals;
 use crate::store::Settled;
 use crate::store::Use;
 use crate::value::HEART_BEAT_MAX;
@@ -218,10 +219,10 @@ impl Session {
         ensures { λ r. ⌜ (answer-says (r .answer) ≡ heart-beat-answer self) × (r .session ≡ heart-beat-session self time) ⌝ }
     {
         if !self.is_valid() {
-            return self.kept(38);
+            return self.kept(refusals::INVALID);
         }
         if self.phase == Session::CLOSED {
-            return self.refused(40);
+            return self.refused(refusals::CLOSED);
         }
         self.accepted(false, time)
     }
@@ -263,17 +264,17 @@ impl Session {
     {
         let client = crate::locate::client_versions(block);
         if !client.valid {
-            return self.refused(31);
+            return self.refused(refusals::BAD_VERSIONS);
         }
         let flags = client.flags;
         let offered = self.offered;
         let shared = crate::value::share(flags, offered);
         if crate::value::is_none_shared(shared) {
-            return self.refused(32);
+            return self.refused(refusals::NO_VERSION);
         }
         let heart_beats = crate::locate::client_heart_beats(block);
         if !heart_beats.valid {
-            return self.refused(33);
+            return self.refused(refusals::BAD_HEART_BEAT);
         }
         self.opened(shared, heart_beats).accepted(false, time)
     }
@@ -362,13 +363,13 @@ impl Session {
         ensures { λ r. ⌜ GivesEntries self command (listed (entries (now (block .entry)))) time r ⌝ }
     {
         if crate::locate::lacks_needed(command, block) {
-            return self.refused(43);
+            return self.refused(refusals::MISSING);
         }
         if crate::command::opens(command) {
             return self.open(block, time);
         }
         let receipt = crate::locate::has(block, Header::Receipt);
-        if command == DISCONNECT {
+        if command == commands::DISCONNECT {
             return self.closed().accepted(receipt, time);
         }
         self.look_up_id(command, block, receipt, time)
@@ -382,10 +383,10 @@ impl Session {
             ⌝ }
     {
         if !self.is_valid() {
-            return self.kept(38);
+            return self.kept(refusals::INVALID);
         }
         if crate::command::is_unknown(command) | !headers::is_valid(block) {
-            return self.kept(39);
+            return self.kept(refusals::MALFORMED);
         }
         let number = crate::command::phase_refusal(self.phase, command);
         if number != 0 {

@@ -7,6 +7,7 @@ ghost use lib.ListN.{length, getD};
 ghost use Rattle.headers.specs.Rows.{same};
 ghost use Rattle.sessions.specs.Stores.{ids, padded, short, is-zero, clean, distinct, valid-store, first-from};
 ghost use Rattle.sessions.specs.Places.{Fits, search-says, is-at, when-needed, when-freed, when-entered, stored, put-in, Settles};
+use crate::refusals;
 
 // Where a search ended: the number of a place.
 pub(crate) enum Search {
@@ -186,7 +187,7 @@ fn needed(found: Search) -> Settled
 {
     match found {
         Search::At(k) => Settled::Kept,
-        Search::Nowhere => Settled::Refused(46),
+        Search::Nowhere => Settled::Refused(refusals::NOT_LIVE),
     }
 }
 
@@ -196,7 +197,7 @@ fn freed(found: Search) -> Settled
 {
     match found {
         Search::At(k) => Settled::Put(k),
-        Search::Nowhere => Settled::Refused(46),
+        Search::Nowhere => Settled::Refused(refusals::NOT_LIVE),
     }
 }
 
@@ -205,10 +206,10 @@ fn entered(found: Search, free: Search) -> Settled
     ensures { λ r. ⌜ r ≡ when-entered found free ⌝ }
 {
     match found {
-        Search::At(k) => Settled::Refused(45),
+        Search::At(k) => Settled::Refused(refusals::LIVE),
         Search::Nowhere => match free {
             Search::At(k) => Settled::Put(k),
-            Search::Nowhere => Settled::Refused(47),
+            Search::Nowhere => Settled::Refused(refusals::FULL),
         },
     }
 }
@@ -226,10 +227,10 @@ pub(crate) fn settle(
     ensures { λ r. ⌜ Settles width usage (now (id .entry)) (ids width (now (store .entry)) (now (lens .entry))) r ⌝ }
 {
     if id.len() == 0 {
-        return Settled::Refused(44);
+        return Settled::Refused(refusals::BAD_ID);
     }
     if width < id.len() {
-        return Settled::Refused(44);
+        return Settled::Refused(refusals::BAD_ID);
     }
     match usage {
         Use::Nothing => Settled::Kept,

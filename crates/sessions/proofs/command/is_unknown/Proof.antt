@@ -1,5 +1,5 @@
 -- `command::is_unknown` meets its contract: the test on the number is that it is no command's.
-use Rattle.sessions.proofs.Commands.{unknown-number}
+use Rattle.sessions.proofs.Known.{unknown-number}
 use Rattle.sessions.proofs.command.is_unknown.Statement.{statement}
 use Rattle.sessions.proofs.command.is_unknown.Tie as tie
 

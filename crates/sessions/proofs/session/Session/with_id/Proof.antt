@@ -1,10 +1,10 @@
 -- `session::Session::with_id` meets its contract, kind by kind.
 use mathlib.Core.Path.{_≡_, subst}
-use Prim.Native.Nat.{_≤_, _<_}
+use Prim.Native.Nat.{_*_, _≤_, _<_}
 use native.Mathlib.Omega.{arith}
 use lib.ListN.{length}
 use denote.Ref.{now}
-use Rattle.sessions.specs.Sessions.{id-max}
+use Rattle.sessions.specs.Sessions.{subscriptions-max, transactions-max, id-max}
 use Rattle.sessions.specs.Steps.{count-of}
 use Rattle.sessions.specs.declared.command.Kind.{Kind}
 use Rattle.sessions.proofs.Using.{subscription-stored, transaction-stored}
@@ -25,7 +25,7 @@ slice-aggregate-put c = search needs
 put-requires : tie.Need-put-requires
 put-requires c κs =
     let s = c .before .before .before .before .before in
-    let n : length (s .args .t1 .subs) ≡ 512 = search needs in
+    let n : length (s .args .t1 .subs) ≡ subscriptions-max * id-max = search needs in
     omega (arith, asked s Kind.Subscriptions (c .before .before .enum-told .given .1))
 
 cast-self : tie.Need-cast-self
@@ -43,7 +43,7 @@ slice-aggregate-put-2 c = search needs
 put-requires-2 : tie.Need-put-requires-2
 put-requires-2 c κs =
     let s = c .before .before .before .before .before in
-    let n : length (s .args .t1 .txs) ≡ 128 = search needs in
+    let n : length (s .args .t1 .txs) ≡ transactions-max * id-max = search needs in
     omega (arith, asked s Kind.Transactions (c .before .before .enum-told2 .given .1))
 
 cast-self-2 : tie.Need-cast-self-2

@@ -1,4 +1,4 @@
--- The commands by their numbers. Assumes nothing.
+-- Which numbers are commands'. Assumes nothing.
 --     unknown-number     a number is no command's where it is 0 or over 15
 use mathlib.Core.Path.{_≡_, refl, sym, ap}
 use mathlib.Core.Bool.{Bool, true, false, _||_, not}
