@@ -6,6 +6,7 @@ ghost use Prim.Native.Nat.{_≤_};
 use frames::decode::Decoded;
 use headers::DecimalRead;
 use libc::STDOUT_FILENO;
+use sessions::commands;
 use sessions::session::Session;
 use sessions::session::SessionAnswer;
 
@@ -149,14 +150,19 @@ fn prepared(long: bool) -> Session {
             session,
             accepted: 0,
         },
-        5,
+        commands::CONNECT,
         block_of(b"CONNECT\naccept-version:1.2\nhost:names\n\n\0"),
     );
     let all = enter(
-        enter(t, 14, subscription(long), 16),
-        3,
+        enter(
+            t,
+            commands::SUBSCRIBE,
+            subscription(long),
+            Session::SUBSCRIPTIONS as u8,
+        ),
+        commands::BEGIN,
         transaction(long),
-        4,
+        Session::TRANSACTIONS as u8,
     );
     all.session
 }
@@ -183,6 +189,11 @@ fn repeat_with(t: Tally, first: u32, second: u32, block: Block, calls: u32) -> T
     repeat(t, first, second, front(&octets, len), calls)
 }
 
+// The ids of each kind are numbered from 0.
+const LAST_SUBSCRIPTION: u8 = (Session::SUBSCRIPTIONS - 1) as u8;
+
+const LAST_TRANSACTION: u8 = (Session::TRANSACTIONS - 1) as u8;
+
 // The calls of a case.
 fn run(case: u32, calls: u32) -> Tally {
     let long = 1 < case;
@@ -192,9 +203,21 @@ fn run(case: u32, calls: u32) -> Tally {
         accepted: 0,
     };
     if case % 2 == 0 {
-        return repeat_with(t, 12, 12, numbered(sending(long), 3), calls);
+        return repeat_with(
+            t,
+            commands::SEND,
+            commands::SEND,
+            numbered(sending(long), LAST_TRANSACTION),
+            calls,
+        );
     }
-    repeat_with(t, 15, 14, numbered(subscription(long), 15), calls)
+    repeat_with(
+        t,
+        commands::UNSUBSCRIBE,
+        commands::SUBSCRIBE,
+        numbered(subscription(long), LAST_SUBSCRIPTION),
+        calls,
+    )
 }
 
 // A case, with its line.

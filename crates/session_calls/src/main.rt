@@ -10,6 +10,7 @@ use libc::STDOUT_FILENO;
 use listing::calls::at_most;
 use listing::calls::number_at;
 use listing::calls::read_front;
+use sessions::refusals;
 use sessions::session::MakingAnswer;
 use sessions::session::Outcome;
 use sessions::session::Session;
@@ -149,7 +150,7 @@ fn say_refused(number: u32) {
 fn say_made(answer: MakingAnswer) {
     match answer {
         MakingAnswer::Made => say(b"made"),
-        MakingAnswer::Refused => say_refused(34),
+        MakingAnswer::Refused => say_refused(refusals::BAD_OFFER),
     }
 }
 
@@ -170,7 +171,7 @@ fn say_timed_out(answer: TimedOut) {
     match answer {
         TimedOut::Yes => say(b"yes"),
         TimedOut::No => say(b"no"),
-        TimedOut::Invalid => say_refused(38),
+        TimedOut::Invalid => say_refused(refusals::INVALID),
     }
 }
 
@@ -236,12 +237,14 @@ fn timed_out_in_place(session: Session, head: &[u8; 27]) -> State {
 }
 
 fn set(session: Session, head: &[u8; 27]) -> State {
-    let mut subs = [0u8; 512];
-    let mut sub_lens = [0u8; 16];
-    let mut txs = [0u8; 128];
-    let mut tx_lens = [0u8; 4];
-    let has_subs = read_front(&mut subs, 512) & read_front(&mut sub_lens, 16);
-    let has_txs = read_front(&mut txs, 128) & read_front(&mut tx_lens, 4);
+    let mut subs = [0u8; Session::SUBSCRIPTIONS * Session::ID];
+    let mut sub_lens = [0u8; Session::SUBSCRIPTIONS];
+    let mut txs = [0u8; Session::TRANSACTIONS * Session::ID];
+    let mut tx_lens = [0u8; Session::TRANSACTIONS];
+    let has_subs = read_front(&mut subs, Session::SUBSCRIPTIONS * Session::ID)
+        & read_front(&mut sub_lens, Session::SUBSCRIPTIONS);
+    let has_txs = read_front(&mut txs, Session::TRANSACTIONS * Session::ID)
+        & read_front(&mut tx_lens, Session::TRANSACTIONS);
     if !(has_subs & has_txs) {
         return cut(session);
     }
