@@ -17,4 +17,5 @@ pub mod Keeping
 pub mod Histories
 pub mod Closing
 pub mod InPlace
+pub mod Apart
 pub mod Examples
