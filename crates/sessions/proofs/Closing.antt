@@ -1,7 +1,8 @@
 -- What closes a session, and what a closed one does. Assumes nothing.
---     closing, closes                       only a number other than 38 and 39, or DISCONNECT, closes; and each of these does
---     closed-frame, closed-beat             what a closed session answers
---     closed-next, closed-after             that no call and no history changes it
+--     closing, closes                           only a number other than 38 and 39, or DISCONNECT, closes; and each of these does
+--     closed-frame, closed-heart-beat           what a closed session answers
+--     closed-kept, closed-next, closed-after    no refusal, no call and no history changes it
+--     closed-answers                            and no history changes what it answers
 use mathlib.Core.Path.{_≡_, refl, sym, _∙_, ap, subst}
 use mathlib.Core.Logic.{_≢_}
 use mathlib.Core.Bool.{Bool, cond, _||_, not}

@@ -1,6 +1,7 @@
 -- The ids that are live after a history of calls are those that were entered and not freed since. Assumes nothing.
---     live-next                             one call
---     live-history, made-history            a history
+--     live-next                  one call
+--     live-history               a history
+--     made-none, made-history    a session that was made, at first and after a history
 use mathlib.Core.Path.{_≡_, refl, sym, _∙_, ap, ap₂}
 use mathlib.Core.Logic.{_≢_}
 use mathlib.Core.Bool.{Bool, true, false, cond, _&&_, _||_}

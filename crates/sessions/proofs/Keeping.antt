@@ -1,8 +1,12 @@
 -- A session stays a valid record: made, and after each call and each history of calls. Assumes nothing.
---     valid-record, record-valid            the test of a record, taken apart
---     Held, held-..                         a valid session with the sizes of its arrays; each change, call and history keeps that
---     frame-.., beat-.., ..-after           the same, said of Sized and is-valid
---     made-..                               and of a session that was made
+--     Valid, valid-record, record-valid                                the test of a record, taken apart
+--     SameStores                                                       two sessions have the same ids where they lie
+--     Held, held                                                       a valid session whose arrays have their sizes
+--     held-long, held-short, held-distinct                             its ids of a kind: how many places, none too long, no two the same
+--     held-frame, held-heart-beat, held-next, held-after, held-made    each call, each history and making keep that
+--     frame-sized, frame-valid, heart-beat-sized, heart-beat-valid     the same of one call, said of Sized and is-valid
+--     sized-after, valid-after                                         of a history
+--     made-sized, made-valid, made-after                               and of a session that was made, at first and after a history
 use mathlib.Core.Path.{_≡_, refl, sym, _∙_, ap, ap₂}
 use mathlib.Core.Bool.{Bool, true, false, cond, _&&_, _||_, not}
 use mathlib.Core.Option.{Option, none, some}

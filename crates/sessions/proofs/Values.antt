@@ -1,11 +1,11 @@
 -- Laws of header values with parts. Assumes nothing.
---     split-here, split-none                 a row split at its first octet c, or where it has none
---     part-next, part-last                   the same from a place on
---     digits-none, digits-some               whether a part is digits, at least one
---     item-none, item-front, item-behind     an item by its two numbers
---     beats-none, beats-front, beats-both    a heart-beat value by its two numbers
---     versions-from                          the versions of the items that are left, with those counted
---     versions-start, -stop, -turn, -end     reading them, item by item
+--     split-here, split-none                                        a row split at its first octet c, or where it has none
+--     digits-none, digits-some                                      whether a part is digits, at least one
+--     front, behind                                                 the parts before and after a place
+--     item-none, item-front, item-behind                            an item by its two numbers
+--     heart-beats-none, heart-beats-front, heart-beats-both         a heart-beat value by its two numbers
+--     versions-from                                                 the versions of the items that are left, with those counted
+--     versions-start, versions-stop, versions-turn, versions-end    reading them, item by item
 use mathlib.Core.Path.{_≡_, refl, sym, _∙_, ap, ap₂}
 use mathlib.Core.Logic.{_⊎_, inl, inr, ⊎-elim}
 use mathlib.Core.Bool.{Bool, true, false, cond, _&&_, _||_, not, or-assoc}

@@ -17,7 +17,7 @@ use Rattle.sessions.specs.declared.command.Kind.{Kind}
 use Rattle.sessions.specs.declared.command.Kind.the-variants.{Subscriptions, Transactions}
 use Rattle.sessions.specs.declared.session.Session.{Session}
 
--- a call: a frame's command number, header block and time; or a heart-beat's time
+-- A call: a frame's command number, header block and time; or a heart-beat's time
 pub data Call : Type 0 where
   frame : (command : ℕ) (block : List ℕ) (time : ℕ) → Call
   heart-beat : (time : ℕ) → Call
@@ -35,19 +35,22 @@ abbrev pub after : Session → List Call → Session
 after s [] = s
 after s (c ∷ cs) = after (next s c) cs
 
--- What an accepted call does with an id of a kind: enters it (yes), frees it (no), or leaves it as it was.
+-- ---- The ids that are live, told from the calls and their answers alone
+
 abbrev pub same-kind : Kind → Kind → Bool
 same-kind Subscriptions Subscriptions = true
 same-kind Subscriptions Transactions = false
 same-kind Transactions Subscriptions = false
 same-kind Transactions Transactions = true
 
+-- whether an id is live after it was used: entered, it is; freed, it is not; else as before
 abbrev pub by-use : Use → Bool → Bool
 by-use Enter before = true
 by-use Free before = false
 by-use Need before = before
 by-use Nothing before = before
 
+-- whether a frame that names this id, or none, names the id of the kind
 abbrev pub named-as : Kind → List ℕ → ℕ → Option (List ℕ) → Bool
 named-as k id n none = false
 named-as k id n (some x) = same-kind k (naming n .kind) && same x id
@@ -56,25 +59,28 @@ abbrev pub is-accepted : Answer → Bool
 is-accepted (accepted values) = true
 is-accepted (refused number) = false
 
+-- whether an id is live after one call: an accepted frame that names it uses it, and no other call changes it
 abbrev pub live-by : Kind → List ℕ → Bool → Answer → Call → Bool
 live-by k id before a (frame n block time) =
     cond (is-accepted a && named-as k id n (named-id n (listed (entries block)))) (by-use (naming n .usage) before) before
 live-by k id before a (heart-beat time) = before
 
--- the calls of a history, each with its answer
+-- a call and its answer
 pub record Event : Type 0 where
   pub call : Call
   pub answer : Answer
 
+-- the calls of a history, each with its answer
 abbrev pub trace : Session → List Call → List Event
 trace s [] = []
 trace s (c ∷ cs) = record { call = c; answer = answer-to s c } ∷ trace (next s c) cs
 
--- whether an id is live after calls, told from the calls and their answers alone: it was entered, and not freed since
+-- whether an id is live after these events, by whether it was before them
 abbrev pub live-told : Kind → List ℕ → Bool → List Event → Bool
 live-told k id before [] = before
 live-told k id before (e ∷ es) = live-told k id (live-by k id before (e .answer) (e .call)) es
 
+-- the same of the calls on a session, with the answers that it gives
 abbrev pub live-after : Kind → List ℕ → Bool → Session → List Call → Bool
 live-after k id before s cs = live-told k id before (trace s cs)
 
