@@ -27,7 +27,11 @@ use crate::word::whole_command;
 fn on_10(st: Scan, next: Scan, x: u8) -> Scan
     ensures { λ r. ⌜ r ≡ on-10 st next x ⌝ }
 {
-    if x == 10 { next } else { refused(st, Refusal::NO_10) }
+    if x == 10 {
+        next
+    } else {
+        refused(st, Refusal::NO_10)
+    }
 }
 
 fn on_word(st: Scan, x: u8) -> Scan
@@ -143,7 +147,11 @@ fn step_body(st: Scan, x: u8) -> Scan
         return on_counted(st, x);
     }
     if phase == Scan::LINE_CR {
-        return on_10(st, in_head(st, Scan::LINE_START, st.lines, st.sized, st.size), x);
+        return on_10(
+            st,
+            in_head(st, Scan::LINE_START, st.lines, st.sized, st.size),
+            x,
+        );
     }
     if phase == Scan::BLANK_CR {
         return on_10(st, body_begins(st), x);

@@ -29,7 +29,11 @@ fn len_max(phase: u8) -> usize
 fn line_open(phase: u8) -> usize
     ensures { λ r. ⌜ r ≡ line-open phase ⌝ }
 {
-    if (Scan::IN_NAME <= phase) & (phase <= Scan::IN_LENGTH) { 1 } else { 0 }
+    if (Scan::IN_NAME <= phase) & (phase <= Scan::IN_LENGTH) {
+        1
+    } else {
+        0
+    }
 }
 
 // The octets of an item outside its lines and its body.
