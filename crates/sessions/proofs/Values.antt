@@ -183,7 +183,7 @@ module _ (v : List ℕ) (n : ℕ) (first : n ≡ 0 + before 44 v) where
 
 -- the flags of items, with those counted before
 abbrev joined : List Bool → List (List ℕ) → List Bool
-joined fs items = (flag fs 0 || counts 48 items) ∷ (flag fs 1 || counts 49 items) ∷ (flag fs 2 || counts 50 items) ∷ []
+joined fs items = (flag fs 0 || counts "1.0" items) ∷ (flag fs 1 || counts "1.1" items) ∷ (flag fs 2 || counts "1.2" items) ∷ []
 
 unfoldable pub versions-from : List Bool → List (List ℕ) → Option (List Bool)
 versions-from fs items = cond (every is-item items) (some (joined fs items)) none

@@ -7,13 +7,17 @@ use Prim.Native.Nat.{ℕ, _-_, _≤_}
 use lib.ListN.{length, take, drop}
 use Rattle.headers.specs.Rows.{same}
 use Rattle.headers.specs.Block.{entries, listed}
-use Rattle.sessions.specs.Values.{version, HeartBeats}
+use Rattle.sessions.specs.Values.{HeartBeats}
 use Rattle.sessions.specs.Opening.{flag}
 use Rattle.sessions.specs.Headers.{value-of}
 use Rattle.sessions.specs.declared.value.VersionsRead.{VersionsRead}
 use Rattle.sessions.specs.declared.value.HeartBeatsRead.{HeartBeatsRead}
 use Rattle.sessions.specs.declared.locate.Located.{Located}
 use Rattle.sessions.specs.declared.command.Header.{Header}
+
+-- the version 1.d, by the digit d
+abbrev pub version : ℕ → List ℕ
+version d = 49 ∷ 46 ∷ d ∷ []
 
 -- flags with an item counted
 abbrev pub counted : List Bool → List ℕ → List Bool

@@ -3,8 +3,9 @@ use mathlib.Core.Bool.{Bool, false, cond, _&&_, not}
 use mathlib.Core.Option.{Option, none, some}
 use mathlib.Core.List.{List, [], _∷_}
 use Prim.Native.Nat.{ℕ}
+use Prim.Native.String.{String}
 use lib.Dec.{eqb}
-use Rattle.headers.specs.Rows.{empty, every, any, same}
+use Rattle.headers.specs.Rows.{octets-of, empty, every, any, same}
 use Rattle.headers.specs.Numbers.{is-digit, amount}
 use Rattle.frames.specs.Scanning.{span}
 
@@ -34,16 +35,13 @@ two-numbers (a ∷ b ∷ c ∷ more) = false
 unfoldable pub is-item : List ℕ → Bool
 is-item p = two-numbers (split 46 p)
 
--- "An item counts only if it is exactly 1.0, 1.1 or 1.2; order and repeats don't matter." The minor number's digit is d.
-abbrev pub version : ℕ → List ℕ
-version d = 49 ∷ 46 ∷ d ∷ []
-
-abbrev pub counts : ℕ → List (List ℕ) → Bool
-counts d items = any (λ p. same p (version d)) items
+-- "An item counts only if it is exactly 1.0, 1.1 or 1.2; order and repeats don't matter."
+abbrev pub counts : String → List (List ℕ) → Bool
+counts version items = any (λ p. same p (octets-of version)) items
 
 -- flags for 1.0, 1.1 and 1.2
 abbrev pub flags-of : List (List ℕ) → List Bool
-flags-of items = counts 48 items ∷ counts 49 items ∷ counts 50 items ∷ []
+flags-of items = counts "1.0" items ∷ counts "1.1" items ∷ counts "1.2" items ∷ []
 
 -- the versions of an accept-version value, none where it is malformed
 abbrev pub versions-in : List (List ℕ) → Option (List Bool)

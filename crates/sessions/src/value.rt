@@ -4,9 +4,9 @@ ghost use mathlib.Core.Option.{none};
 ghost use Prim.Native.Nat.{_+_, _≤_};
 ghost use lib.ListN.{length, drop};
 ghost use Rattle.headers.specs.Rows.{same};
-ghost use Rattle.sessions.specs.Values.{before, some-digits, is-item, version, versions, heart-beats};
+ghost use Rattle.sessions.specs.Values.{before, some-digits, is-item, versions, heart-beats};
 ghost use Rattle.sessions.specs.Opening.{shared-flags, none-shared, may-offer, interval as interval-of};
-ghost use Rattle.sessions.specs.Reads.{counted, versions-say, heart-beats-say};
+ghost use Rattle.sessions.specs.Reads.{version, counted, versions-say, heart-beats-say};
 use headers::DecimalRead;
 
 // The versions of an accept-version value, as flags for 1.0, 1.1 and 1.2, and whether it is well formed.
