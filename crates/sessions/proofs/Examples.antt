@@ -11,8 +11,9 @@ use Rattle.sessions.specs.Values.{split, is-item, versions, heart-beats}
 use Rattle.sessions.specs.Sessions.{is-valid}
 use Rattle.sessions.specs.Calls.{made, making-answer, frame-answer, frame-session, heart-beat-answer, heart-beat-session, timed-out-answer}
 use Rattle.sessions.specs.Examples.{Holds, lives, FlagsAndClock}
-use Rattle.sessions.specs.Examples.{intervals, clocks, makings, versions-offered, heart-beats-offered, missing-headers, accepted-frames}
-use Rattle.sessions.specs.Examples.{repeated-headers, out-of-turn, bad-lengths, live-ids, full-stores, kept-and-closed, records}
+use Rattle.sessions.specs.Examples.{intervals, clocks, makings, versions-counted, versions-malformed, heart-beats-malformed}
+use Rattle.sessions.specs.Examples.{missing-headers, accepted-frames, repeated-headers, server-commands, out-of-turn, bad-lengths}
+use Rattle.sessions.specs.Examples.{live-ids, full-stores, kept-and-closed, record-ids, record-numbers}
 
 -- the definitions that a row is computed by: the calls, header blocks and their values, stores
 unfoldable calls : Unit {0}
@@ -27,107 +28,102 @@ unfoldable stores : Unit {0}
 unfolding valid-store ids clean distinct laid replaced
 stores = tt
 
--- a row holds, and so do those after it
-infixr 5 _also_
-abbrev _also_ : {A B : Type 0} → A → B → A × B
-a also b = (a, b)
+-- ---- A refl for each row
 
 intervals-hold : All Holds intervals
 unfolding intervals calls blocks stores
-intervals-hold = refl also refl also refl also refl also refl also refl also refl also refl also tt
+intervals-hold = (refl, (refl, (refl, (refl, (refl, (refl, (refl, (refl, (refl, tt)))))))))
 
 clocks-hold : All Holds clocks
 unfolding clocks calls blocks stores
-clocks-hold = refl also refl also refl also refl also refl also tt
+clocks-hold = (refl, (refl, (refl, (refl, (refl, tt)))))
 
 makings-hold : All Holds makings
 unfolding makings calls blocks stores
-makings-hold = refl also refl also refl also refl also refl also refl also refl also refl also tt
+makings-hold = (refl, (refl, (refl, (refl, (refl, (refl, (refl, (refl, tt))))))))
 
-versions-offered-hold : All Holds versions-offered
-unfolding versions-offered calls blocks stores
-versions-offered-hold =
-    refl also refl also refl also refl also refl also refl also refl also refl also
-    refl also refl also refl also refl also refl also refl also refl also refl also
-    refl also refl also
-    tt
+versions-counted-hold : All Holds versions-counted
+unfolding versions-counted calls blocks stores
+versions-counted-hold = (refl, (refl, (refl, (refl, (refl, (refl, (refl, (refl, (refl, tt)))))))))
 
-heart-beats-offered-hold : All Holds heart-beats-offered
-unfolding heart-beats-offered calls blocks stores
-heart-beats-offered-hold =
-    refl also refl also refl also refl also refl also refl also refl also refl also
-    refl also refl also
-    tt
+versions-malformed-hold : All Holds versions-malformed
+unfolding versions-malformed calls blocks stores
+versions-malformed-hold = (refl, (refl, (refl, (refl, (refl, (refl, (refl, (refl, (refl, tt)))))))))
+
+heart-beats-malformed-hold : All Holds heart-beats-malformed
+unfolding heart-beats-malformed calls blocks stores
+heart-beats-malformed-hold = (refl, (refl, (refl, (refl, (refl, (refl, (refl, (refl, (refl, (refl, (refl, tt)))))))))))
 
 missing-headers-hold : All Holds missing-headers
 unfolding missing-headers calls blocks stores
-missing-headers-hold =
-    refl also refl also refl also refl also refl also refl also refl also refl also
-    refl also refl also refl also refl also refl also
-    tt
+missing-headers-hold = (refl, (refl, (refl, (refl, (refl, (refl, (refl, (refl, (refl, (refl, (refl, (refl, (refl, tt)))))))))))))
 
 accepted-frames-hold : All Holds accepted-frames
 unfolding accepted-frames calls blocks stores
-accepted-frames-hold = refl also refl also refl also refl also refl also tt
+accepted-frames-hold = (refl, (refl, (refl, (refl, (refl, tt)))))
 
 repeated-headers-hold : All Holds repeated-headers
 unfolding repeated-headers calls blocks stores
-repeated-headers-hold = refl also tt
+repeated-headers-hold = (refl, tt)
+
+server-commands-hold : All Holds server-commands
+unfolding server-commands calls blocks stores
+server-commands-hold = (refl, (refl, (refl, (refl, (refl, (refl, (refl, (refl, tt))))))))
 
 out-of-turn-hold : All Holds out-of-turn
 unfolding out-of-turn calls blocks stores
-out-of-turn-hold =
-    refl also refl also refl also refl also refl also refl also refl also refl also
-    refl also refl also refl also refl also refl also refl also refl also refl also
-    refl also refl also refl also
-    tt
+out-of-turn-hold = (refl, (refl, (refl, (refl, (refl, (refl, (refl, (refl, (refl, (refl, (refl, tt)))))))))))
 
 bad-lengths-hold : All Holds bad-lengths
 unfolding bad-lengths calls blocks stores
-bad-lengths-hold =
-    refl also refl also refl also refl also refl also refl also refl also refl also
-    refl also refl also refl also refl also
-    tt
+bad-lengths-hold = (refl, (refl, (refl, (refl, (refl, (refl, (refl, (refl, (refl, (refl, (refl, (refl, tt))))))))))))
 
 live-ids-hold : All Holds live-ids
 unfolding live-ids calls blocks stores
-live-ids-hold =
-    refl also refl also refl also refl also refl also refl also refl also refl also
-    refl also refl also refl also refl also
-    tt
+live-ids-hold = (refl, (refl, (refl, (refl, (refl, (refl, (refl, (refl, (refl, (refl, (refl, (refl, tt))))))))))))
 
 full-stores-hold : All Holds full-stores
 unfolding full-stores calls blocks stores
-full-stores-hold = refl also refl also refl also refl also refl also refl also tt
+full-stores-hold = (refl, (refl, (refl, (refl, (refl, (refl, tt))))))
 
 kept-and-closed-hold : All Holds kept-and-closed
 unfolding kept-and-closed calls blocks stores
-kept-and-closed-hold = refl also refl also refl also tt
+kept-and-closed-hold = (refl, (refl, (refl, tt)))
 
-records-hold : All Holds records
-unfolding records calls blocks stores
-records-hold =
-    refl also refl also refl also refl also refl also refl also refl also refl also
-    refl also refl also refl also refl also refl also refl also refl also refl also
-    refl also refl also refl also refl also refl also refl also refl also
-    tt
+record-ids-hold : All Holds record-ids
+unfolding record-ids calls blocks stores
+record-ids-hold = (refl, (refl, (refl, (refl, (refl, (refl, (refl, (refl, (refl, tt)))))))))
+
+record-numbers-hold : All Holds record-numbers
+unfolding record-numbers calls blocks stores
+record-numbers-hold = (refl, (refl, (refl, (refl, (refl, (refl, (refl, (refl, (refl, (refl, (refl, (refl, (refl, (refl, tt))))))))))))))
+
+-- ---- The whole table
+
+-- a group of rows holds, and so do those after it
+infixr 5 _also_
+abbrev _also_ : {A B : Type 0} → A → B → A × B
+a also b = (a, b)
 
 pub lives-hold : All (All Holds) lives
 lives-hold =
     intervals-hold also
     clocks-hold also
     makings-hold also
-    versions-offered-hold also
-    heart-beats-offered-hold also
+    versions-counted-hold also
+    versions-malformed-hold also
+    heart-beats-malformed-hold also
     missing-headers-hold also
     accepted-frames-hold also
     repeated-headers-hold also
+    server-commands-hold also
     out-of-turn-hold also
     bad-lengths-hold also
     live-ids-hold also
     full-stores-hold also
     kept-and-closed-hold also
-    records-hold also
+    record-ids-hold also
+    record-numbers-hold also
     tt
 
 pub flags-and-clock-hold : FlagsAndClock

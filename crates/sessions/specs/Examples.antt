@@ -175,11 +175,11 @@ then-refused c es k = record { start = server; events = connect ∷ frame-of c e
 -- ---- The rows
 
 -- "Offers 1000,0 and 500,2000 give 2000 and 0", and the other way round: the client's and the server's offers, and the intervals from
--- client to server and back. "0 if the client's first or the server's second is 0, else the larger."
-abbrev offers : String → ℕ → ℕ → ℕ → ℕ → Life
-offers client sends wants inbound outbound = record {
+-- client to server and back. "0 if the client's first or the server's second is 0, else the larger"; "absent means 0,0".
+abbrev offered-with : List Entry → ℕ → ℕ → ℕ → ℕ → Life
+offered-with client sends wants inbound outbound = record {
   start = making sends wants v1-2 (accepted []);
-  events = frame-of CONNECT (entry "accept-version" "1.2" ∷ entry "host" "h" ∷ entry "heart-beat" client ∷ []) 1 ⇒ ok ∷ [];
+  events = frame-of CONNECT (entry "accept-version" "1.2" ∷ entry "host" "h" ∷ client) 1 ⇒ ok ∷ [];
   left = record {
     sends = sends;
     wants = wants;
@@ -195,6 +195,9 @@ offers client sends wants inbound outbound = record {
   asked = [];
 }
 
+abbrev offers : String → ℕ → ℕ → ℕ → ℕ → Life
+offers client sends wants inbound outbound = offered-with (entry "heart-beat" client ∷ []) sends wants inbound outbound
+
 unfoldable pub intervals : List Life
 intervals =
     offers "1000,0" 500 2000 2000 0 ∷
@@ -205,6 +208,7 @@ intervals =
     offers "0,0" 100 200 0 0 ∷
     offers "3600000,3600000" 3600000 3600000 3600000 3600000 ∷
     offers "0003600000,00" 1 1 3600000 0 ∷
+    offered-with [] 100 200 0 0 ∷
     []
 
 -- "more than twice that interval has passed since last-heard": the interval is 8. Heard from at 4,294,967,290, at 10 just twice that
@@ -282,48 +286,51 @@ makings =
     unmade 0 0 (true ∷ true ∷ true ∷ []) ∷
     []
 
--- "31 malformed, 32 none shared"; 33 where heart-beat is not "two numbers, digits only, a comma between, each at most 3,600,000"
-abbrev opens-as : Command → String → Answer → State → Life
-opens-as c versions a left = record {
+-- "An item counts only if it is exactly 1.0, 1.1 or 1.2; order and repeats don't matter"; 32 where no version is shared
+abbrev versions-accepted : Command → String → Life
+versions-accepted c versions = record {
   start = server;
-  events = frame-of c (entry "accept-version" versions ∷ entry "host" "h" ∷ []) 1 ⇒ a ∷ [];
-  left = left;
+  events = frame-of c (entry "accept-version" versions ∷ entry "host" "h" ∷ []) 1 ⇒ ok ∷ [];
+  left = having open-phase 1 [] [];
   asked = [];
 }
 
-abbrev versions-accepted : Command → String → Life
-versions-accepted c versions = opens-as c versions ok (having open-phase 1 [] [])
+abbrev versions-refused : Command → String → ℕ → Life
+versions-refused c versions k = first-refused c (entry "accept-version" versions ∷ entry "host" "h" ∷ []) k
 
-abbrev versions-refused : String → ℕ → Life
-versions-refused versions k = opens-as CONNECT versions (refused k) (unopened closed-phase 0)
-
-unfoldable pub versions-offered : List Life
-versions-offered =
+unfoldable pub versions-counted : List Life
+versions-counted =
     versions-accepted CONNECT "1.2" ∷
     versions-accepted STOMP "1.2" ∷
     versions-accepted CONNECT "1.0,1.2" ∷
     versions-accepted CONNECT "1.2,1.1,1.2,10.11" ∷
-    versions-refused "1.0,1.1" 32 ∷
-    versions-refused "2.2" 32 ∷
-    versions-refused "1.20" 32 ∷
-    versions-refused "01.2" 32 ∷
-    versions-refused "" 31 ∷
-    versions-refused "1" 31 ∷
-    versions-refused "1." 31 ∷
-    versions-refused ".2" 31 ∷
-    versions-refused "1.2," 31 ∷
-    versions-refused ",1.2" 31 ∷
-    versions-refused "1.2.0" 31 ∷
-    versions-refused "1.2, 1.1" 31 ∷
-    first-refused STOMP (entry "accept-version" "x" ∷ entry "host" "h" ∷ []) 31 ∷
-    first-refused STOMP (entry "accept-version" "1.1" ∷ entry "host" "h" ∷ []) 32 ∷
+    versions-refused CONNECT "1.0,1.1" 32 ∷
+    versions-refused STOMP "1.0,1.1" 32 ∷
+    versions-refused CONNECT "2.2" 32 ∷
+    versions-refused CONNECT "1.20" 32 ∷
+    versions-refused CONNECT "01.2" 32 ∷
     []
 
+-- 31 where accept-version is not "items of digits, a point, digits (no part empty), joined by commas"
+unfoldable pub versions-malformed : List Life
+versions-malformed =
+    versions-refused CONNECT "" 31 ∷
+    versions-refused CONNECT "1" 31 ∷
+    versions-refused CONNECT "1." 31 ∷
+    versions-refused CONNECT ".2" 31 ∷
+    versions-refused CONNECT "1.2," 31 ∷
+    versions-refused CONNECT ",1.2" 31 ∷
+    versions-refused CONNECT "1.2.0" 31 ∷
+    versions-refused CONNECT "1.2, 1.1" 31 ∷
+    versions-refused STOMP "1.x" 31 ∷
+    []
+
+-- 33 where heart-beat is not "two numbers, digits only, a comma between, each at most 3,600,000"; 31 and 32 come before it
 abbrev heart-beat-refused : Command → String → Life
 heart-beat-refused c heart-beats = first-refused c (entry "accept-version" "1.2" ∷ entry "host" "h" ∷ entry "heart-beat" heart-beats ∷ []) 33
 
-unfoldable pub heart-beats-offered : List Life
-heart-beats-offered =
+unfoldable pub heart-beats-malformed : List Life
+heart-beats-malformed =
     heart-beat-refused CONNECT "3600001,0" ∷
     heart-beat-refused CONNECT "0,3600001" ∷
     heart-beat-refused CONNECT "" ∷
@@ -333,6 +340,7 @@ heart-beats-offered =
     heart-beat-refused CONNECT "1,2,3" ∷
     heart-beat-refused CONNECT "1, 2" ∷
     heart-beat-refused STOMP "x,0" ∷
+    first-refused CONNECT (entry "accept-version" "x" ∷ entry "host" "h" ∷ entry "heart-beat" "x" ∷ []) 31 ∷
     first-refused CONNECT (entry "accept-version" "1.1" ∷ entry "host" "h" ∷ entry "heart-beat" "x" ∷ []) 32 ∷
     []
 
@@ -439,9 +447,9 @@ repeated-headers =
     } ∷
     []
 
--- "41 a server's command", also of a session that is not open; "42 not open, or a second CONNECT/STOMP"
-unfoldable pub out-of-turn : List Life
-out-of-turn =
+-- "41 a server's command", whether the session is open or not
+unfoldable pub server-commands : List Life
+server-commands =
     first-refused CONNECTED [] 41 ∷
     first-refused ERROR [] 41 ∷
     first-refused MESSAGE [] 41 ∷
@@ -450,6 +458,11 @@ out-of-turn =
     then-refused ERROR [] 41 ∷
     then-refused MESSAGE [] 41 ∷
     then-refused RECEIPT [] 41 ∷
+    []
+
+-- "42 not open, or a second CONNECT/STOMP", which comes before 43
+unfoldable pub out-of-turn : List Life
+out-of-turn =
     first-refused ABORT [] 42 ∷
     first-refused ACK [] 42 ∷
     first-refused BEGIN [] 42 ∷
@@ -642,12 +655,8 @@ valid s = record { start = given s; events = heart-beat 1 ⇒ ok ∷ []; left = 
 abbrev valid-closed : Session → Life
 valid-closed s = record { start = given s; events = heart-beat 1 ⇒ refused 40 ∷ []; left = state-of s; asked = in-time 1 ∷ [] }
 
-unfoldable pub records : List Life
-records =
-    invalid (in-state v1-2 3) ∷
-    valid (in-state v1-2 fresh-phase) ∷
-    valid (in-state v1-2 open-phase) ∷
-    valid-closed (in-state v1-2 closed-phase) ∷
+unfoldable pub record-ids : List Life
+record-ids =
     invalid (with-octets 1 33 0 0) ∷
     invalid (with-octets 0 0 1 33) ∷
     valid (with-texts (long ∷ "" ∷ []) (long ∷ "" ∷ [])) ∷
@@ -657,6 +666,14 @@ records =
     invalid (with-octets 1 0 0 0) ∷
     invalid (with-octets 0 0 1 0) ∷
     valid (with-octets 1 1 1 1) ∷
+    []
+
+unfoldable pub record-numbers : List Life
+record-numbers =
+    invalid (in-state v1-2 3) ∷
+    valid (in-state v1-2 fresh-phase) ∷
+    valid (in-state v1-2 open-phase) ∷
+    valid-closed (in-state v1-2 closed-phase) ∷
     invalid (with-numbers 3600001 0 0 0 v1-2 open-phase) ∷
     invalid (with-numbers 0 3600001 0 0 v1-2 open-phase) ∷
     invalid (with-numbers 0 0 3600001 0 v1-2 open-phase) ∷
@@ -676,17 +693,20 @@ lives =
     intervals ∷
     clocks ∷
     makings ∷
-    versions-offered ∷
-    heart-beats-offered ∷
+    versions-counted ∷
+    versions-malformed ∷
+    heart-beats-malformed ∷
     missing-headers ∷
     accepted-frames ∷
     repeated-headers ∷
+    server-commands ∷
     out-of-turn ∷
     bad-lengths ∷
     live-ids ∷
     full-stores ∷
     kept-and-closed ∷
-    records ∷
+    record-ids ∷
+    record-numbers ∷
     []
 
 -- ---- The clock, and what no life shows while a server offers 1.2 alone
