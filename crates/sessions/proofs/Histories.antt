@@ -42,7 +42,10 @@ ids-with Transactions s is h = ids-laid id-max is h
 
 -- neither the opening frame nor DISCONNECT names an id
 opening-names : (n : ℕ) (es : List Entry) → opens n ≡ true → named-id n es ≡ none
-opening-names n es h = or-either (is CONNECT n) (is STOMP n) h (λ e. ap (λ m. named-id m es) (eqb-true n (number CONNECT) e)) (λ e. ap (λ m. named-id m es) (eqb-true n (number STOMP) e))
+opening-names n es h =
+    or-either (is CONNECT n) (is STOMP n) h
+    (λ e. ap (λ m. named-id m es) (eqb-true n (number CONNECT) e))
+    (λ e. ap (λ m. named-id m es) (eqb-true n (number STOMP) e))
 
 closing-names : (n : ℕ) (es : List Entry) → is DISCONNECT n ≡ true → named-id n es ≡ none
 closing-names n es h = ap (λ m. named-id m es) (eqb-true n (number DISCONNECT) h)

@@ -28,7 +28,8 @@ use Rattle.sessions.specs.Places.{Fits}
 use Rattle.sessions.specs.Values.{HeartBeats, heart-beat-max, both, heart-beats-in, heart-beats, split}
 use Rattle.sessions.specs.Opening.{may-offer, interval}
 use Rattle.sessions.specs.Headers.{value-of, is, opens, naming}
-use Rattle.sessions.specs.Sessions.{subscriptions-max, transactions-max, id-max, fresh-phase, open-phase, closed-phase, in-phase, fresh, ids-of, with-stores, with-ids, with-phase, closed, heard, right-flags, small-numbers, valid-numbers, valid-ids, is-valid, Sized}
+use Rattle.sessions.specs.Sessions.{subscriptions-max, transactions-max, id-max, fresh-phase, open-phase, closed-phase, in-phase, fresh}
+use Rattle.sessions.specs.Sessions.{ids-of, with-stores, with-ids, with-phase, closed, heard, right-flags, small-numbers, valid-numbers, valid-ids, is-valid, Sized}
 use Rattle.sessions.specs.Calls.{making-checks, making-answer, made-by, made, shared-by, heart-beats-of, client-versions, client-heart-beats, opened-by, usage-of, named-id, naming-checks, frame-answer, naming-effect, effect, frame-session, heart-beat-answer, heart-beat-session}
 use Rattle.sessions.specs.Steps.{count-of}
 use Rattle.sessions.specs.Histories.{Call, frame, heart-beat, next, after}
@@ -293,7 +294,8 @@ held-made sends wants offered = by (making-answer sends wants offered) refl
   where
     by : (A : Answer) → settle (making-checks sends wants offered) [] ≡ A → Held (made-by A sends wants offered)
     by (accepted v) e =
-        let small : ltb heart-beat-max sends || (ltb heart-beat-max wants || not (may-offer offered)) ≡ false = all-pass (making-checks sends wants offered) [] v e .0 in
+        let small : ltb heart-beat-max sends || (ltb heart-beat-max wants || not (may-offer offered)) ≡ false =
+        all-pass (making-checks sends wants offered) [] v e .0 in
         let rest = or-false-right (ltb heart-beat-max sends) (ltb heart-beat-max wants || not (may-offer offered)) small in
         held-fresh sends wants offered fresh-phase
         (ltb-false heart-beat-max sends (or-false-left (ltb heart-beat-max sends) (ltb heart-beat-max wants || not (may-offer offered)) small))

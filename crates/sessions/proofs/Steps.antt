@@ -119,7 +119,8 @@ module _ (s : Session) (n : ℕ) (es : List Entry) (time : ℕ) (r : Outcome) wh
   pub entries-opening : lacks-needed n es ≡ false → opens n ≡ true → GivesOpening s es time r → GivesEntries s n es time r
   entries-opening h o g = opening-is (opening-number o) h g
 
-  pub entries-disconnect : n ≡ number DISCONNECT → (receipt : Bool) → receipt ≡ has Receipt es → r ≡ accepted-by (closed s) receipt time → GivesEntries s n es time r
+  pub entries-disconnect : n ≡ number DISCONNECT → (receipt : Bool) → receipt ≡ has Receipt es
+      → r ≡ accepted-by (closed s) receipt time → GivesEntries s n es time r
   entries-disconnect e receipt h q = rw (e, ← h) (gives-accepted _ receipt s (closed s) time r refl q)
 
   -- any other frame
@@ -150,7 +151,8 @@ unfolding heart-beat-answer heart-beat-session
 heart-beat-gives s time r g = (g .answered, g .left)
 
 module _ (sends wants : ℕ) (offered : List Bool) (made-session : Session) where
-  pub making-refused : ltb heart-beat-max sends || (ltb heart-beat-max wants || not (may-offer offered)) ≡ true → made-session ≡ closed (fresh 0 0 (replicate 3 false))
+  pub making-refused : ltb heart-beat-max sends || (ltb heart-beat-max wants || not (may-offer offered)) ≡ true
+      → made-session ≡ closed (fresh 0 0 (replicate 3 false))
       → (refused 34 ≡ making-answer sends wants offered) × (made-session ≡ made sends wants offered)
   unfolding making-answer made
   making-refused h e = rw h (refl, e)

@@ -13,7 +13,8 @@ use Rattle.headers.specs.Answers.{accepted, settle}
 use Rattle.headers.proofs.Rows.{and-left, and-right, or-false-right}
 use Rattle.sessions.specs.Stores.{valid-store, used, use-checks}
 use Rattle.sessions.specs.Values.{heart-beat-max}
-use Rattle.sessions.specs.Sessions.{subscriptions-max, transactions-max, id-max, closed-phase, ids-of, with-stores, with-ids, valid-numbers, valid-ids, is-valid, Sized}
+use Rattle.sessions.specs.Sessions.{subscriptions-max, transactions-max, id-max, closed-phase}
+use Rattle.sessions.specs.Sessions.{ids-of, with-stores, with-ids, valid-numbers, valid-ids, is-valid, Sized}
 use Rattle.sessions.specs.Places.{Fits, stored, Settles, put-in}
 use Rattle.sessions.specs.Steps.{closed-by, accepted-by, count-of, put-of, GivesUse}
 use Rattle.sessions.specs.declared.store.Use.{Use}
