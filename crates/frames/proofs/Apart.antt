@@ -1,19 +1,17 @@
 -- What an answer says tells it apart from every other of its enum. Assumes nothing.
-use mathlib.Core.Path.{_≡_, refl, sym, ap, _∙_}
+use mathlib.Core.Path.{_≡_, refl}
 use mathlib.Core.Bool.{cond}
 use mathlib.Core.List.{[], _∷_}
 use Prim.Native.Nat.{ℕ}
 use lib.Dec.{eqb}
 use Rattle.headers.specs.Answers.{Answer, accepted, refused}
+use Rattle.headers.proofs.Answers.{once}
 use Rattle.frames.specs.Replies.{Reply, Complete, Incomplete, Invalid}
 use Rattle.frames.specs.Encoding.{Encoding, image-length, refusal}
 use Rattle.frames.specs.Answers.{parsed-says, decoded-says, encoded-says}
 use Rattle.frames.specs.declared.parse.Parsed.{Parsed}
 use Rattle.frames.specs.declared.decode.Decoded.{Decoded}
 use Rattle.frames.specs.declared.encode.Encoded.{Encoded}
-
-once : {A B : Type 0} (f : A → B) (g : B → A) → ((a : A) → g (f a) ≡ a) → (a b : A) → f a ≡ f b → a ≡ b
-once f g back a b e = sym (back a) ∙ ap g e ∙ back b
 
 abbrev parsed : Reply → Parsed
 parsed (Complete k u c h s l) = Parsed.Complete (record { kind = k; len = u; command = c; headers = h; body = s; «body_len» = l })

@@ -8,6 +8,8 @@ use crate::line::put_word;
 use crate::stream::Progress;
 use frames::parse::Item;
 use frames::parse::Parsed;
+use sessions::commands::CONNECT;
+use sessions::commands::STOMP;
 use sessions::session::MakingAnswer;
 use sessions::session::Outcome;
 use sessions::session::Session;
@@ -44,7 +46,7 @@ fn give(session: Session, item: Item, octets: &[u8], block: &mut [u8]) -> Outcom
 
 // Whether an item is a frame that opens a session.
 fn is_opening(item: Item) -> bool {
-    (item.kind == 2) & ((item.command == 5) | (item.command == 13))
+    (item.kind == 2) & ((item.command == CONNECT) | (item.command == STOMP))
 }
 
 // The start of an item, and what it is, at the front of d.

@@ -1,17 +1,15 @@
 -- What an answer says tells it apart from every other of its enum. Assumes nothing.
 --     answer-once, making-once, timed-out-once     one law for each enum of answers
-use mathlib.Core.Path.{_≡_, refl, sym, ap, _∙_}
+use mathlib.Core.Path.{_≡_, refl, ap}
 use mathlib.Core.Bool.{Bool, true, false, cond}
 use mathlib.Core.List.{[], _∷_}
 use lib.Dec.{eqb}
 use Rattle.headers.specs.Answers.{Answer, accepted, refused}
+use Rattle.headers.proofs.Answers.{once}
 use Rattle.sessions.specs.Answers.{bit, answer-says, making-says, timed-out-says}
 use Rattle.sessions.specs.declared.session.SessionAnswer.{SessionAnswer}
 use Rattle.sessions.specs.declared.session.MakingAnswer.{MakingAnswer}
 use Rattle.sessions.specs.declared.session.TimedOut.{TimedOut}
-
-once : {A B : Type 0} (f : A → B) (g : B → A) → ((a : A) → g (f a) ≡ a) → (a b : A) → f a ≡ f b → a ≡ b
-once f g back a b e = sym (back a) ∙ ap g e ∙ back b
 
 -- whether a receipt is owed, from the number that says so
 unbit : (b : Bool) → eqb (bit b) 1 ≡ b
