@@ -10,7 +10,6 @@ pub mod Refusals
 pub mod Reach
 pub mod Table
 pub mod Exact
-pub mod Lowest
 pub mod Examples
 pub mod Scanning
 pub mod Upto

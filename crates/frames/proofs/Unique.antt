@@ -1,5 +1,6 @@
 -- Guards of the definitions: what they claim fixes the answer, so that none of them can be weakened unseen. Assumes nothing.
---     first-lowest     the number given is the lowest of those that fit
+--     order-numbers    the numbers in the order in which they are looked for
+--     first-number     the number given is that of the first reason in this order that fits
 --     claims-parsed    what a reply claims holds of no reply but `parsed`
 --     exact-once       no two replies are exact
 --     decodes-once     no two answers and blocks are what decoding gives
@@ -7,7 +8,7 @@
 use mathlib.Core.Path.{_≡_, refl, sym, _∙_, ap}
 use mathlib.Core.Bool.{Bool, true, false}
 use mathlib.Core.Option.{Option, some}
-use mathlib.Core.List.{List, [], _∷_, _++_, append-assoc}
+use mathlib.Core.List.{List, [], _∷_, _++_, map, append-assoc}
 use Prim.Native.Nat.{ℕ}
 use lib.ListN.{length, take, drop}
 use lib.Seq.{drop-append-seam, take-append-seam}
@@ -17,12 +18,11 @@ use Rattle.frames.specs.Grammar.{Version, Head, head, end, frame, Tree, 
 use Rattle.frames.specs.Replies.{Reply, told}
 use Rattle.frames.specs.Replies as reply
 use Rattle.frames.specs.Parsing.{parsed}
-use Rattle.frames.specs.Refusals.{Reason, fits, order, numbered, number-of, refusal, First, Lowest}
+use Rattle.frames.specs.Refusals.{Reason, fits, order, numbered, number-of, refusal, First}
 use Rattle.frames.specs.Exactness.{Claims, Exact}
 use Rattle.frames.specs.Decoding.{decode-answer, decoded-records, tree-entries, Decodes}
 use Rattle.frames.proofs.Table.{at-refused}
 use Rattle.frames.proofs.Exact.{exact}
-use Rattle.frames.proofs.Lowest.{lowest}
 use Rattle.frames.proofs.Readings.{reading-once}
 
 -- the first of a row that passes a test, by its place in the row
@@ -30,14 +30,14 @@ first-is : (f : Reason → Bool) (before after : List Reason) (r : Reason) → A
 first-is f [] after r h k = rw k
 first-is f (e ∷ es) after r h k = rw (h .0) (first-is f es after r (h .1) k)
 
+-- "at one octet the order is 1, 2, 10, 3, 8, 9, 4 to 7" (document 02, C-11)
+pub order-numbers : map numbered order ≡ 1 ∷ 2 ∷ 10 ∷ 3 ∷ 8 ∷ 9 ∷ 4 ∷ 5 ∷ 6 ∷ 7 ∷ []
+order-numbers = refl
+
 -- the number of the first reason that fits
-first-number : (f : Reason → Bool) (k : ℕ) → First f k → number-of (first-of f order) ≡ some k
+pub first-number : (f : Reason → Bool) (k : ℕ) → First f k → number-of (first-of f order) ≡ some k
 first-number f k x =
     ap (λ o. number-of (first-of f o)) (x .ordered) ∙ ap number-of (first-is f (x .earlier) (x .later) (x .reason) (x .none-earlier) (x .fitting)) ∙ ap some (x .number)
-
--- and it is the lowest number of those that fit
-pub first-lowest : (f : Reason → Bool) (k : ℕ) → First f k → Lowest f k
-first-lowest f k x = lowest f k (first-number f k x)
 
 module _ (ver : Version) where
   -- what a reply claims holds of the reply that parsing gives, and of no other

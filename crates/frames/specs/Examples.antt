@@ -1,4 +1,5 @@
--- Document 01's examples P1 to P13, in its order, and what each of them claims. That all hold is proofs/Examples.antt.
+-- Document 01's examples P1 to P13, in its order, then those of the requests of document 02, and what each of them claims. That all
+-- hold is proofs/Examples.antt.
 -- Assumes nothing.
 use mathlib.Core.Path.{_≡_}
 use mathlib.Core.Option.{Option, none, some}
@@ -16,7 +17,7 @@ use Rattle.frames.specs.Exactness.{Exact}
 use Rattle.frames.specs.Decoding.{decode-answer, decoded-records, tree-entries, Reading}
 use Rattle.frames.specs.Encoding.{Call, encode-answer, encode-image}
 
--- An example: its label in document 01, octets, and what parsing them replies. Where document 01 says it, also the header block that
+-- An example: its label, octets, and what parsing them replies. Where the documents say it, also the header block that
 -- they decode to and its length; the image that the frame is encoded to again and its length; a header's name and its value in the block.
 pub record Example : Type 0 where
   pub label : String
@@ -50,12 +51,21 @@ examples =
       looked-up = none;
     } ∷
     finding "id" "a:b" (parses "P7" (octets-of "ACK\nid:a\\cb\n\n\0") (Complete 2 14 2 1 13 0)) ∷
-    parses "P8" (octets-of "ACK\nid:a\\t") (Invalid 3 9) ∷
+    parses "P8" (octets-of "ACK\nid:a\\t") (Invalid 10 9) ∷
     parses "P9" (octets-of "ACK\n\nx") (Invalid 7 5) ∷
     parses "P10" (octets-of "SEND\ncontent-length:1\n\n\0\0") (Complete 2 25 12 1 23 1) ∷
     parses "P11" (octets-of "SEND\ncontent-length:32769") (Invalid 6 24) ∷
     parses "P12" (octets-of "ACK\ncontent-length:1") (Invalid 6 19) ∷
     finding "run" "b" (parses "P13" (octets-of "MESSAGE\nrun:b\nrun:a\n\n\0") (Complete 2 22 9 2 21 0)) ∷
+    parses "C-11, empty name" (octets-of "ACK\n:") (Invalid 3 4) ∷
+    parses "C-11, second colon" (octets-of "ACK\na:b:") (Invalid 8 7) ∷
+    parses "C-11, second colon in a content-length" (octets-of "SEND\ncontent-length:1:") (Invalid 8 21) ∷
+    parses "C-11, line end before the colon" (octets-of "ACK\na\n") (Invalid 9 5) ∷
+    parses "C-11, 13 before the colon" (octets-of "ACK\na\r") (Invalid 9 5) ∷
+    parses "C-11, escape of a colon before the colon" (octets-of "ACK\na\\:") (Invalid 10 6) ∷
+    parses "C-11, escape of a colon after it" (octets-of "ACK\nid:a\\:") (Invalid 10 9) ∷
+    parses "C-11, escape cut before the colon" (octets-of "ACK\na\\\n") (Invalid 10 6) ∷
+    parses "C-11, escape cut by 13" (octets-of "ACK\nid:\\\r") (Invalid 10 8) ∷
     []
 
 -- ---- What an example claims

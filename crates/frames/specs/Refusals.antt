@@ -1,11 +1,12 @@
--- Why an octet is refused: document 01's table ("The judge's three replies"), row by row, over an open tree and the octet after it.
+-- Why an octet is refused: document 01's table ("The judge's three replies"), row by row, over an open tree and the octet after it,
+-- with the numbers and the order of document 02, C-11.
 -- Knows nothing of how parsing goes on.
 -- Assumes nothing.
 use mathlib.Core.Path.{_≡_}
 use mathlib.Core.Bool.{Bool, true, false, cond, _&&_, _||_, not}
 use mathlib.Core.Option.{Option, none, some}
 use mathlib.Core.List.{List, [], _∷_, _++_}
-use Prim.Native.Nat.{ℕ, _+_, _≤_}
+use Prim.Native.Nat.{ℕ, _+_}
 use lib.ListN.{length}
 use lib.Dec.{eqb, leb, ltb}
 use Rattle.headers.specs.Rows.{begins, empty, any, first-of, All}
@@ -111,17 +112,18 @@ used-up (some v) b = leb (decimal 0 v) (length b)
 pub data Reason : Type 0 where
   no-command no-10 wrong-escape nameless second-colon no-colon long-line many-lines bad-length past-body : Reason
 
--- "Where several fit one octet, the lowest number is given": the order at one octet, and each reason's number.
+-- "8 second colon, 9 line end before the colon, 10 wrong or cut escape; at one octet the order is 1, 2, 10, 3, 8, 9, 4 to 7": the
+-- reasons in that order, and each reason's number (`order-numbers`, proofs/Unique.antt, has the list of the numbers).
 abbrev pub order : List Reason
 order = no-command ∷ no-10 ∷ wrong-escape ∷ nameless ∷ second-colon ∷ no-colon ∷ long-line ∷ many-lines ∷ bad-length ∷ past-body ∷ []
 
 abbrev pub numbered : Reason → ℕ
 numbered no-command = 1
 numbered no-10 = 2
-numbered wrong-escape = 3
+numbered wrong-escape = 10
 numbered nameless = 3
-numbered second-colon = 3
-numbered no-colon = 3
+numbered second-colon = 8
+numbered no-colon = 9
 numbered long-line = 4
 numbered many-lines = 5
 numbered bad-length = 6
@@ -145,13 +147,13 @@ module _ (ver : Version) where
   fits s x no-command = at-command (position s) (λ w. not (some-command (w ++ (x ∷ []))) && not (empty w && ends x))
   -- 2: follows 13 and is not 10
   fits s x no-10 = at-13 (position s) (not (eqb x 10))
-  -- 3: spoils the header line: wrong or cut escape,
+  -- 10: wrong or cut escape
   fits s x wrong-escape = at-line (position s) (λ l. fault-of l x of-escape)
-  -- colon with an empty name,
+  -- 3: colon with an empty name
   fits s x nameless = at-line (position s) (λ l. before-colon (l .value) && empty (l .name) && eqb x 58)
-  -- second colon,
+  -- 8: second colon
   fits s x second-colon = at-line (position s) (λ l. past-colon (l .value) && eqb x 58)
-  -- line end before the colon
+  -- 9: line end before the colon
   fits s x no-colon = at-line (position s) (λ l. before-colon (l .value) && not (empty (l .name)) && ends x)
   -- 4: makes the line, with what it still owes, longer than 512
   fits s x long-line = at-line (position s) (λ l. not (ends x) && ltb line-max (reached l + 1 + owed l x))
@@ -179,10 +181,3 @@ pub record First (f : Reason → Bool) (k : ℕ) : Type 0 where
   pub fitting : f reason ≡ true
   pub number : numbered reason ≡ k
   pub none-earlier : All (λ r. f r ≡ false) earlier
-
--- k is the lowest number of the reasons that fit.
-pub record Lowest (f : Reason → Bool) (k : ℕ) : Type 0 where
-  pub reason : Reason
-  pub fitting : f reason ≡ true
-  pub number : numbered reason ≡ k
-  pub least : (r : Reason) → f r ≡ true → k ≤ numbered r

@@ -33,16 +33,16 @@ impl Refusal {
     pub const NO_10: u32 = 2;
 
     // It is no escape's letter after a backslash.
-    pub const WRONG_ESCAPE: u32 = 3;
+    pub const WRONG_ESCAPE: u32 = 10;
 
     // It is a colon with an empty name.
     pub const NAMELESS: u32 = 3;
 
     // It is a second colon.
-    pub const SECOND_COLON: u32 = 3;
+    pub const SECOND_COLON: u32 = 8;
 
     // It begins a line end before the colon.
-    pub const NO_COLON: u32 = 3;
+    pub const NO_COLON: u32 = 9;
 
     // It makes the line, with what it still owes, longer than 512.
     pub const LONG_LINE: u32 = 4;
