@@ -15,9 +15,9 @@
 #include "row.h"
 
 enum { TOKEN_CASES = 300000, EDGE_CASES = 100000, BODY_CASES = 1000 };
-enum { OUTCOMES = 10, LEAST_OF_EACH = 200 };
+enum { OUTCOMES = 13, LEAST_OF_EACH = 200 };
 
-/* How often each answer was given: incomplete, heart-beat, frame, invalid 1 to 7. */
+/* How often each answer was given: incomplete, heart-beat, frame, invalid 1 to 10. */
 static unsigned long tally[OUTCOMES];
 static unsigned long cases;
 
@@ -275,7 +275,7 @@ static void check_null(void)
 void check_answers(const struct stream streams[STREAMS])
 {
     static const char *const outcomes[OUTCOMES] = {
-        "incomplete", "heart-beat", "frame", "1", "2", "3", "4", "5", "6", "7"
+        "incomplete", "heart-beat", "frame", "1", "2", "3", "4", "5", "6", "7", "8", "9", "10"
     };
     uint64_t seed = 12;
     guard = guarded_end();

@@ -118,7 +118,7 @@ static inline bool read_text(struct scan *s, size_t limit)
             if (i == s->length)
                 return stop(s, STOMP_INCOMPLETE);
             if (!letters[octets[i]])
-                return invalid(s, STOMP_INVALID_LINE, i);
+                return invalid(s, STOMP_INVALID_ESCAPE, i);
             i++;
         }
     }
@@ -137,7 +137,7 @@ static inline bool read_content_length(struct scan *s, size_t limit)
     for (size_t i = s->at; i < s->length; i++) {
         uint8_t x = s->octets[i];
         if (x == COLON)
-            return invalid(s, STOMP_INVALID_LINE, i);
+            return invalid(s, STOMP_INVALID_SECOND_COLON, i);
         if (x == LF || x == CR) {
             if (i == s->at)
                 return invalid(s, STOMP_INVALID_CONTENT_LENGTH, i);
@@ -165,7 +165,7 @@ static inline bool read_header(struct scan *s)
         return false;
     size_t colon = s->at;
     if (s->octets[colon] != COLON)
-        return invalid(s, STOMP_INVALID_LINE, colon);
+        return invalid(s, STOMP_INVALID_NO_COLON, colon);
     s->at++;
     if (s->content_length == NO_LENGTH && colon - start == CONTENT_LENGTH_OCTETS &&
         memcmp(s->octets + start, CONTENT_LENGTH, CONTENT_LENGTH_OCTETS) == 0) {
@@ -175,7 +175,7 @@ static inline bool read_header(struct scan *s)
         if (!read_text(s, start + STOMP_MAX_LINE))
             return false;
         if (s->octets[s->at] == COLON)
-            return invalid(s, STOMP_INVALID_LINE, s->at);
+            return invalid(s, STOMP_INVALID_SECOND_COLON, s->at);
     }
     return read_line_end(s);
 }
@@ -190,7 +190,7 @@ static inline bool read_headers(struct scan *s)
         if (x == LF || x == CR)
             return read_line_end(s);
         if (x == COLON)
-            return invalid(s, STOMP_INVALID_LINE, s->at);
+            return invalid(s, STOMP_INVALID_EMPTY_NAME, s->at);
         if (s->headers == STOMP_MAX_LINES)
             return invalid(s, STOMP_INVALID_LINE_COUNT, s->at);
         if (!read_header(s))

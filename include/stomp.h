@@ -52,16 +52,19 @@ enum stomp_kind {
     STOMP_INVALID = 3     /* neither: no item begins so */
 };
 
-/* The numbers of stomp_parse: what the octet at the offset does. */
+/* The numbers of stomp_parse: what the octet at the offset does. Where several fit one octet,
+ * the first of 1, 2, 10, 3, 8, 9, 4, 5, 6, 7 that fits is given. */
 enum stomp_parse_refusal {
     STOMP_INVALID_COMMAND = 1,        /* leaves no command, and begins no heart-beat */
     STOMP_INVALID_LINE_END = 2,       /* follows 13 and is not 10 */
-    STOMP_INVALID_LINE = 3,           /* a colon with an empty name, a second colon, a line end before
-                                         the colon, a wrong or cut escape */
+    STOMP_INVALID_EMPTY_NAME = 3,     /* is a colon with an empty name: the header line begins with it */
     STOMP_INVALID_LINE_LENGTH = 4,    /* makes the line longer than STOMP_MAX_LINE */
     STOMP_INVALID_LINE_COUNT = 5,     /* begins a line too many */
     STOMP_INVALID_CONTENT_LENGTH = 6, /* spoils the first content-length: no digit, or too large */
-    STOMP_INVALID_BODY_END = 7        /* stands where only octet 0 can */
+    STOMP_INVALID_BODY_END = 7,       /* stands where only octet 0 can */
+    STOMP_INVALID_SECOND_COLON = 8,   /* is a second colon in a header line */
+    STOMP_INVALID_NO_COLON = 9,       /* ends a header line, or begins its end, before the colon */
+    STOMP_INVALID_ESCAPE = 10         /* follows a backslash and makes no escape with it */
 };
 
 /* The numbers of stomp_decode. */
@@ -92,7 +95,7 @@ enum stomp_encode_refusal {
  *
  * The answer is 0 where they are incomplete, 1 + 4*length for a heart-beat,
  * 2 + 4*(length + 2^16*(command + 2^4*(headers + 2^6*(body + 2^16*body_len)))) for a frame,
- * 3 + 4*(code + 2^8*offset) where they are invalid, with a number from 1 to 7. */
+ * 3 + 4*(code + 2^8*offset) where they are invalid, with a number from 1 to 10. */
 uint64_t stomp_parse(const uint8_t *octets, size_t len);
 
 /* Decodes the header lines of one frame into a header block: for each line, in order, a record of
@@ -162,7 +165,7 @@ static inline size_t stomp_parse_body_length(uint64_t answer)
     return stomp_parse_kind(answer) == STOMP_FRAME ? (size_t)(answer >> 44) : 0;
 }
 
-/* The number of the refusal, from 1 to 7; 0 where it was not refused. */
+/* The number of the refusal, from 1 to 10; 0 where it was not refused. */
 static inline unsigned stomp_parse_code(uint64_t answer)
 {
     return stomp_parse_kind(answer) == STOMP_INVALID ? (unsigned)(answer >> 2 & 0xff) : 0;

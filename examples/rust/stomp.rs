@@ -25,6 +25,19 @@ pub const COMMAND_STOMP: u32 = 13;
 pub const COMMAND_SUBSCRIBE: u32 = 14;
 pub const COMMAND_UNSUBSCRIBE: u32 = 15;
 
+/// The numbers of `parse`: what the octet at the place does. Where several fit one octet, the first of
+/// 1, 2, 10, 3, 8, 9, 4, 5, 6, 7 that fits is given.
+pub const INVALID_COMMAND: u32 = 1; // leaves no command, and begins no heart-beat
+pub const INVALID_LINE_END: u32 = 2; // follows 13 and is not 10
+pub const INVALID_EMPTY_NAME: u32 = 3; // is a colon with an empty name: the header line begins with it
+pub const INVALID_LINE_LENGTH: u32 = 4; // makes the line longer than 512
+pub const INVALID_LINE_COUNT: u32 = 5; // begins a 33rd header line
+pub const INVALID_CONTENT_LENGTH: u32 = 6; // spoils the first content-length: no digit, or too large
+pub const INVALID_BODY_END: u32 = 7; // stands where only octet 0 can
+pub const INVALID_SECOND_COLON: u32 = 8; // is a second colon in a header line
+pub const INVALID_NO_COLON: u32 = 9; // ends a header line, or begins its end, before the colon
+pub const INVALID_ESCAPE: u32 = 10; // follows a backslash and makes no escape with it
+
 mod library {
     extern "C" {
         pub fn stomp_parse(octets: *const u8, len: usize) -> u64;
@@ -69,7 +82,7 @@ pub enum Parsed {
     Invalid(Refusal),
 }
 
-/// The number, and the place it speaks of: the offset of an octet for 1 to 7, the index of an entry
+/// The number, and the place it speaks of: the offset of an octet for 1 to 10, the index of an entry
 /// for 53, else 0.
 #[derive(Debug, Clone, Copy, PartialEq, Eq)]
 pub struct Refusal {

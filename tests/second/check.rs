@@ -245,6 +245,73 @@ fn lines_owe_what_is_missing() {
     }
 }
 
+/// The number of an octet that spoils a header line, read octet by octet: whether there was a colon, and
+/// whether an escape is open.
+fn spoils(command: Command, line: &[u8], octet: u8) -> Option<usize> {
+    let (mut colon, mut escape) = (false, false);
+    for &before in line {
+        colon |= before == b':';
+        escape = !escape && before == b'\\' && command.escapes();
+    }
+    match octet {
+        _ if escape => (!b"rnc\\".contains(&octet)).then_some(10),
+        b':' if line.is_empty() => Some(3),
+        b':' if colon => Some(8),
+        b'\n' | b'\r' if !colon && !line.is_empty() => Some(9),
+        _ => None,
+    }
+}
+
+/// Every octet after every small beginning of a line: where it is refused, then with that number.
+#[test]
+fn spoiled_lines_have_their_number() {
+    for command in small_commands() {
+        let head = [command.name(), b"\n"].concat();
+        for line in (0..=4).flat_map(rows) {
+            let before = [&head[..], &line].concat();
+            let ended = line.iter().any(|octet| b"\n\r".contains(octet));
+            if ended || !can_be_finished(&before) {
+                continue;
+            }
+            for &octet in SMALL {
+                let refused = match parse(&[&before[..], &[octet]].concat()) {
+                    Answer::Invalid { code, .. } => Some(code),
+                    _ => None,
+                };
+                let number = spoils(command, &line, octet);
+                assert_eq!(refused, number, "{line:?} {octet}");
+            }
+        }
+    }
+}
+
+/// Document 02, C-11: "at one octet the order is 1, 2, 10, 3, 8, 9, 4 to 7".
+#[test]
+fn the_first_number_in_the_order_is_given() {
+    let line = [b"a:", &[b'v'; 510][..]].concat();
+    let lines = b"a:\n".repeat(32);
+    let digits = [b"content-length:", &[b'0'; 497][..]].concat();
+    let cases: [(Vec<u8>, &str); 13] = [
+        (b"id\\:".to_vec(), "10 7"),
+        (b"id:a\\:".to_vec(), "10 9"),
+        (b"id\\\n".to_vec(), "10 7"),
+        (b"id\\\r".to_vec(), "10 7"),
+        (b"id:a\\\n".to_vec(), "10 9"),
+        (b"id:a\\\r".to_vec(), "10 9"),
+        ([&lines[..], b":"].concat(), "3 100"),
+        ([&lines[..], b"a"].concat(), "5 100"),
+        ([&line[..], b":"].concat(), "8 516"),
+        ([&line[..], b"v"].concat(), "4 516"),
+        (b"content-length:0:".to_vec(), "8 20"),
+        ([&digits[..], b":"].concat(), "8 516"),
+        (b"a\r".to_vec(), "9 5"),
+    ];
+    for (tail, refused) in cases {
+        let listed = listing::of(&[b"ACK\n", &tail[..]].concat());
+        assert_eq!(listed, format!("0 refused {refused}\n"));
+    }
+}
+
 /// The halving search finds what trying every beginning finds.
 #[test]
 fn the_offset_is_the_first_octet_that_no_item_has() {
@@ -276,7 +343,7 @@ fn examples() {
             "0 frame 12 24 1 21 2\n24 end\n",
         ),
         (b"ACK\nid:a\\cb\n\n\0", "0 frame 2 14 1 13 0\n14 end\n"),
-        (b"ACK\nid:a\\t", "0 refused 3 9\n"),
+        (b"ACK\nid:a\\t", "0 refused 10 9\n"),
         (b"ACK\n\nx", "0 refused 7 5\n"),
         (
             b"SEND\ncontent-length:1\n\n\0\0",

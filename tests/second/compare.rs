@@ -6,6 +6,7 @@ use crate::listing::{self, End, Listing};
 use crate::program::{self, Ran};
 use crate::random::Random;
 use crate::streams;
+use crate::table;
 use std::io::{self, Write};
 
 /// How many octets the streams compared had, and how often each outcome came up.
@@ -14,7 +15,7 @@ pub struct Tally {
     octets: usize,
     beats: usize,
     frames: [usize; COMMANDS.len()],
-    refused: [usize; 7],
+    refused: [usize; table::NUMBERS],
     more: usize,
     end: usize,
 }

@@ -7,6 +7,7 @@ use crate::program::{self, Ran};
 use crate::random::Random;
 use crate::rewrite::{self, Rewritten, Stop, Written};
 use crate::streams;
+use crate::table;
 use std::io;
 
 /// How many octets the streams compared had, and how often each outcome came up; of a command's frames,
@@ -16,7 +17,7 @@ pub struct Tally {
     octets: usize,
     beats: usize,
     frames: [[usize; 2]; COMMANDS.len()],
-    refused: [usize; 7],
+    refused: [usize; table::NUMBERS],
     more: usize,
     unwritten: usize,
     end: usize,

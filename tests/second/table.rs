@@ -1,6 +1,6 @@
-//! The table of refusals, document 01, "The judge's three replies": one predicate for each row, asked
-//! in the rows' order about the octet at the place. "Where several fit one octet, the lowest number is
-//! given", so the first row that fits gives the number.
+//! The table of refusals, document 01, "The judge's three replies", with row 3 divided by document 02's
+//! C-11: one predicate for each row, asked about the octet at the place. "At one octet the order is 1, 2,
+//! 10, 3, 8, 9, 4 to 7", so the first row in that order that fits gives the number.
 
 use crate::item::{
     command_line, content_length, first_line, header_block, Command, BACKSLASH, COLON, COMMANDS,
@@ -33,16 +33,24 @@ struct Place<'a> {
     part: Part<'a>,
 }
 
-type Row = fn(&Place) -> bool;
+/// A row: its number, and whether it fits.
+type Row = (usize, fn(&Place) -> bool);
 
-const ROWS: [Row; 7] = [
-    leaves_no_command,
-    follows_13,
-    spoils_line,
-    makes_line_too_long,
-    begins_line_too_many,
-    spoils_content_length,
-    stands_in_place_of_0,
+/// How many numbers there are; they are those from 1 on.
+pub const NUMBERS: usize = ROWS.len();
+
+/// "At one octet the order is 1, 2, 10, 3, 8, 9, 4 to 7."
+const ROWS: [Row; 10] = [
+    (1, leaves_no_command),
+    (2, follows_13),
+    (10, spoils_escape),
+    (3, leaves_name_empty),
+    (8, is_second_colon),
+    (9, ends_line_before_colon),
+    (4, makes_line_too_long),
+    (5, begins_line_too_many),
+    (6, spoils_content_length),
+    (7, stands_in_place_of_0),
 ];
 
 /// The number of the refusal at an octet, where `before` can still be finished and cannot with the
@@ -53,8 +61,9 @@ pub fn code(before: &[u8], octet: u8) -> usize {
         octet,
         part: part_after(before),
     };
-    let row = ROWS.iter().position(|fits| fits(&place));
-    row.expect("a row of the table fits every refused octet") + 1
+    let row = ROWS.iter().find(|(_, fits)| fits(&place));
+    let (number, _) = row.expect("a row of the table fits every refused octet");
+    *number
 }
 
 /// Finds the part of the item that the octet after `before` stands in, by whole lines.
@@ -111,19 +120,38 @@ fn follows_13(place: &Place) -> bool {
     after_13(place) && place.octet != LF
 }
 
-/// "3 | spoils the header line: colon with an empty name, second colon, line end before the colon,
-/// wrong or cut escape"
-fn spoils_line(place: &Place) -> bool {
+/// "10 wrong or cut escape": any octet after a backslash but an escape's letter, a colon and a line end
+/// among them.
+fn spoils_escape(place: &Place) -> bool {
     let Part::Line { command, line, .. } = &place.part else {
         return false;
     };
-    let colon_before = line.contains(&COLON);
-    let colon_with_empty_name = line.is_empty() && place.octet == COLON;
-    let second_colon = colon_before && place.octet == COLON;
-    // "A 13 in a header line can only begin a line end." In an empty line the line end is in place.
-    let line_end_before_colon = !line.is_empty() && !colon_before && is_line_end(place.octet);
-    let bad_escape = in_escape(*command, line) && !ESCAPE_LETTERS.contains(&place.octet);
-    colon_with_empty_name || second_colon || line_end_before_colon || bad_escape
+    in_escape(*command, line) && !ESCAPE_LETTERS.contains(&place.octet)
+}
+
+/// "Keep 3 for a colon with an empty name": the line begins with it.
+fn leaves_name_empty(place: &Place) -> bool {
+    let Part::Line { line, .. } = &place.part else {
+        return false;
+    };
+    line.is_empty() && place.octet == COLON
+}
+
+/// "8 second colon"
+fn is_second_colon(place: &Place) -> bool {
+    let Part::Line { line, .. } = &place.part else {
+        return false;
+    };
+    line.contains(&COLON) && place.octet == COLON
+}
+
+/// "9 line end before the colon", and document 01: "A 13 in a header line can only begin a line end." In
+/// an empty line the line end is in place.
+fn ends_line_before_colon(place: &Place) -> bool {
+    let Part::Line { line, .. } = &place.part else {
+        return false;
+    };
+    !line.is_empty() && !line.contains(&COLON) && is_line_end(place.octet)
 }
 
 /// "4 | makes the line, with what it still owes, longer than 512; a missing colon owes 1, an

@@ -1,5 +1,6 @@
 //! The fixed streams: the examples of document 01, the limits and one octet past them, the decided
-//! readings, each number at each kind of place, and the specification's frames.
+//! readings, each number at each kind of place, the specification's frames, and what document 02's
+//! requests add, in their order.
 
 use crate::item::{COMMANDS, MAX_BODY, MAX_LINE, MAX_LINES};
 use crate::listing;
@@ -11,7 +12,8 @@ use std::path::Path;
 /// A stream with its name.
 type Vector = (&'static str, Vec<u8>);
 
-/// Writes the streams as files, numbered so that the names sort in this order.
+/// Writes the streams as files, numbered in this order. What is new goes to the end, so that a stream
+/// keeps its number.
 pub fn make(folder: &Path) -> io::Result<()> {
     fs::create_dir_all(folder)?;
     for (index, (name, stream)) in all().iter().enumerate() {
@@ -20,23 +22,25 @@ pub fn make(folder: &Path) -> io::Result<()> {
     Ok(())
 }
 
-/// Writes the listing of each file of a folder under its name, in the order of the names.
+/// Writes the listing of each file of a folder under its name, in the order of the numbers that the
+/// names begin with.
 pub fn write_listings(folder: &Path) -> io::Result<()> {
-    let mut paths = Vec::new();
+    let mut names = Vec::new();
     for entry in fs::read_dir(folder)? {
-        paths.push(entry?.path());
+        names.push(entry?.file_name().to_string_lossy().into_owned());
     }
-    paths.sort();
+    names.sort_by_key(|name| (number(name), name.clone()));
     let mut output = io::stdout().lock();
-    for path in paths {
-        let name = path
-            .file_name()
-            .unwrap_or_default()
-            .to_string_lossy()
-            .into_owned();
-        write!(output, "# {name}\n{}", listing::of(&fs::read(&path)?))?;
+    for name in names {
+        let stream = fs::read(folder.join(&name))?;
+        write!(output, "# {name}\n{}", listing::of(&stream))?;
     }
     Ok(())
+}
+
+/// The number that a file's name begins with, if it does.
+fn number(name: &str) -> Option<usize> {
+    name.split('-').next()?.parse().ok()
 }
 
 fn all() -> Vec<Vector> {
@@ -52,6 +56,7 @@ fn all() -> Vec<Vector> {
         refusals(),
         unfinished(),
         specification(),
+        spoiled_lines(),
     ]
     .concat()
 }
@@ -298,8 +303,8 @@ fn refusals() -> Vec<Vector> {
         ("2-after-line", b"ACK\nid:a\r\r\n".to_vec()),
         ("2-in-empty-line", b"ACK\nid:a\n\r:".to_vec()),
         ("3-empty-name", b"ACK\n:a\n\n\0".to_vec()),
-        ("3-no-colon", b"ACK\r\nid\n\n\0".to_vec()),
-        ("3-second-colon", b"CONNECT\nid:a:b\n\n\0".to_vec()),
+        ("9-no-colon", b"ACK\r\nid\n\n\0".to_vec()),
+        ("8-second-colon", b"CONNECT\nid:a:b\n\n\0".to_vec()),
         ("7-after-crlf", b"RECEIPT\r\n\r\n\n".to_vec()),
     ]
 }
@@ -327,5 +332,17 @@ fn specification() -> Vec<Vector> {
         ("spec-receipt", spec::octets(spec::RECEIPT)),
         ("spec-error", spec::octets(spec::ERROR)),
         ("spec-mended", spec::mended()),
+    ]
+}
+
+/// Document 02, C-11: which number is given where several fit one octet of a header line. The streams
+/// above have the other cases of it.
+fn spoiled_lines() -> Vec<Vector> {
+    vec![
+        ("value-backslash-colon", b"ACK\nid:a\\:b\n\n\0".to_vec()),
+        ("name-backslash-10", b"ACK\nid\\\n\n\0".to_vec()),
+        ("name-backslash-13", b"ACK\nid\\\r\n\n\0".to_vec()),
+        ("value-513-colon", ack(&join(&[&line_of(MAX_LINE), b":"]))),
+        ("name-13", b"ACK\na\r".to_vec()),
     ]
 }
