@@ -55,12 +55,12 @@ on-drop xs i k r f g = by (leb (i + k) (length xs)) refl ∙ sym (drop-drop k i 
         drop-of-length-le xs {i = r} (omega (arith, g past)) ∙ sym (drop-of-length-le xs {i = i + k} (omega arith))
 
 -- the first 10, 13 or colon of what stands from i on
-pub stop-place : (xs : List ℕ) (i k : ℕ) → i ≤ length xs → k ≡ stop-span (take (length xs - i) (drop i xs))
-    → (i + k ≡ i + stop-span (drop i xs)) × (i + k ≤ length xs)
-stop-place xs i k h e =
+pub stop-place : (colon : ℕ) (xs : List ℕ) (i k : ℕ) → i ≤ length xs → k ≡ stop-span colon (take (length xs - i) (drop i xs))
+    → (i + k ≡ i + stop-span colon (drop i xs)) × (i + k ≤ length xs)
+stop-place colon xs i k h e =
     let long = length-drop i xs in
-    let is : k ≡ stop-span (drop i xs) = e ∙ ap stop-span (take-all (length xs - i) (drop i xs) (omega arith)) in
-    (ap (i +_) is, omega (arith, span-le (plain-in false) (drop i xs)))
+    let is : k ≡ stop-span colon (drop i xs) = e ∙ ap (stop-span colon) (take-all (length xs - i) (drop i xs) (omega arith)) in
+    (ap (i +_) is, omega (arith, span-le (plain-in (record { colon = colon; back = 10 })) (drop i xs)))
 
 -- behind the line end at i, which has two octets where it begins with 13
 module _ (xs : List ℕ) (i : ℕ) where
@@ -80,22 +80,22 @@ module _ (xs : List ℕ) (i : ℕ) where
   on-behind k r wide f g = on-drop xs i k r f g ∙ ap (λ n. drop n (drop i xs)) (sym wide)
 
 -- up to the first 10, 13 or colon, and from it on
-module _ (xs : List ℕ) (i r : ℕ) (is : r ≡ i + stop-span (drop i xs)) where
-  cut-name : take (r - i) (drop i xs) ≡ front-name (drop i xs)
-  cut-name = let wide : r - i ≡ stop-span (drop i xs) = omega arith in ap (λ n. take n (drop i xs)) wide
+module _ (stop : ℕ) (xs : List ℕ) (i r : ℕ) (is : r ≡ i + stop-span stop (drop i xs)) where
+  cut-name : take (r - i) (drop i xs) ≡ take (stop-span stop (drop i xs)) (drop i xs)
+  cut-name = let wide : r - i ≡ stop-span stop (drop i xs) = omega arith in ap (λ n. take n (drop i xs)) wide
 
-  pub cut-end : drop r xs ≡ at-end (drop i xs)
-  cut-end = ap (λ n. drop n xs) is ∙ sym (drop-drop (stop-span (drop i xs)) i xs)
+  pub cut-end : drop r xs ≡ drop (stop-span stop (drop i xs)) (drop i xs)
+  cut-end = ap (λ n. drop n xs) is ∙ sym (drop-drop (stop-span stop (drop i xs)) i xs)
 
 -- the parts of the line at i
-pub line-cut : (xs : List ℕ) (i colon value end next : ℕ) → colon ≡ i + stop-span (drop i xs) → drop value xs ≡ drop 1 (drop colon xs)
-    → end ≡ value + stop-span (drop value xs) → drop next xs ≡ behind-end (drop end xs)
+pub line-cut : (xs : List ℕ) (i colon value end next : ℕ) → colon ≡ i + stop-span 58 (drop i xs) → drop value xs ≡ drop 1 (drop colon xs)
+    → end ≡ value + stop-span 10 (drop value xs) → drop next xs ≡ behind-end (drop end xs)
     → (take (colon - i) (drop i xs) ≡ front-name (drop i xs))
     × (take (end - value) (drop value xs) ≡ front-value (drop i xs))
     × (drop next xs ≡ behind-line (drop i xs))
 line-cut xs i colon value end next first on second behind =
-    let past : drop value xs ≡ behind-colon (drop i xs) = on ∙ ap (drop 1) (cut-end xs i colon first) ∙ drop-drop 1 (stop-span (drop i xs)) (drop i xs) in
-    (cut-name xs i colon first, cut-name xs value end second ∙ ap front-name past, behind ∙ ap behind-end (cut-end xs value end second ∙ ap at-end past))
+    let past : drop value xs ≡ behind-colon (drop i xs) = on ∙ ap (drop 1) (cut-end 58 xs i colon first) ∙ drop-drop 1 (stop-span 58 (drop i xs)) (drop i xs) in
+    (cut-name 58 xs i colon first, cut-name 10 xs value end second ∙ ap (λ z. take (stop-span 10 z) z) past, behind ∙ ap behind-end (cut-end 10 xs value end second ∙ ap at-end past))
 
 -- ---- The lines that are left
 

@@ -87,4 +87,9 @@ examples-hold =
     also holds refl refl tt tt tt
     also holds refl refl tt tt tt
     also holds refl refl tt tt tt
+    also holds refl refl tt tt (_, _, refl, refl)
+    also holds refl refl tt tt (_, _, refl, refl)
+    also holds refl refl tt tt tt
+    also holds refl refl tt tt tt
+    also holds refl refl tt tt tt
     also end)

@@ -1,7 +1,7 @@
 -- Plain stretches at a go: the front of a row that passes a test, and the states that pass it unchanged but for their counts.
 -- Assumes nothing.
 use mathlib.Core.Path.{_≡_, refl, sym, _∙_, ap, subst}
-use mathlib.Core.Bool.{Bool, true, false, _&&_, not, and-assoc, and-true}
+use mathlib.Core.Bool.{Bool, true, false, cond, _&&_, _||_, not, and-assoc, and-true, and-comm}
 use mathlib.Core.List.{List, [], _∷_, _++_}
 use mathlib.Core.Logic.{_⊎_, inl, inr}
 use Prim.Native.Nat.{ℕ, _+_, _-_, _≤_, _<_, min}
@@ -13,14 +13,15 @@ use lib.ListN.{length, take, drop, getD, drop-of-length-le, take-append-drop, le
 use lib.Seq.{drop-cons, drop-append-le, drop-drop, take-all}
 use borrow.Author.Tests.{le-leb, lt-ltb, not-true, eqb-true}
 use Rattle.headers.specs.Rows.{every}
-use Rattle.headers.specs.Text.{fresh, into, reads, plain, stops, opens, is-letter}
+use Rattle.headers.specs.Text.{divides, fresh, into, reads, plain, stops, opens, is-letter}
 use Rattle.headers.specs.Lines.{line-max}
 use Rattle.headers.specs.declared.text.Style.{Style}
 use Rattle.headers.specs.declared.text.Field.{Field}
 use Rattle.headers.specs.declared.text.Field.the-variants.{Name as in-name, Value as in-value}
-use Rattle.headers.proofs.Rows.{cond-case, and-left, and-right, every-step, every-end}
+use Rattle.headers.proofs.Rows.{cond-case, and-left, and-right, and-no, and-yes, or-false-left, or-false-right, every-step, every-end}
 use Rattle.frames.specs.declared.state.Scan.{Scan}
-use Rattle.frames.specs.Scanning.{style-of, most-of, in-line, on-value, on-name, on-body, on-counted, scan-step, scan, len-max, Valid, span, plain-in, not-zero, skip, Ahead}
+use Rattle.frames.specs.declared.ahead.Stops.{Stops}
+use Rattle.frames.specs.Scanning.{style-of, most-of, in-line, on-value, on-name, on-body, on-counted, scan-step, scan, len-max, Valid, span, text-stops, plain-in, not-zero, skip, Ahead}
 use Rattle.frames.proofs.Steps.{read-open, is-lettered}
 use Rattle.frames.proofs.Validity.{most-small}
 
@@ -175,10 +176,20 @@ module _ (p : ℕ → Bool) (room : ℕ) (st : Scan) (g : Glides p room st) wher
             ∙ ap (scan (skip k st)) (sym (drop-append-le k xs ys short) ∙ ap (drop k) (take-append-drop (e - i) (drop i l)) ∙ drop-drop k i l);
       }
 
--- an octet that stands for itself
-pub reads-plain : (s : Style) (f : Field) (x : ℕ) → plain s f x ≡ true → reads s f fresh x ≡ into fresh
-reads-plain s f x h =
-    simp (not-true (stops s f x) (and-left (not (stops s f x)) (not (opens s x)) h), not-true (opens s x) (and-right (not (stops s f x)) (not (opens s x)) h))
+-- an octet that ends a stretch only where a flag says so
+flagged : (c : Bool) (k x : ℕ) → eqb x (cond c k 10) ≡ false → eqb x k && c ≡ false
+flagged true k x h = and-yes (eqb x k) ∙ h
+flagged false k x h = and-no (eqb x k)
+
+-- an octet that is itself in header text
+pub reads-plain : (s : Style) (f : Field) (x : ℕ) → plain-in (text-stops s f) x ≡ true → reads s f fresh x ≡ into fresh
+reads-plain s f x k =
+    let h = not-true _ k in
+    let h₁ = or-false-left (eqb x 10 || eqb x 13 || eqb x (cond (divides s f) 58 10)) (eqb x (cond (s .escapes) 92 10)) h in
+    let h₂ = or-false-left (eqb x 10 || eqb x 13) (eqb x (cond (divides s f) 58 10)) h₁ in
+    let c = flagged (divides s f) 58 x (or-false-right (eqb x 10 || eqb x 13) (eqb x (cond (divides s f) 58 10)) h₁) in
+    let b = and-comm (s .escapes) (eqb x 92) ∙ flagged (s .escapes) 92 x (or-false-right (eqb x 10 || eqb x 13 || eqb x (cond (divides s f) 58 10)) (eqb x (cond (s .escapes) 92 10)) h) in
+    simp (or-false-left (eqb x 10) (eqb x 13) h₂, or-false-right (eqb x 10) (eqb x 13) h₂, c, b)
 
 span-any : (xs : List ℕ) → span (λ x. true) xs ≡ length xs
 unfolding span
@@ -207,7 +218,7 @@ module _ (st : Scan) (v : Valid st) where
       }
 
   -- in a value
-  glides-value : {y : Style} → y ≡ style-of (st .command) → st .phase ≡ 7 → Glides (plain-in (y .escapes)) 512 st
+  glides-value : {y : Style} → y ≡ style-of (st .command) → st .phase ≡ 7 → Glides (plain-in (text-stops y in-value)) 512 st
   unfolding scan-step on-value
   glides-value same e =
       record {
@@ -217,12 +228,12 @@ module _ (st : Scan) (v : Valid st) where
       }
 
   -- in a name that is not content-length
-  pub glides-name : {y : Style} → y ≡ style-of (st .command) → st .phase ≡ 5 → st .matched ≡ 15 → Glides (plain-in (y .escapes)) 511 st
+  pub glides-name : {y : Style} {t : Stops} → y ≡ style-of (st .command) → t ≡ text-stops y in-name → st .phase ≡ 5 → st .matched ≡ 15 → Glides (plain-in t) 511 st
   unfolding scan-step on-name
-  glides-name same e m =
+  glides-name same ends e m =
       record {
         passes = λ k x h t.
-            simp (e, m, reads-plain (style-of (st .command)) in-name x (rw same at t), le-leb (st .len + (k + 2)) line-max (omega arith), v .clean-code (omega arith), add-assoc);
+            simp (e, m, reads-plain (style-of (st .command)) in-name x (rw (ends, same) at t), le-leb (st .len + (k + 2)) line-max (omega arith), v .clean-code (omega arith), add-assoc);
         stays = λ k h. valid-on k (omega arith) (rw e h) (λ e′. absurd (omega arith)) (λ e′. absurd (omega arith));
       }
 
@@ -305,21 +316,21 @@ abbrev pub Takes : Style → List ℕ → ℕ → ℕ → ℕ → Type 0
 Takes y l i e j = (st : Scan) → Valid st → y ≡ style-of (st .command) → st .phase ≡ 7 → st .len + (e - i) ≤ 512 → Ahead l i st (j - i)
 
 module _ (y : Style) (l : List ℕ) (i e : ℕ) (el : e ≤ length l) where
-  pub takes-first : (k : ℕ) → i ≤ e → k ≡ span (plain-in (y .escapes)) (take (e - i) (drop i l)) → Takes y l i e (i + k)
-  takes-first k ie is st v same ph fits =
+  pub takes-first : {t : Stops} → t ≡ text-stops y in-value → (k : ℕ) → i ≤ e → k ≡ span (plain-in t) (take (e - i) (drop i l)) → Takes y l i e (i + k)
+  takes-first ends k ie is st v same ph fits =
       let n : k ≡ i + k - i = omega arith in
-      subst (Ahead l i st) n (ahead-by (plain-in (y .escapes)) 512 st (glides-value st v same ph) l i e k ie el fits is)
+      subst (Ahead l i st) n (ahead-by (plain-in (text-stops y in-value)) 512 st (glides-value st v same ph) l i e k ie el fits (rw ends at is))
 
-  pub takes-more : (j k : ℕ) → i ≤ j → j + 2 ≤ e → opens y (getD l j 0) ≡ true → is-letter y (getD l (j + 1) 0) ≡ true
-      → k ≡ span (plain-in (y .escapes)) (take (e - (j + 2)) (drop (j + 2) l)) → Takes y l i e j → Takes y l i e (j + 2 + k)
-  takes-more j k ij je o t is takes st v same ph fits =
+  pub takes-more : {t : Stops} → t ≡ text-stops y in-value → (j k : ℕ) → i ≤ j → j + 2 ≤ e → opens y (getD l j 0) ≡ true → is-letter y (getD l (j + 1) 0) ≡ true
+      → k ≡ span (plain-in t) (take (e - (j + 2)) (drop (j + 2) l)) → Takes y l i e j → Takes y l i e (j + 2 + k)
+  takes-more ends j k ij je o t is takes st v same ph fits =
       let d : ℕ = j - i in
       let a : Ahead l i st d = takes st v same ph fits in
       let at : j ≡ i + d = omega arith in
       let b : Ahead l j (skip d st) 2 = ahead-escape (skip d st) (a .kept) l j same ph (omega arith) (omega arith) o t in
       let ab : Ahead l i st (d + 2) = ahead-then st l i d 2 a (subst (λ n. Ahead l n (skip d st) 2) at b) in
       let g : Ahead l (j + 2) (skip (d + 2) st) k =
-      ahead-by (plain-in (y .escapes)) 512 (skip (d + 2) st) (glides-value (skip (d + 2) st) (ab .kept) same ph) l (j + 2) e k je el (omega arith) is in
+      ahead-by (plain-in (text-stops y in-value)) 512 (skip (d + 2) st) (glides-value (skip (d + 2) st) (ab .kept) same ph) l (j + 2) e k je el (omega arith) (rw ends at is) in
       let at2 : j + 2 ≡ i + (d + 2) = omega arith in
       let n : d + 2 + k ≡ j + 2 + k - i = omega arith in
       subst (Ahead l i st) n (ahead-then st l i (d + 2) k ab (subst (λ n. Ahead l n (skip (d + 2) st) k) at2 g))

@@ -2,23 +2,24 @@
 --     front-lines-of, behind-word-of, frame-lines    the lines that are read off a frame
 --     head-short, block-long, none-too-long          its entries, decoded, have records, and how long these are
 --     decoded-finds                                  looking a name up among the records
-use mathlib.Core.Path.{_≡_, refl, _∙_, ap, ap₂}
-use mathlib.Core.Bool.{Bool, true, false, not}
+use mathlib.Core.Path.{_≡_, refl, sym, _∙_, ap, ap₂}
+use mathlib.Core.Bool.{Bool, true, false, _&&_, _||_, not}
 use mathlib.Core.List.{List, [], _∷_, _++_, append-assoc}
-use Prim.Native.Nat.{ℕ, _*_, _≤_}
+use Prim.Native.Nat.{ℕ, _+_, _*_, _≤_}
 use native.Mathlib.Omega.{arith}
-use lib.ListN.{length, getD, length-map}
+use lib.ListN.{length, getD, length-map, take, drop}
 use lib.Seq.{take-append-seam, drop-append-seam, drop-append-add}
 use lib.Dec.{eqb}
-use borrow.Author.Tests.{le-ltb}
+use borrow.Author.Tests.{le-ltb, not-true}
 use Rattle.headers.specs.Rows.{every, any, All}
-use Rattle.headers.specs.Text.{stops, opens, escape-table, Character, itself, escape, Text, none, more}
+use Rattle.headers.specs.Text.{divides, stops, opens, escape-table, Character, itself, escape, Text, none, more}
 use Rattle.headers.specs.Block.{Entry, image, Short}
 use Rattle.headers.specs.Lines.{line-max, line-length}
 use Rattle.headers.specs.Answers.{find-answer}
 use Rattle.headers.specs.declared.text.Style.{Style}
 use Rattle.headers.specs.declared.text.Field.{Field}
-use Rattle.headers.proofs.Rows.{and-left, and-right, every-append, any-key}
+use Rattle.headers.specs.declared.text.Field.the-variants.{Name as in-name}
+use Rattle.headers.proofs.Rows.{and-left, and-right, and-yes, or-false-left, or-false-right, every-append, any-key}
 use Rattle.headers.proofs.Coding.{decode-short}
 use Rattle.headers.proofs.Blocks.{length-image}
 use Rattle.headers.proofs.Finding.{Finds, find-finds}
@@ -35,40 +36,54 @@ unfolding span
 span-to p [] y ys h k = rw k
 span-to p (x ∷ xs) y ys h k = rw (and-left (p x) (every p xs) h) (omega (arith, span-to p xs y ys (and-right (p x) (every p xs) h) k))
 
--- raw text has no raw 10, 13 or colon, and no escape has one
-character-runs : {s : Style} {f : Field} {u : List ℕ} → Character s f u → every (plain-in false) u ≡ true
-character-runs {s} {f} (itself {x = x} h) = rw (and-left (not (stops s f x)) (not (opens s x)) h)
-character-runs {s} (escape {x = x} e h) = rw (any-key (λ e. e .letter) (λ y. plain-in false y ≡ true) x (escape-table s) (refl, (refl, (refl, (refl, tt)))) h)
+-- the octets before a line end, and before c too
+abbrev run-on : ℕ → ℕ → Bool
+run-on c x = plain-in (record { colon = c; back = 10 }) x
 
-text-runs : {s : Style} {f : Field} {xs : List ℕ} → Text s f xs → every (plain-in false) xs ≡ true
-text-runs none = refl
-text-runs (more {u = u} {xs = xs} h t) = every-append (plain-in false) u xs (character-runs h) (text-runs t)
+-- raw text has no raw 10 or 13, a name no colon, and no escape has one
+character-runs : {s : Style} {f : Field} {u : List ℕ} → Character s f u → every (run-on 10) u ≡ true
+character-runs {s} {f} (itself {x = x} h) =
+    let no-end = or-false-left (eqb x 10 || eqb x 13) (eqb x 58 && divides s f) (not-true (stops s f x) (and-left (not (stops s f x)) (not (opens s x)) h)) in
+    simp (or-false-left (eqb x 10) (eqb x 13) no-end, or-false-right (eqb x 10) (eqb x 13) no-end)
+character-runs {s} (escape {x = x} e h) = rw (any-key (λ e. e .letter) (λ y. run-on 10 y ≡ true) x (escape-table s) (refl, (refl, (refl, (refl, tt)))) h)
+
+name-runs : {s : Style} {u : List ℕ} → Character s in-name u → every (run-on 58) u ≡ true
+name-runs {s} (itself {x = x} h) =
+    let no-stop = not-true (stops s in-name x) (and-left (not (stops s in-name x)) (not (opens s x)) h) in
+    let no-end = or-false-left (eqb x 10 || eqb x 13) (eqb x 58 && true) no-stop in
+    let no-colon = sym (and-yes (eqb x 58)) ∙ or-false-right (eqb x 10 || eqb x 13) (eqb x 58 && true) no-stop in
+    simp (or-false-left (eqb x 10) (eqb x 13) no-end, or-false-right (eqb x 10) (eqb x 13) no-end, no-colon)
+name-runs {s} (escape {x = x} e h) = rw (any-key (λ e. e .letter) (λ y. run-on 58 y ≡ true) x (escape-table s) (refl, (refl, (refl, (refl, tt)))) h)
+
+text-runs : {s : Style} {f : Field} {xs : List ℕ} (p : ℕ → Bool) → ((u : List ℕ) → Character s f u → every p u ≡ true) → Text s f xs → every p xs ≡ true
+text-runs p each none = refl
+text-runs p each (more {u = u} {xs = xs} h t) = every-append p u xs (each u h) (text-runs p each t)
 
 -- ---- The parts at the front
 
 -- octets up to the first 10, 13 or colon
-module _ (xs : List ℕ) (y : ℕ) (ys : List ℕ) (runs : every (plain-in false) xs ≡ true) (stop : plain-in false y ≡ false) where
-  stops-at : stop-span (xs ++ (y ∷ ys)) ≡ length xs
-  stops-at = span-to (plain-in false) xs y ys runs stop
+module _ (xs : List ℕ) (y : ℕ) (ys : List ℕ) (colon : ℕ) (runs : every (run-on colon) xs ≡ true) (stop : run-on colon y ≡ false) where
+  stops-at : stop-span colon (xs ++ (y ∷ ys)) ≡ length xs
+  stops-at = span-to (run-on colon) xs y ys runs stop
 
-  name-at : front-name (xs ++ (y ∷ ys)) ≡ xs
+  name-at : take (stop-span colon (xs ++ (y ∷ ys))) (xs ++ (y ∷ ys)) ≡ xs
   name-at = rw stops-at (take-append-seam xs (y ∷ ys))
 
-  end-at : at-end (xs ++ (y ∷ ys)) ≡ y ∷ ys
+  end-at : drop (stop-span colon (xs ++ (y ∷ ys))) (xs ++ (y ∷ ys)) ≡ y ∷ ys
   end-at = rw stops-at (drop-append-seam xs (y ∷ ys))
 
-  colon-at : behind-colon (xs ++ (y ∷ ys)) ≡ ys
+  colon-at : drop (stop-span colon (xs ++ (y ∷ ys)) + 1) (xs ++ (y ∷ ys)) ≡ ys
   colon-at = rw stops-at (drop-append-add xs (y ∷ ys) 1)
 
 -- the same up to a line end
-module _ (xs : List ℕ) (runs : every (plain-in false) xs ≡ true) (rest : List ℕ) where
-  name-ended : (e : Bool) → front-name (xs ++ (end e ++ rest)) ≡ xs
-  name-ended true = name-at xs 13 (10 ∷ rest) runs refl
-  name-ended false = name-at xs 10 rest runs refl
+module _ (xs : List ℕ) (runs : every (run-on 10) xs ≡ true) (rest : List ℕ) where
+  name-ended : (e : Bool) → take (stop-span 10 (xs ++ (end e ++ rest))) (xs ++ (end e ++ rest)) ≡ xs
+  name-ended true = name-at xs 13 (10 ∷ rest) 10 runs refl
+  name-ended false = name-at xs 10 rest 10 runs refl
 
   end-ended : (e : Bool) → at-end (xs ++ (end e ++ rest)) ≡ end e ++ rest
-  end-ended true = end-at xs 13 (10 ∷ rest) runs refl
-  end-ended false = end-at xs 10 rest runs refl
+  end-ended true = end-at xs 13 (10 ∷ rest) 10 runs refl
+  end-ended false = end-at xs 10 rest 10 runs refl
 
 end-read : (e : Bool) (rest : List ℕ) → eqb (getD (end e ++ rest) 0 0) 13 ≡ e
 end-read true rest = refl
@@ -84,13 +99,13 @@ module _ (s : Style) where
   front-line-of : (l : Line) (rest : List ℕ) → LineOk s l → (front-line (line l ++ rest) ≡ l) × (behind-line (line l ++ rest) ≡ rest)
   front-line-of l rest ok =
       let xs = line l ++ rest in
-      let n = text-runs (ok .name-text) in
-      let v = text-runs (ok .value-text) in
+      let n = text-runs (run-on 58) (λ u. name-runs) (ok .name-text) in
+      let v = text-runs (run-on 10) (λ u. character-runs) (ok .value-text) in
       let tail = l .value ++ (end (l .cr) ++ rest) in
       let apart : xs ≡ l .name ++ (58 ∷ tail) = simp append-assoc in
-      let name : front-name xs ≡ l .name = ap front-name apart ∙ name-at (l .name) 58 tail n refl in
-      let colon : behind-colon xs ≡ tail = ap behind-colon apart ∙ colon-at (l .name) 58 tail n refl in
-      let value : front-value xs ≡ l .value = ap front-name colon ∙ name-ended (l .value) v rest (l .cr) in
+      let name : front-name xs ≡ l .name = ap front-name apart ∙ name-at (l .name) 58 tail 58 n refl in
+      let colon : behind-colon xs ≡ tail = ap behind-colon apart ∙ colon-at (l .name) 58 tail 58 n refl in
+      let value : front-value xs ≡ l .value = ap (λ z. take (stop-span 10 z) z) colon ∙ name-ended (l .value) v rest (l .cr) in
       let at : at-end (behind-colon xs) ≡ end (l .cr) ++ rest = ap at-end colon ∙ end-ended (l .value) v rest (l .cr) in
       let cr : front-line xs .cr ≡ l .cr = ap (λ z. eqb (getD z 0 0) 13) at ∙ end-read (l .cr) rest in
       (λ i. record { name = name i; value = value i; cr = cr i }, ap behind-end at ∙ end-behind (l .cr) rest)
@@ -103,8 +118,8 @@ module _ (s : Style) where
       rw (append-assoc (line l) (lines ls) rest) (ap₂ (_∷_) here (ap (front-lines (length ls)) on ∙ front-lines-of ls rest oks))
 
 -- a command's word has none of them either
-word-runs : (c : Command) → every (plain-in false) (word c) ≡ true
-word-runs = each-test (λ c. every (plain-in false) (word c)) refl
+word-runs : (c : Command) → every (run-on 10) (word c) ≡ true
+word-runs = each-test (λ c. every (run-on 10) (word c)) refl
 
 module _ (h : Head) (e : Bool) (b : List ℕ) where
   pub behind-word-of : behind-word (octets (frame h e b)) ≡ lines (h .entries) ++ (end e ++ (b ++ (0 ∷ [])))

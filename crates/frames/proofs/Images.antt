@@ -24,7 +24,7 @@ use Rattle.headers.specs.Answers.{Answer, accepted, refused}
 use Rattle.headers.specs.declared.text.Style.{Style}
 use Rattle.headers.specs.declared.text.Field.{Field}
 use Rattle.headers.specs.declared.text.Field.the-variants.{Name as in-name, Value as in-value}
-use Rattle.headers.proofs.Rows.{cond-case, and-left, and-right, and-no, not-empty, cons-some, every-left, every-right, every-append, every-snoc, any-key}
+use Rattle.headers.proofs.Rows.{cond-case, and-left, and-right, and-no, not-empty, cons-some, every-left, every-right, every-append, every-snoc, every-also, any-key}
 use Rattle.headers.proofs.Coding.{decode-encode, encode-decode, encode-text, decode-bare, bare, content-length-bare}
 use Rattle.headers.proofs.Reading.{digits-text, is-text-text}
 use Rattle.headers.proofs.Numerals.{size-least}
@@ -116,11 +116,6 @@ encoded-call ver k room values = by (command-of (k .command)) refl (entries (k .
 -- the added line: content-length and the shortest decimal
 abbrev pub length-line : List ℕ → Line
 length-line body = entry content-length (shortest (length body)) false
-
--- what passes one test passes another
-every-also : (p q : ℕ → Bool) → ((x : ℕ) → p x ≡ true → q x ≡ true) → (xs : List ℕ) → every p xs ≡ true → every q xs ≡ true
-every-also p q on [] h = refl
-every-also p q on (x ∷ xs) h = rw (on x (and-left _ _ h)) (every-also p q on xs (and-right (p x) _ h))
 
 -- no escape concerns its name or its value: they are written as they are
 digit-bare : (s : Style) (x : ℕ) → is-digit x ≡ true → bare s x ≡ true

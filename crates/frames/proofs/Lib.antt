@@ -9,6 +9,7 @@ pub mod Recognizing
 pub mod Refusals
 pub mod Reach
 pub mod Table
+pub mod Colons
 pub mod Exact
 pub mod Examples
 pub mod Scanning

@@ -1,17 +1,18 @@
 -- Octets passed at a go: the state that some octets lead to, and what an octet of a word or a length does. Assumes nothing.
 use mathlib.Core.Path.{_≡_, refl, sym, _∙_, ap, subst}
-use mathlib.Core.Bool.{Bool, true, false}
+use mathlib.Core.Bool.{Bool, true, false, cond}
 use mathlib.Core.List.{List}
 use Prim.Native.Nat.{ℕ, _+_, _-_, _*_, _≤_, _<_}
 use native.Mathlib.Omega.{arith}
 use lib.ListN.{length, drop, getD}
+use lib.Dec.{eqb}
 use borrow.Author.Tests.{eq-eqb, ne-eqb, le-leb, lt-ltb}
 use Rattle.headers.specs.Lines.{content-length}
 use Rattle.headers.specs.declared.text.Field.the-variants.{Name as in-name, Value as in-value}
-use Rattle.headers.proofs.Rows.{and-no}
+use Rattle.headers.proofs.Rows.{cond-case}
 use Rattle.headers.proofs.Decimals.{digit-apart}
 use Rattle.frames.specs.declared.state.Scan.{Scan}
-use Rattle.frames.specs.Scanning.{style-of, most-of, next-command, to-phase, in-line, on-word, on-name, on-length, scan-step, scan, Valid, plain-in, skip, Ahead, Passed}
+use Rattle.frames.specs.Scanning.{style-of, most-of, next-command, to-phase, in-line, on-word, on-name, on-length, scan-step, scan, Valid, text-stops, plain-in, skip, Ahead, Passed}
 use Rattle.frames.proofs.Upto.{upto-at}
 use Rattle.frames.proofs.Steps.{room, room-name}
 use Rattle.frames.proofs.Validity.{valid-step}
@@ -59,12 +60,14 @@ module _ {s : List ℕ} {i : ℕ} {st : Scan} where
 -- ---- What an octet of a word or a length does
 
 -- the letters of content-length, and digits, stand for themselves
-letter-plain : (b : Bool) (m : ℕ) → m < 14 → plain-in b (getD content-length m 0) ≡ true
-letter-plain true m h = upto-at (λ n. plain-in true (getD content-length n 0)) 14 m refl h
-letter-plain false m h = upto-at (λ n. plain-in false (getD content-length n 0)) 14 m refl h
+letter-plain : (b : Bool) (m : ℕ) → m < 14 → plain-in (record { colon = 58; back = cond b 92 10 }) (getD content-length m 0) ≡ true
+letter-plain true m h = upto-at (λ n. plain-in (record { colon = 58; back = 92 }) (getD content-length n 0)) 14 m refl h
+letter-plain false m h = upto-at (λ n. plain-in (record { colon = 58; back = 10 }) (getD content-length n 0)) 14 m refl h
 
-digit-plain : (b : Bool) (x : ℕ) → 48 ≤ x → x ≤ 57 → plain-in b x ≡ true
-digit-plain b x h l = let (lf, cr, colon, slash) = digit-apart x h l in simp (lf, cr, colon, slash, and-no)
+digit-plain : (c b : Bool) (x : ℕ) → 48 ≤ x → x ≤ 57 → plain-in (record { colon = cond c 58 10; back = cond b 92 10 }) x ≡ true
+digit-plain c b x h l =
+    let (lf, cr, colon, slash) = digit-apart x h l in
+    simp (lf, cr, cond-case (λ z. eqb x z ≡ false) c (λ t. colon) (λ t. lf), cond-case (λ z. eqb x z ≡ false) b (λ t. slash) (λ t. lf))
 
 module _ (st : Scan) (x : ℕ) where
   -- a letter of a command
@@ -77,7 +80,7 @@ module _ (st : Scan) (x : ℕ) where
   unfolding scan-step on-name
   name-on e m h same =
       let y = style-of (st .command) in
-      let t : plain-in (y .escapes) x ≡ true = rw same (letter-plain (y .escapes) (st .matched) m) in
+      let t : plain-in (text-stops y in-name) x ≡ true = rw same (letter-plain (y .escapes) (st .matched) m) in
       simp (e, reads-plain y in-name x t, room-name 0 511 (st .len) refl, lt-ltb (st .len) 511 h, lt-ltb (st .matched) 14 m, eq-eqb x _ same)
 
   -- a digit of its value
@@ -85,4 +88,4 @@ module _ (st : Scan) (x : ℕ) where
   unfolding scan-step on-length
   digit-on e h l u m =
       let y = style-of (st .command) in
-      simp (e, reads-plain y in-value x (digit-plain (y .escapes) x l u), room 0 512 (st .len) refl, lt-ltb (st .len) 512 h, le-leb 48 x l, le-leb x 57 u, le-leb (st .size * 10 + (x - 48)) (most-of (st .command)) m)
+      simp (e, reads-plain y in-value x (digit-plain (y .escapes) (y .escapes) x l u), room 0 512 (st .len) refl, lt-ltb (st .len) 512 h, le-leb 48 x l, le-leb x 57 u, le-leb (st .size * 10 + (x - 48)) (most-of (st .command)) m)

@@ -11,7 +11,7 @@ use lib.Dec.{eqb, leb, ltb}
 use borrow.Author.Tests.{eqb-true, leb-true, leb-false, ltb-true, ltb-false, le-leb, lt-leb, lt-ltb, le-ltb}
 use Rattle.headers.specs.Rows.{same, every, any, begins, empty}
 use Rattle.headers.proofs.Rows.{cond-case, and-left, and-no, and-yes, or-yes, every-last, empty-not, or-false-left, or-false-right}
-use Rattle.headers.specs.Text.{Part, fresh, owes, Into, into, bad, stop, reads, of-escape, owing}
+use Rattle.headers.specs.Text.{divides, Part, fresh, owes, Into, into, bad, stop, reads, of-escape, owing}
 use Rattle.headers.specs.declared.text.Field.the-variants.{Name as in-name, Value as in-value}
 use Rattle.headers.specs.Numbers.{is-digit, decimal}
 use Rattle.headers.proofs.Reading.{Says, reads-says, owes-few}
@@ -219,11 +219,12 @@ module _ (ver : Version) where
       ended true b c e f g (nf, ow, st) = let k : eqb x 58 ≡ false = rw (eqb-true x 10 e) in simp (nf, k, e, em)
       ended false true c e f g (nf, ow, st) = let k : eqb x 58 ≡ false = rw (eqb-true x 13 f) in simp (nf, k, e, f, em)
       ended false false true e f g (nf, ow, st) = simp (nf, e, f, g, em, ow, le-ltb line-max (length raw + 0 + 1 + 0) (omega (arith, ok .fits)))
-      ended false false false e f g (nf, ow, st) = absurd (no-stop (eqb x 10) (eqb x 13) (eqb x 58) e f g st)
+      ended false false false e f g (nf, ow, st) = absurd (no-stop (eqb x 10) (eqb x 13) (eqb x 58 && true) e f (rw g) st)
 
       by : (i : Into) → Says (style ver (h .command)) in-name p x i → Told (name h raw p) x (name-next h raw x i)
       by (into q) (nf, ow, ns) =
-          let (e, f, g) = no-stops (eqb x 10) (eqb x 13) (eqb x 58) ns in
+          let (e, f, k) = no-stops (eqb x 10) (eqb x 13) (eqb x 58 && true) ns in
+          let g : eqb x 58 ≡ false = sym (and-yes (eqb x 58)) ∙ k in
           simp (nf, e, f, g, em, ow) (row-4 (length raw + 1 + owes q + 1) (length raw + 0 + 1 + (1 + owes q)) (omega arith) (go (name h (raw ++ (x ∷ [])) q)) none refl)
       by (bad of-escape) u = rw u
       by stop u = ended (eqb x 10) (eqb x 13) (eqb x 58) refl refl refl u
@@ -236,7 +237,7 @@ module _ (ver : Version) where
       on (into q) true (nf, ow, ns) e f g k = rw (ow, k) (row-4 (0 + 1 + owes q + 1) (1 + (1 + owes q)) (omega arith) (go (name h (x ∷ []) q)) none refl)
       on (into q) false (nf, ow, ns) e f g k = rw (ow, k, le-ltb line-max (1 + (1 + owes q)) (omega (arith, owes-few q)))
       on (bad of-escape) u w e f g k = let z : _≡_ {A = ℕ} 0 1 = cc in absurd (omega arith)
-      on stop u (nf, ow, st) e f g k = absurd (no-stop (eqb x 10) (eqb x 13) (eqb x 58) e f g st)
+      on stop u (nf, ow, st) e f g k = absurd (no-stop (eqb x 10) (eqb x 13) (eqb x 58 && true) e f (rw g) st)
 
       by : (a b c : Bool) → eqb x 10 ≡ a → eqb x 13 ≡ b → eqb x 58 ≡ c → Told (begin h) x (at-begin ver h x)
       by true b c e f g = rw (eqb-true x 10 e)
@@ -265,12 +266,12 @@ module _ (ver : Version) where
           let k : eqb x 58 ≡ false = rw (eqb-true x 13 f) in
           let d : is-digit x ≡ false = rw (eqb-true x 13 f) in
           simp (nf, k, e, f, d) (row-6 (watched h n) (empty raw) (go (line-13 h n raw)) refl)
-      ended false false true e f g (nf, ow, st) = simp (nf, g)
-      ended false false false e f g (nf, ow, st) = absurd (no-stop (eqb x 10) (eqb x 13) (eqb x 58) e f g st)
+      ended false false true e f g (nf, ow, st) = let d : divides (style ver (h .command)) in-value ≡ true = simp (e, f, g) at st in simp (nf, g) (rw d)
+      ended false false false e f g (nf, ow, st) = absurd (no-stop (eqb x 10) (eqb x 13) (eqb x 58 && divides (style ver (h .command)) in-value) e f (rw g) st)
 
       by : (i : Into) → Says (style ver (h .command)) in-value p x i → Told (value h n raw p) x (value-next h n raw x i)
       by (into q) (nf, ow, ns) =
-          let (e, f, g) = no-stops (eqb x 10) (eqb x 13) (eqb x 58) ns in
+          let (e, f, g) = no-stops (eqb x 10) (eqb x 13) (eqb x 58 && divides (style ver (h .command)) in-value) ns in
           simp (nf, e, f, g, ow) (on q _ (simp (e, f) at (w (rw (e, f)))))
       by (bad of-escape) u = rw u
       by stop u = ended (eqb x 10) (eqb x 13) (eqb x 58) refl refl refl u

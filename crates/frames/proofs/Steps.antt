@@ -17,13 +17,13 @@ use Rattle.frames.specs.Scanning.{style-of, advance, in-line, invalid, o
 -- an octet where a character begins: a stop, the backslash of an escape, or itself
 module _ (f : Field) (x : ℕ) {s t : Style} (e : s ≡ t) where
   pub read-stop : {a : Bool} → a ≡ stops s f x → a ≡ true → reads t f fresh x ≡ stop
-  read-stop p q = rw (sym p ∙ q)
+  read-stop p q = rw (ap (λ r. stops r f x) (sym e) ∙ sym p ∙ q)
 
   pub read-open : {a b : Bool} → a ≡ stops s f x → a ≡ false → b ≡ opens s x → b ≡ true → reads t f fresh x ≡ into back
-  read-open p q u v = rw (sym p ∙ q, ap (λ r. opens r x) (sym e) ∙ sym u ∙ v)
+  read-open p q u v = rw (ap (λ r. stops r f x) (sym e) ∙ sym p ∙ q, ap (λ r. opens r x) (sym e) ∙ sym u ∙ v)
 
   pub read-plain : {a b : Bool} → a ≡ stops s f x → a ≡ false → b ≡ opens s x → b ≡ false → reads t f fresh x ≡ into fresh
-  read-plain p q u v = rw (sym p ∙ q, ap (λ r. opens r x) (sym e) ∙ sym u ∙ v)
+  read-plain p q u v = rw (ap (λ r. stops r f x) (sym e) ∙ sym p ∙ q, ap (λ r. opens r x) (sym e) ∙ sym u ∙ v)
 
 -- an octet after a backslash: the letter of an escape, or not
 pub is-lettered : (x : ℕ) {s t : Style} → s ≡ t → {a : Bool} → a ≡ is-letter s x → is-letter t x ≡ a

@@ -66,6 +66,11 @@ examples =
     parses "C-11, escape of a colon after it" (octets-of "ACK\nid:a\\:") (Invalid 10 9) ∷
     parses "C-11, escape cut before the colon" (octets-of "ACK\na\\\n") (Invalid 10 6) ∷
     parses "C-11, escape cut by 13" (octets-of "ACK\nid:\\\r") (Invalid 10 8) ∷
+    finding "passcode" "a:b:" (parses "C-12, colons in CONNECT" (octets-of "CONNECT\npasscode:a:b:\n\n\0") (Complete 2 24 5 1 23 0)) ∷
+    finding "session" ":" (parses "C-12, a colon alone in CONNECTED" (octets-of "CONNECTED\nsession::\n\n\0") (Complete 2 22 6 1 21 0)) ∷
+    parses "C-12, a second colon in STOMP" (octets-of "STOMP\npasscode:a:") (Invalid 8 16) ∷
+    parses "C-12, empty name in CONNECT" (octets-of "CONNECT\n:") (Invalid 3 8) ∷
+    parses "C-12, colon after a content-length" (octets-of "CONNECT\ncontent-length:0:") (Invalid 6 24) ∷
     []
 
 -- ---- What an example claims

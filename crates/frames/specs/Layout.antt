@@ -1,6 +1,6 @@
 -- Where the parts of a frame's head stand, read off its octets: what decoding goes by. That these are the parts of the parse tree is
 -- proofs/Heads.antt. Assumes nothing.
-use mathlib.Core.Bool.{false, cond}
+use mathlib.Core.Bool.{cond}
 use mathlib.Core.List.{List, [], _∷_}
 use Prim.Native.Nat.{ℕ, zero, suc, _+_}
 use lib.ListN.{take, drop, getD}
@@ -8,9 +8,9 @@ use lib.Dec.{eqb}
 use Rattle.frames.specs.Grammar.{Line}
 use Rattle.frames.specs.Scanning.{span, plain-in}
 
--- how many octets stand before the first 10, 13 or colon
-abbrev pub stop-span : List ℕ → ℕ
-stop-span xs = span (plain-in false) xs
+-- how many octets are before the first 10, 13 or c
+abbrev pub stop-span : ℕ → List ℕ → ℕ
+stop-span c xs = span (plain-in (record { colon = c; back = 10 })) xs
 
 -- what follows a line end at the front
 abbrev pub end-width : List ℕ → ℕ
@@ -21,16 +21,16 @@ behind-end xs = drop (end-width xs) xs
 
 -- the name of the line at the front, what follows its colon, its value, and what follows its line end
 abbrev pub front-name : List ℕ → List ℕ
-front-name xs = take (stop-span xs) xs
+front-name xs = take (stop-span 58 xs) xs
 
 abbrev pub behind-colon : List ℕ → List ℕ
-behind-colon xs = drop (stop-span xs + 1) xs
+behind-colon xs = drop (stop-span 58 xs + 1) xs
 
 abbrev pub front-value : List ℕ → List ℕ
-front-value xs = front-name (behind-colon xs)
+front-value xs = take (stop-span 10 (behind-colon xs)) (behind-colon xs)
 
 abbrev pub at-end : List ℕ → List ℕ
-at-end xs = drop (stop-span xs) xs
+at-end xs = drop (stop-span 10 xs) xs
 
 abbrev pub behind-line : List ℕ → List ℕ
 behind-line xs = behind-end (at-end (behind-colon xs))

@@ -10,7 +10,7 @@ use Prim.Native.Nat.{ℕ, _+_}
 use lib.ListN.{length}
 use lib.Dec.{eqb, leb, ltb}
 use Rattle.headers.specs.Rows.{begins, empty, any, first-of, All}
-use Rattle.headers.specs.Text.{Part, fresh, Fault, of-escape, fault, owing}
+use Rattle.headers.specs.Text.{divides, Part, fresh, Fault, of-escape, fault, owing}
 use Rattle.headers.specs.declared.text.Field.{Field}
 use Rattle.headers.specs.declared.text.Field.the-variants.{Name as in-name, Value as in-value}
 use Rattle.headers.specs.Numbers.{is-digit, decimal}
@@ -151,8 +151,8 @@ module _ (ver : Version) where
   fits s x wrong-escape = at-line (position s) (λ l. fault-of l x of-escape)
   -- 3: colon with an empty name
   fits s x nameless = at-line (position s) (λ l. before-colon (l .value) && empty (l .name) && eqb x 58)
-  -- 8: second colon
-  fits s x second-colon = at-line (position s) (λ l. past-colon (l .value) && eqb x 58)
+  -- 8: second colon; not in CONNECT and CONNECTED, where "the first colon now divides, and later ones belong to the value" (C-12)
+  fits s x second-colon = at-line (position s) (λ l. past-colon (l .value) && (eqb x 58 && divides (style ver (l .head .command)) in-value))
   -- 9: line end before the colon
   fits s x no-colon = at-line (position s) (λ l. before-colon (l .value) && not (empty (l .name)) && ends x)
   -- 4: makes the line, with what it still owes, longer than 512

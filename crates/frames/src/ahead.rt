@@ -3,50 +3,65 @@ ghost use mathlib.Core.Path.{_≡_};
 ghost use Prim.Native.Nat.{_+_, _≤_, _<_};
 ghost use lib.ListN.{length, drop};
 ghost use Rattle.headers.specs.Rows.{every};
-ghost use Rattle.frames.specs.Scanning.{Valid, Ahead, span, plain-in, not-zero, skip};
+ghost use Rattle.frames.specs.Scanning.{Valid, Ahead, span, text-stops, plain-in, not-zero, skip};
+ghost use Rattle.headers.specs.declared.text.Field.the-variants.{Name, Value};
 use crate::state::Scan;
+use headers::Style;
 
-// Whether header text takes the octet as it stands.
-fn is_plain(escapes: bool, x: u8) -> bool
-    ensures { λ r. ⌜ r ≡ plain-in escapes x ⌝ }
-{
-    !((x == 10) | (x == 13) | (x == 58)) & !(escapes & (x == 92))
+// The octets that end a stretch of header text beside 10 and 13: 10 again in the place of one that does not.
+pub(crate) struct Stops {
+    pub colon: u8,
+    pub back: u8,
 }
 
-// The same of a single octet, by one comparison: bits 2 and 4 tell 10, 13, 58 and 92 apart, and say where in a word each of them is.
-fn is_plain_alone(escapes: bool, x: u8) -> bool
-    ensures { λ r. ⌜ r ≡ plain-in escapes x ⌝ }
+// Those of a name.
+pub(crate) fn name_stops(style: Style) -> Stops
+    ensures { λ r. ⌜ r ≡ text-stops style Name ⌝ }
 {
-    let stops: u64 = if escapes {
-        0x5c3a00000d0a
-    } else {
-        0x3a00000d0a
-    };
-    let n = x as u64;
-    n != (stops >> (2 * (n & 20))) & 255
+    if style.escapes {
+        return Stops { colon: 58, back: 92 };
+    }
+    Stops { colon: 58, back: 10 }
+}
+
+// Those of a value.
+fn value_stops(style: Style) -> Stops
+    ensures { λ r. ⌜ r ≡ text-stops style Value ⌝ }
+{
+    if style.escapes {
+        return Stops { colon: 58, back: 92 };
+    }
+    Stops { colon: 10, back: 10 }
+}
+
+// Whether header text takes the octet as it is.
+fn is_plain(stops: Stops, x: u8) -> bool
+    ensures { λ r. ⌜ r ≡ plain-in stops x ⌝ }
+{
+    !((x == 10) | (x == 13) | (x == stops.colon) | (x == stops.back))
 }
 
 // Whether header text takes every octet of a block as it stands: every octet is looked at, so that many are at once.
-fn is_all_plain(s: &[u8], escapes: bool) -> bool
-    ensures { λ r. ⌜ r ≡ every (plain-in escapes) (now (s .entry)) ⌝ }
+fn is_all_plain(s: &[u8], stops: Stops) -> bool
+    ensures { λ r. ⌜ r ≡ every (plain-in stops) (now (s .entry)) ⌝ }
 {
     let mut ok = true;
     let mut i = 0usize;
     while i < s.len() {
-        ok = ok & is_plain(escapes, s[i]);
+        ok = ok & is_plain(stops, s[i]);
         i += 1;
     }
     ok
 }
 
 // How many octets at the front of s are in whole blocks that header text takes as they stand.
-fn plain_blocks(s: &[u8], escapes: bool) -> usize
-    ensures { λ r. ⌜ (r ≤ length (now (s .entry))) × (r + span (plain-in escapes) (drop r (now (s .entry))) ≡ span (plain-in escapes) (now (s .entry))) ⌝ }
+fn plain_blocks(s: &[u8], stops: Stops) -> usize
+    ensures { λ r. ⌜ (r ≤ length (now (s .entry))) × (r + span (plain-in stops) (drop r (now (s .entry))) ≡ span (plain-in stops) (now (s .entry))) ⌝ }
 {
     let mut i = 0usize;
     while 32 <= s.len() - i {
         let e = i + 32;
-        if is_all_plain(&s[i..e], escapes) {
+        if is_all_plain(&s[i..e], stops) {
             i = e;
         } else {
             return i;
@@ -56,14 +71,14 @@ fn plain_blocks(s: &[u8], escapes: bool) -> usize
 }
 
 // The place of the first octet of a block that header text does not take as it stands, or 32: every octet is looked at here too.
-fn first_stop(s: &[u8], escapes: bool) -> u8
+fn first_stop(s: &[u8], stops: Stops) -> u8
     requires { ⌜ length (now s) ≡ 32 ⌝ }
-    ensures { λ r. ⌜ r ≡ span (plain-in escapes) (now (s .entry)) ⌝ }
+    ensures { λ r. ⌜ r ≡ span (plain-in stops) (now (s .entry)) ⌝ }
 {
     let mut k = 32u8;
     let mut i = 0usize;
     while i < s.len() {
-        let c = if is_plain(escapes, s[i]) { 32 } else { i as u8 };
+        let c = if is_plain(stops, s[i]) { 32 } else { i as u8 };
         k = if c < k { c } else { k };
         i += 1;
     }
@@ -72,21 +87,21 @@ fn first_stop(s: &[u8], escapes: bool) -> u8
 
 // How many octets at the front of s header text takes as they stand. The first block gives the place at once, as most stretches are
 // short; long ones go on by whole blocks; what is left is less than a block.
-pub(crate) fn plain_span(s: &[u8], escapes: bool) -> usize
-    ensures { λ r. ⌜ r ≡ span (plain-in escapes) (now (s .entry)) ⌝ }
+pub(crate) fn plain_span(s: &[u8], stops: Stops) -> usize
+    ensures { λ r. ⌜ r ≡ span (plain-in stops) (now (s .entry)) ⌝ }
 {
     let mut i = 0usize;
     while 32 <= s.len() - i {
         let e = i + 32;
-        let k = first_stop(&s[i..e], escapes) as usize;
+        let k = first_stop(&s[i..e], stops) as usize;
         i += k;
         if k < 32 {
             return i;
         }
-        i += plain_blocks(&s[i..], escapes);
+        i += plain_blocks(&s[i..], stops);
     }
     while i < s.len() {
-        if is_plain_alone(escapes, s[i]) {
+        if is_plain(stops, s[i]) {
             i += 1;
         } else {
             return i;
@@ -154,8 +169,9 @@ pub(crate) fn value_span(s: &[u8], i: usize, st: Scan) -> usize
     ensures { λ r. ⌜ Ahead (now (s .entry)) i st r ⌝ }
 {
     let style = crate::word::style_of(st.command);
+    let stops = value_stops(style);
     let e = upto(i, crate::limits::LINE - st.len, s.len());
-    let mut j = i + plain_span(&s[i..e], style.escapes);
+    let mut j = i + plain_span(&s[i..e], stops);
     while 2 <= e - j {
         if !headers::is_open(style, s[j]) {
             return j - i;
@@ -164,7 +180,7 @@ pub(crate) fn value_span(s: &[u8], i: usize, st: Scan) -> usize
             return j - i;
         }
         let f = j + 2;
-        j = f + plain_span(&s[f..e], style.escapes);
+        j = f + plain_span(&s[f..e], stops);
     }
     j - i
 }

@@ -3,6 +3,7 @@ ghost use mathlib.Core.Path.{_≡_};
 ghost use Prim.Native.Nat.{_+_, _-_, _≤_, _<_};
 ghost use lib.ListN.{length, take, drop};
 ghost use Rattle.frames.specs.Layout.{stop-span, behind-end, front-name, front-value, behind-line, behind-word};
+use crate::ahead::Stops;
 
 // The parts of a header line: its name from the line's start up to colon, its value from value up to end; next is behind its line end.
 pub struct LineAt {
@@ -20,12 +21,12 @@ fn on(i: usize, k: usize, n: usize) -> usize
     if n - i < k { n } else { i + k }
 }
 
-// The place of the first 10, 13 or colon from i on, or the end.
-fn stop_at(s: &[u8], i: usize) -> usize
+// The place of the first 10, 13 or colon from i on, or the end; 10 for the colon where it does not count.
+fn stop_at(s: &[u8], i: usize, colon: u8) -> usize
     requires { ⌜ i ≤ length (now s) ⌝ }
-    ensures { λ r. ⌜ (r ≡ i + stop-span (drop i (now (s .entry)))) × (r ≤ length (now (s .entry))) ⌝ }
+    ensures { λ r. ⌜ (r ≡ i + stop-span colon (drop i (now (s .entry)))) × (r ≤ length (now (s .entry))) ⌝ }
 {
-    i + crate::ahead::plain_span(&s[i..], false)
+    i + crate::ahead::plain_span(&s[i..], Stops { colon, back: 10 })
 }
 
 // The place behind the line end at i.
@@ -45,7 +46,7 @@ fn behind_end(s: &[u8], i: usize) -> usize
 pub(crate) fn first_line(s: &[u8]) -> usize
     ensures { λ r. ⌜ (r ≤ length (now (s .entry))) × (drop r (now (s .entry)) ≡ behind-word (now (s .entry))) ⌝ }
 {
-    behind_end(s, stop_at(s, 0))
+    behind_end(s, stop_at(s, 0, 10))
 }
 
 // The parts of the header line at i.
@@ -58,9 +59,9 @@ pub(crate) fn line_at(s: &[u8], i: usize) -> LineAt
         × (drop (r .next) (now (s .entry)) ≡ behind-line (drop i (now (s .entry))))
         ⌝ }
 {
-    let colon = stop_at(s, i);
+    let colon = stop_at(s, i, 58);
     let value = on(colon, 1, s.len());
-    let end = stop_at(s, value);
+    let end = stop_at(s, value, 10);
     LineAt {
         colon,
         value,

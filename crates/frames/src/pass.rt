@@ -73,7 +73,8 @@ fn pass_name(s: &[u8], i: usize, st: Scan) -> Scan
     ensures { λ r. ⌜ Passed (now (s .entry)) i st r ⌝ }
 {
     let e = crate::ahead::upto(i, limits::NAME - st.len, s.len());
-    let k = crate::ahead::plain_span(&s[i..e], crate::word::style_of(st.command).escapes);
+    let stops = crate::ahead::name_stops(crate::word::style_of(st.command));
+    let k = crate::ahead::plain_span(&s[i..e], stops);
     crate::ahead::skip(st, k)
 }
 

@@ -19,11 +19,12 @@ use lib.Seq.{drop-cons, drop-drop, getD-drop}
 use lib.Dec.{eqb, leb}
 use borrow.Author.Tests.{eqb-true, not-true, leb-true, le-leb}
 use Rattle.headers.specs.Rows.{every}
-use Rattle.headers.specs.Text.{stops, escape-table, is-letter, opens, plain, Character, itself, escape, Text, none, more}
+use Rattle.headers.specs.Text.{divides, stops, escape-table, is-letter, opens, plain, Character, itself, escape, Text, none, more}
 use Rattle.headers.specs.Escapes.{meaning, letter-of, means, at-escape, width, octet-at, decode, escaped, encode-octet, encode, writable}
 use Rattle.headers.specs.Lines.{content-length}
 use Rattle.headers.specs.declared.text.Style.{Style}
 use Rattle.headers.specs.declared.text.Field.{Field}
+use Rattle.headers.specs.declared.text.Field.the-variants.{Name, Value}
 use Rattle.headers.proofs.Rows.{cond-case, and-left, and-right, and-no, any-key}
 
 -- ---- the table of escapes: each letter is that of its octet, and each octet that of its letter
@@ -43,11 +44,15 @@ octet-back : (s : Style) (x : ℕ) → escaped s x ≡ true → meaning s (lette
 octet-back s x h =
     any-key (λ e. e .octet) (λ y. meaning s (letter-of s y) ≡ y) x (escape-table s) (refl, (refl, (refl, (refl, tt)))) (and-right (s .escapes) _ h)
 
+divides-on : (s : Style) (f : Field) → s .escapes ≡ true → divides s f ≡ true
+divides-on s Name e = refl
+divides-on s Value e = e
+
 -- an escaped octet stands raw in no field, or begins an escape
 octet-not-plain : (s : Style) (f : Field) (x : ℕ) → escaped s x ≡ true → plain s f x ≡ false
 octet-not-plain s f x h =
     let on : s .escapes ≡ true = and-left (s .escapes) _ h in
-    any-key (λ e. e .octet) (λ y. plain s f y ≡ false) x (escape-table s) (refl, (refl, (refl, (rw on, tt)))) (and-right (s .escapes) _ h)
+    any-key (λ e. e .octet) (λ y. plain s f y ≡ false) x (escape-table s) (refl, (refl, (rw (divides-on s f on), (rw on, tt)))) (and-right (s .escapes) _ h)
 
 -- what begins an escape is escaped
 opens-escaped : (s : Style) (x : ℕ) → opens s x ≡ true → escaped s x ≡ true

@@ -2,23 +2,25 @@
 --     refusal, acceptance     what a buffer call owes at its end, from the answer alone
 --     decoded-.., record-.., length-.., encoded-.., line-.., decimal-..   which answer the checks of a call settle on
 use mathlib.Core.Path.{_≡_, refl, sym, ap, _∙_}
-use mathlib.Core.Bool.{Bool, true, false, _||_, not}
+use mathlib.Core.Bool.{Bool, true, false, _&&_, _||_, not}
 use mathlib.Core.List.{List, [], _∷_, _++_}
 use Prim.Native.Nat.{ℕ, zero, suc, _+_, _≤_, _<_}
 use native.Mathlib.Omega.{arith}
 use lib.ListN.{length, take, drop, length-append, take-append-drop}
-use lib.Dec.{eqb, ltb, eqb·suc-zero}
-use borrow.Author.Tests.{le-leb, lt-leb, lt-ltb, le-ltb}
+use lib.Seq.{take-all}
+use lib.Dec.{eqb, leb, ltb, eqb·suc-zero}
+use borrow.Author.Tests.{leb-true, leb-false, le-leb, lt-leb, lt-ltb, le-ltb}
 use Rattle.headers.specs.Rows.{empty, every}
-use Rattle.headers.specs.Text.{is-text}
-use Rattle.headers.specs.Escapes.{decode, encode, writable}
+use Rattle.headers.specs.Text.{divides, stops, is-text}
+use Rattle.headers.specs.Escapes.{decode, encode, escaped, writable}
 use Rattle.headers.specs.Numbers.{shortest}
 use Rattle.headers.specs.Block.{Entry}
 use Rattle.headers.specs.Lines.{entry-of, decoded-entry, line-length, are-text, raw-line, written-line, can-write}
 use Rattle.headers.specs.Answers.{Answer, accepted, refused, left-in, written-record, decoded-answer, record-answer, writable-answer, length-answer, encoded-answer, line-answer, decimal-answer}
 use Rattle.headers.specs.declared.text.Style.{Style}
+use Rattle.headers.specs.declared.text.Field.{Field}
 use Rattle.headers.specs.declared.text.Field.the-variants.{Name, Value}
-use Rattle.headers.proofs.Rows.{and-left, and-right, and-no, refuted, every-left, every-right, every-append}
+use Rattle.headers.proofs.Rows.{and-left, and-right, and-no, refuted, every-left, every-right, every-append, every-also}
 use Rattle.headers.proofs.Coding.{encode-long, encode-append}
 use Rattle.headers.proofs.Blocks.{length-record}
 
@@ -117,13 +119,49 @@ divided-empty (suc k) (x ∷ xs) = rw (eqb·suc-zero k, eqb·suc-zero (length xs
 pub divided-plain : (k : ℕ) (xs : List ℕ) → length (take k xs) + length (drop k xs) ≡ length xs
 divided-plain k xs = simp length-append at (ap length (take-append-drop k xs))
 
+-- the part of a row up to a place, or to its end
+pub take-place : (a e : ℕ) (xs : List ℕ) → (a ≤ length xs → e ≡ a) → (length xs < a → e ≡ length xs) → take e xs ≡ take a xs
+take-place a e xs inside past = by (leb a (length xs)) refl
+  where
+    by : (t : Bool) → leb a (length xs) ≡ t → take e xs ≡ take a xs
+    by true t = ap (λ n. take n xs) (inside (leb-true a (length xs) t))
+    by false t = let l = leb-false a (length xs) t in take-all e xs (omega (arith, past l)) ∙ sym (take-all a xs (omega arith))
+
+-- what can be written, by whether there are escapes: each stop has one. Octets 13, 10, 58 and 92 are escaped, 10, 13 and 58 are stops.
+pub writable-is : (s : Style) (f : Field) (x : ℕ) → s .escapes || not (stops s f x) ≡ writable s f x
+writable-is s f x = by (s .escapes) (eqb x 13) (eqb x 10) (eqb x 58) (eqb x 92) (divides s f)
+  where
+    by : (e cr lf colon back d : Bool) → e || not (lf || cr || (colon && d)) ≡ e && (cr || (lf || (colon || (back || false)))) || not (lf || cr || (colon && d))
+    by false cr lf colon back d = refl
+    by true true lf colon back d = refl
+    by true false true colon back d = refl
+    by true false false true back d = refl
+    by true false false false true d = refl
+    by true false false false false d = refl
+
+-- where there are escapes any octet can be written
+pub all-writable : (s : Style) (f : Field) → s .escapes ≡ true → (xs : List ℕ) → every (writable s f) xs ≡ true
+all-writable s f e [] = refl
+all-writable s f e (x ∷ xs) = rw (sym (writable-is s f x) ∙ ap (λ b. b || not (stops s f x)) e) (all-writable s f e xs)
+
+-- what can be written in a name can be in a value
+name-value : (s : Style) (x : ℕ) → writable s Name x ≡ true → writable s Value x ≡ true
+name-value s x h = by (escaped s x) (eqb x 10 || eqb x 13) (eqb x 58) (s .escapes) h
+  where
+    by : (e a c d : Bool) → e || not (a || (c && true)) ≡ true → e || not (a || (c && d)) ≡ true
+    by true a c d k = refl
+    by false true c d k = k
+    by false false true true k = k
+    by false false true false k = refl
+    by false false false d k = refl
+
 module _ (s : Style) (k : ℕ) (xs : List ℕ) where
   pub divided-long : length (raw-line s (divided k xs)) ≡ length (encode s xs) + 1
   divided-long =
       let whole = sym (encode-append s (take k xs) (drop k xs)) ∙ ap (encode s) (take-append-drop k xs) in
       omega (arith, raw-long s (divided k xs), simp length-append at (ap length whole))
 
-  -- both fields take the same octets
+  -- a name takes no more than a value
   pub divided-octet : every (writable s Value) xs ≡ false → can-write s (divided k xs) ≡ false
   divided-octet h =
       refuted (can-write s (divided k xs))
@@ -131,14 +169,18 @@ module _ (s : Style) (k : ℕ) (xs : List ℕ) where
       let texts = and-right (not (empty (take k xs))) _ w in
       let rest = and-right (every (writable s Name) (take k xs)) _ texts in
       let whole : every (writable s Value) (take k xs ++ drop k xs) ≡ true =
-      every-append (writable s Value) (take k xs) (drop k xs) (and-left (every (writable s Name) (take k xs)) _ texts) (and-left (every (writable s Value) (drop k xs)) _ rest) in
+      every-append (writable s Value) (take k xs) (drop k xs)
+      (every-also (writable s Name) (writable s Value) (name-value s) (take k xs) (and-left (every (writable s Name) (take k xs)) _ texts)) (and-left (every (writable s Value) (drop k xs)) _ rest) in
       let all : every (writable s Value) xs ≡ true = rw take-append-drop at whole in
       let z : _≡_ {A = ℕ} 0 1 = cc in omega arith)
 
-  pub divided-can : empty (take k xs) ≡ false → every (writable s Value) xs ≡ true → length (encode s xs) ≤ 511 → can-write s (divided k xs) ≡ true
-  divided-can some h fits =
+  pub divided-name : every (writable s Name) (take k xs) ≡ false → can-write s (divided k xs) ≡ false
+  divided-name h = no-name-octet s (divided k xs) h
+
+  pub divided-can : empty (take k xs) ≡ false → every (writable s Value) xs ≡ true → every (writable s Name) (take k xs) ≡ true → length (encode s xs) ≤ 511 → can-write s (divided k xs) ≡ true
+  divided-can some h n fits =
       let whole : every (writable s Value) (take k xs ++ drop k xs) ≡ true = rw take-append-drop h in
-      can s (divided k xs) some (every-left (writable s Value) (take k xs) (drop k xs) whole) (every-right (writable s Value) (take k xs) (drop k xs) whole) (omega (arith, divided-long))
+      can s (divided k xs) some n (every-right (writable s Value) (take k xs) (drop k xs) whole) (omega (arith, divided-long))
 
 -- ---- one record
 

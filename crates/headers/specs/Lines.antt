@@ -39,7 +39,8 @@ raw-line s e = encode s (e .name) ++ (58 ∷ encode s (e .value))
 abbrev pub written-line : Style → Entry → List ℕ
 written-line s e = encode s (e .name) ++ (58 ∷ (encode s (e .value) ++ (10 ∷ [])))
 
--- the entry can be written: not "an empty name, a raw line over 512, or in CONNECT/CONNECTED holds 10, 13 or a colon"
+-- the entry can be written: not "an empty name, a raw line over 512, or in CONNECT/CONNECTED holds 10, 13 or a colon"; the colon only
+-- in the name (C-12)
 abbrev pub can-write : Style → Entry → Bool
 can-write s e =
     not (empty (e .name))

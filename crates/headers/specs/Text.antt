@@ -9,10 +9,17 @@ use lib.Dec.{eqb}
 use Rattle.headers.specs.Rows.{any}
 use Rattle.headers.specs.declared.text.Style.{Style}
 use Rattle.headers.specs.declared.text.Field.{Field}
+use Rattle.headers.specs.declared.text.Field.the-variants.{Name, Value}
 
--- "Neither holds a raw 10, 13 or colon, in any command."
+-- A colon stands raw in no name; nor in a value, but in CONNECT and CONNECTED, which have no escapes: there "the first colon now
+-- divides, and later ones belong to the value" (C-12).
+abbrev pub divides : Style → Field → Bool
+divides s Name = true
+divides s Value = s .escapes
+
+-- "Neither holds a raw 10, 13 or colon": the colon where it divides.
 abbrev pub stops : Style → Field → ℕ → Bool
-stops s f x = eqb x 10 || eqb x 13 || eqb x 58
+stops s f x = eqb x 10 || eqb x 13 || (eqb x 58 && divides s f)
 
 -- an escape: the letter after the backslash, and the octet that the two stand for
 pub record Escape : Type 0 where

@@ -1,11 +1,12 @@
 // One raw header line, written from an entry's name and value.
 ghost use mathlib.Core.Path.{_≡_};
-ghost use Prim.Native.Nat.{_+_, _≤_};
+ghost use Prim.Native.Nat.{_+_, _≤_, _<_};
 ghost use lib.ListN.{length, take, drop};
 ghost use lib.Dec.{leb};
 ghost use Rattle.headers.specs.Rows.{every};
 ghost use Rattle.headers.specs.Escapes.{writable, encode};
 ghost use Rattle.headers.specs.Lines.{entry-of, written-line};
+ghost use Rattle.headers.specs.declared.text.Field.the-variants.{Name};
 ghost use Rattle.headers.specs.Answers.{left-in, Puts, writable-answer, length-answer, length-says, encoded-answer, line-answer, line-says};
 use crate::octets::both_fit;
 use crate::text::Field;
@@ -13,6 +14,7 @@ use crate::text::Style;
 use crate::text::can_write;
 use crate::text::encoded_length;
 use crate::text::encoded_width;
+use crate::text::is_writable;
 use crate::text::put_encoded;
 
 // The octets of a raw header line, its line end not counted.
@@ -52,6 +54,24 @@ fn text_length(text: &[u8], style: Style, field: Field) -> LineLength
     LineLength::Length(n as usize)
 }
 
+// The place a, or the end n where that is less.
+fn place(a: usize, n: usize) -> usize
+    ensures { λ r. ⌜ (r ≤ n) × (a ≤ n → r ≡ a) × (n < a → r ≡ n) ⌝ }
+{
+    if a < n { a } else { n }
+}
+
+// Whether each octet of the name at the front of a text can be written there: where there are escapes, any can.
+fn is_name(text: &[u8], name: usize, style: Style) -> bool
+    ensures { λ r. ⌜ r ≡ every (writable style Name) (take name (now (text .entry))) ⌝ }
+{
+    if style.escapes {
+        return true;
+    }
+    let e = place(name, text.len());
+    is_writable(&text[0..e], style, Field::Name)
+}
+
 // How long the raw line of an entry is, its line end not counted.
 pub fn line_length(name: &[u8], value: &[u8], style: Style) -> LineLength
     ensures { λ r. ⌜ length-says r ≡ length-answer style (entry-of (now (name .entry)) (now (value .entry))) ⌝ }
@@ -87,6 +107,9 @@ pub fn entry_length(text: &[u8], name: usize, style: Style) -> LineLength
     let LineLength::Length(n) = text_length(text, style, Field::Value) else {
         return LineLength::Unwritable;
     };
+    if !is_name(text, name, style) {
+        return LineLength::Unwritable;
+    }
     if TEXT_MAX < n {
         return LineLength::Unwritable;
     }

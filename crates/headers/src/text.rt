@@ -4,7 +4,7 @@ ghost use mathlib.Core.Bool.{cond, not};
 ghost use Prim.Native.Nat.{_+_, _≤_, _<_};
 ghost use lib.ListN.{length, drop};
 ghost use Rattle.headers.specs.Rows.{every};
-ghost use Rattle.headers.specs.Text.{stops, opens, is-letter, is-text};
+ghost use Rattle.headers.specs.Text.{divides, stops, opens, is-letter, is-text};
 ghost use Rattle.headers.specs.Escapes.{at-escape, width, octet-at, meaning, letter-of, escaped, writable, decode, encode-octet, encode};
 ghost use Rattle.headers.specs.Answers.{Puts};
 
@@ -20,11 +20,21 @@ pub enum Field {
     Value,
 }
 
-// Whether the octet stands raw in no text of this field: alike in every style and field.
+// Whether a colon stands raw in no text of this field: in no name, and where there are escapes in no value.
+fn is_divided(style: Style, field: Field) -> bool
+    ensures { λ r. ⌜ r ≡ divides style field ⌝ }
+{
+    match field {
+        Field::Name => true,
+        Field::Value => style.escapes,
+    }
+}
+
+// Whether the octet stands raw in no text of this field.
 pub fn is_stop(style: Style, field: Field, x: u8) -> bool
     ensures { λ r. ⌜ r ≡ stops style field x ⌝ }
 {
-    (x == 10) | (x == 13) | (x == 58)
+    (x == 10) | (x == 13) | ((x == 58) & is_divided(style, field))
 }
 
 // Whether the octet may follow a backslash.

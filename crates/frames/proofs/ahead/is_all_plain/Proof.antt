@@ -36,10 +36,10 @@ loop-again c =
     let l = c .before .before .before .loop in
     let a = c .before .before .before .before .before .args in
     rw (c .is-plain .ensures)
-    (every-more (plain-in (a .escapes)) (a .s .now) (l .i) (l .ok) (c .before .before .loop-test .taken) ∙ l .inv)
+    (every-more (plain-in (a .stops)) (a .s .now) (l .i) (l .ok) (c .before .before .loop-test .taken) ∙ l .inv)
 
 returns : tie.Need-returns Inv-loop μ-loop
-returns c = sym (every-done (plain-in (c .before .before .before .args .escapes)) _ (c .before .loop .i) (c .before .loop .ok) (c .loop-test .left)) ∙ c .before .loop .inv
+returns c = sym (every-done (plain-in (c .before .before .before .args .stops)) _ (c .before .loop .i) (c .before .loop .ok) (c .loop-test .left)) ∙ c .before .loop .inv
 
 pub is-all-plain-spec : {M : Type 1} → statement M
 is-all-plain-spec =

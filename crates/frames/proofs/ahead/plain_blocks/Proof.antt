@@ -44,7 +44,7 @@ loop-again c =
     let b = c .before .before .before .before in
     let l = b .loop in
     let a = b .before .before .args in
-    (omega arith, span-block (plain-in (a .escapes)) (a .s .now) (l .i) (l .i + 32) (omega arith) (omega arith) (sym (c .before .is-all-plain .ensures) ∙ c .if1 .taken) ∙ l .inv .1)
+    (omega arith, span-block (plain-in (a .stops)) (a .s .now) (l .i) (l .i + 32) (omega arith) (omega arith) (sym (c .before .is-all-plain .ensures) ∙ c .if1 .taken) ∙ l .inv .1)
 
 returns : tie.Need-returns Inv-loop μ-loop
 returns c = search needs

@@ -85,18 +85,18 @@ loop-again c =
     let w = whole (c .before .before) in
     let more = block-more _ _ (l .i) (l .i + 32) (omega arith) (omega arith) (f .ensures) (omega arith) in
     let a = c .before .before .before .before .before .before .before .before .args in
-    let on = span-on (plain-in (a .escapes)) (a .s .now) (l .i + f .result) (omega arith) (c .plain-blocks .ensures) in
+    let on = span-on (plain-in (a .stops)) (a .s .now) (l .i + f .result) (omega arith) (c .plain-blocks .ensures) in
     (on .0, on .1 ∙ more ∙ l .inv .1)
 
 loop2-holds : tie.Need-loop2-holds Inv-loop μ-loop Inv-loop2 μ-loop2
 loop2-holds c = search needs
 
-shared-slice-read-is-plain-alone :
-    tie.Need-shared-slice-read-is-plain-alone Inv-loop μ-loop Inv-loop2 μ-loop2
-shared-slice-read-is-plain-alone c = search needs
+shared-slice-read-is-plain :
+    tie.Need-shared-slice-read-is-plain Inv-loop μ-loop Inv-loop2 μ-loop2
+shared-slice-read-is-plain c = search needs
 
-is-plain-alone-requires : tie.Need-is-plain-alone-requires Inv-loop μ-loop Inv-loop2 μ-loop2
-is-plain-alone-requires c κs = search needs
+is-plain-requires : tie.Need-is-plain-requires Inv-loop μ-loop Inv-loop2 μ-loop2
+is-plain-requires c κs = search needs
 
 add-i-3 : tie.Need-add-i-3 Inv-loop μ-loop Inv-loop2 μ-loop2
 add-i-3 c = search needs
@@ -107,12 +107,12 @@ loop2-less c = search needs
 loop2-again : tie.Need-loop2-again Inv-loop μ-loop Inv-loop2 μ-loop2
 loop2-again c =
     let l = c .before .before .before .before .loop2 in
-    (omega arith, span-more _ _ (l .i) (c .before .before .before .loop2-test .taken) (sym (c .before .is-plain-alone .ensures) ∙ c .if2 .taken) ∙ l .inv .1)
+    (omega arith, span-more _ _ (l .i) (c .before .before .before .loop2-test .taken) (sym (c .before .is-plain .ensures) ∙ c .if2 .taken) ∙ l .inv .1)
 
 returns-2 : tie.Need-returns-2 Inv-loop μ-loop Inv-loop2 μ-loop2
 returns-2 c =
     let l = c .before .before .before .before .loop2 in
-    span-stop _ _ (l .i) (c .before .before .before .loop2-test .taken) (sym (c .before .is-plain-alone .ensures) ∙ c .if2 .left) ∙ l .inv .1
+    span-stop _ _ (l .i) (c .before .before .before .loop2-test .taken) (sym (c .before .is-plain .ensures) ∙ c .if2 .left) ∙ l .inv .1
 
 returns-3 : tie.Need-returns-3 Inv-loop μ-loop Inv-loop2 μ-loop2
 returns-3 c = span-end _ _ _ (c .loop2-test .left) ∙ c .before .loop2 .inv .1
@@ -143,8 +143,8 @@ plain-span-spec =
     loop-less
     loop-again
     loop2-holds
-    shared-slice-read-is-plain-alone
-    is-plain-alone-requires
+    shared-slice-read-is-plain
+    is-plain-requires
     add-i-3
     loop2-less
     loop2-again

@@ -8,18 +8,24 @@ use Rattle.frames.proofs.pass.pass_name.Statement.{statement}
 use Rattle.frames.proofs.pass.pass_name.Tie as tie
 
 -- the octets of the name
-named : (c : tie.After-plain-span) → let a = c .before .before .before .before .before .before .args in Ahead (a .s .now) (a .i) (a .st) (c .plain-span .result)
+named : (c : tie.After-plain-span) → let a = c .before .before .before .before .before .before .before .args in Ahead (a .s .now) (a .i) (a .st) (c .plain-span .result)
 named c =
-    let a = c .before .before .before .before .before .before in
+    let a = c .before .before .before .before .before .before .before in
     let v = a .pre .1 in
     let h = line-short v (a .pre .2) in
-    ahead-by _ 511 (a .args .st) (glides-name (a .args .st) v (c .before .style-of .ensures) (a .pre .2) (a .pre .3)) _ _ (c .before .before .before .upto .result) _ (omega arith) (omega arith) (omega arith) (c .plain-span .ensures)
+    ahead-by _ 511 (a .args .st) (glides-name (a .args .st) v (c .before .before .before .style-of .ensures) (c .before .before .name-stops .ensures) (a .pre .2) (a .pre .3)) _ _ (c .before .before .before .before .upto .result) _ (omega arith) (omega arith) (omega arith) (c .plain-span .ensures)
 
 sub-upto : tie.Need-sub-upto
 sub-upto c = line-short (c .before .before .pre .1) (c .before .before .pre .2)
 
 upto-requires : tie.Need-upto-requires
 upto-requires c κs = search needs
+
+style-of-requires : tie.Need-style-of-requires
+style-of-requires c κs = search needs
+
+name-stops-requires : tie.Need-name-stops-requires
+name-stops-requires c κs = search needs
 
 sub-plain-span : tie.Need-sub-plain-span
 sub-plain-span c = search needs
@@ -29,9 +35,6 @@ part-plain-span-start c = search needs
 
 part-plain-span-end : tie.Need-part-plain-span-end
 part-plain-span-end c = search needs
-
-style-of-requires : tie.Need-style-of-requires
-style-of-requires c κs = search needs
 
 plain-span-requires : tie.Need-plain-span-requires
 plain-span-requires c κs = search needs
@@ -48,10 +51,11 @@ pass-name-spec =
     (tie.spec
     sub-upto
     upto-requires
+    style-of-requires
+    name-stops-requires
     sub-plain-span
     part-plain-span-start
     part-plain-span-end
-    style-of-requires
     plain-span-requires
     skip-requires
     returns)
