@@ -131,9 +131,13 @@ static void put_token(struct row *r, uint64_t *seed)
     put(r, tokens[t], t == 0 ? 1 : strlen(tokens[t]));
 }
 
+/* Any command; often CONNECT, CONNECTED or STOMP, whose rules for escapes and colons differ. */
 static void put_command(struct row *r, uint64_t *seed)
 {
+    static const char *const opening[] = {"CONNECT", "CONNECTED", "STOMP"};
     const char *command = commands[random_between(seed, 0, 14)];
+    if (random_between(seed, 0, 7) == 0)
+        command = opening[random_between(seed, 0, 2)];
     size_t length = strlen(command);
     put(r, command, random_between(seed, 0, 15) ? length : random_between(seed, 0, length));
     put_times(r, random_between(seed, 0, 3) ? "\n" : "\r\n", 1);
@@ -156,7 +160,7 @@ static void check_tokens(uint64_t *seed)
 static void put_edge_line(struct row *r, uint64_t *seed)
 {
     static const char *const ends[] = {":", "\\", "\\c", "a", "0", "\n", "\r\n", "\r", "32768", "::"};
-    switch (random_between(seed, 0, 3)) {
+    switch (random_between(seed, 0, 4)) {
     case 0:
         put_times(r, "n", random_between(seed, 506, 513));
         break;
@@ -167,6 +171,10 @@ static void put_edge_line(struct row *r, uint64_t *seed)
     case 2:
         put_times(r, "content-length:", 1);
         put_times(r, "0", random_between(seed, 488, 499));
+        break;
+    case 3:
+        put_times(r, "a:", 1);
+        put_times(r, ":", random_between(seed, 505, 512));
         break;
     default:
         put_times(r, "a:", random_between(seed, 0, 1));

@@ -14,7 +14,8 @@ struct scan {
     size_t at;
     unsigned command;
     unsigned headers;
-    const uint8_t *kinds;
+    const uint8_t *name_kinds;
+    const uint8_t *value_kinds;
     size_t max_body;
     size_t content_length;
     uint64_t answer;
@@ -36,10 +37,11 @@ static const uint8_t first_with[26] = {
     ['M' - 'A'] = 9, ['N' - 'A'] = 10, ['R' - 'A'] = 11, ['S' - 'A'] = 12, ['U' - 'A'] = 15
 };
 
-/* What an octet is in header text, with escapes and, in CONNECT and CONNECTED, without. */
+/* What an octet is in header text: with escapes, without, and where colons are plain too. */
 enum { PLAIN, END, ESCAPE };
 static const uint8_t kinds_with_escapes[256] = {[LF] = END, [CR] = END, [COLON] = END, [BACKSLASH] = ESCAPE};
 static const uint8_t kinds_without[256] = {[LF] = END, [CR] = END, [COLON] = END};
+static const uint8_t kinds_with_colons[256] = {[LF] = END, [CR] = END};
 
 /* The octets that may follow a backslash. */
 static const uint8_t letters[256] = {['c'] = 1, ['n'] = 1, ['r'] = 1, [BACKSLASH] = 1};
@@ -82,7 +84,8 @@ static inline bool read_command(struct scan *s)
         if (command_words[c][i] == 0 && (x == LF || x == CR)) {
             s->at = i;
             s->command = c;
-            s->kinds = has_escapes(c) ? kinds_with_escapes : kinds_without;
+            s->name_kinds = has_escapes(c) ? kinds_with_escapes : kinds_without;
+            s->value_kinds = has_colons(c) ? kinds_with_colons : s->name_kinds;
             s->max_body = most_body(c);
             return true;
         }
@@ -96,11 +99,11 @@ static inline bool read_command(struct scan *s)
     return stop(s, STOMP_INCOMPLETE);
 }
 
-/* Reads header text up to a raw colon or line end. At `limit` only those can stand. */
-static inline bool read_text(struct scan *s, size_t limit)
+/* Reads header text up to an octet that ends it, a line end or, as the kinds say, a raw colon. At `limit`
+ * only those can stand. */
+static inline bool read_text(struct scan *s, const uint8_t *kinds, size_t limit)
 {
     const uint8_t *octets = s->octets;
-    const uint8_t *kinds = s->kinds;
     size_t end = s->length < limit ? s->length : limit;
     size_t i = s->at;
     while (i < end) {
@@ -136,7 +139,7 @@ static inline bool read_content_length(struct scan *s, size_t limit)
     size_t value = 0;
     for (size_t i = s->at; i < s->length; i++) {
         uint8_t x = s->octets[i];
-        if (x == COLON)
+        if (x == COLON && !has_colons(s->command))
             return invalid(s, STOMP_INVALID_SECOND_COLON, i);
         if (x == LF || x == CR) {
             if (i == s->at)
@@ -145,7 +148,7 @@ static inline bool read_content_length(struct scan *s, size_t limit)
             s->content_length = value;
             return true;
         }
-        if (i == limit || (i + 1 == limit && s->kinds[x] == ESCAPE))
+        if (i == limit || (i + 1 == limit && s->value_kinds[x] == ESCAPE))
             return invalid(s, STOMP_INVALID_LINE_LENGTH, i);
         if (x < '0' || x > '9')
             return invalid(s, STOMP_INVALID_CONTENT_LENGTH, i);
@@ -161,7 +164,7 @@ static inline bool read_header(struct scan *s)
 {
     size_t start = s->at;
     /* The colon may be the last octet of the line. */
-    if (!read_text(s, start + STOMP_MAX_LINE - 1))
+    if (!read_text(s, s->name_kinds, start + STOMP_MAX_LINE - 1))
         return false;
     size_t colon = s->at;
     if (s->octets[colon] != COLON)
@@ -172,7 +175,7 @@ static inline bool read_header(struct scan *s)
         if (!read_content_length(s, start + STOMP_MAX_LINE))
             return false;
     } else {
-        if (!read_text(s, start + STOMP_MAX_LINE))
+        if (!read_text(s, s->value_kinds, start + STOMP_MAX_LINE))
             return false;
         if (s->octets[s->at] == COLON)
             return invalid(s, STOMP_INVALID_SECOND_COLON, s->at);

@@ -77,6 +77,15 @@ static void put_text(size_t length, size_t specials, uint64_t *seed)
     }
 }
 
+/* Puts colons in place of some octets from a place on. */
+static void put_colons(size_t at, uint64_t *seed)
+{
+    size_t others = random_between(seed, 0, 4);
+    for (; at < block.length; at++)
+        if (random_between(seed, 0, others) == 0)
+            block.octets[at] = ':';
+}
+
 /* The value of a content-length: the body's length, perhaps with zeros, or something near it. */
 static void put_content_length(uint64_t *seed)
 {
@@ -95,6 +104,7 @@ static void put_content_length(uint64_t *seed)
     put_times(&block, digits, 1);
 }
 
+/* An entry; where there are no escapes, often with colons in its value. */
 static void put_entry(bool escapes, uint64_t *seed)
 {
     size_t start = block.length;
@@ -134,6 +144,8 @@ static void put_entry(bool escapes, uint64_t *seed)
         value = block.length;
         put_text(random_between(seed, 0, 30), specials, seed);
     }
+    if (!escapes && random_between(seed, 0, 1))
+        put_colons(value, seed);
     put_length(block.octets + start + 2, value - start - 6);
     put_length(block.octets + start + 4, block.length - value);
 }

@@ -62,7 +62,7 @@ static inline size_t line_length(const uint8_t *text, size_t name, size_t value,
         return length <= STOMP_MAX_LINE ? length : 0;
     }
     for (size_t i = 0; i < name + value; i++)
-        special += (text[i] == LF) | (text[i] == CR) | (text[i] == COLON);
+        special += (text[i] == LF) | (text[i] == CR) | ((text[i] == COLON) & (i < name));
     return special == 0 ? length : 0;
 }
 

@@ -1,5 +1,5 @@
 /* What the three parts of the baseline share: the octets with a meaning, the commands, and which of
- * them have escapes or a body. */
+ * them have escapes, colons in values, or a body. */
 #ifndef RULES_H
 #define RULES_H
 
@@ -19,6 +19,12 @@ extern const char command_words[COMMANDS + 1][12];
 static inline bool has_escapes(unsigned command)
 {
     return command != STOMP_COMMAND_CONNECT && command != STOMP_COMMAND_CONNECTED;
+}
+
+/* Whether the colons after the first of a line belong to the value. */
+static inline bool has_colons(unsigned command)
+{
+    return command == STOMP_COMMAND_CONNECT || command == STOMP_COMMAND_CONNECTED;
 }
 
 /* The longest body of a command. */

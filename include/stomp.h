@@ -62,7 +62,8 @@ enum stomp_parse_refusal {
     STOMP_INVALID_LINE_COUNT = 5,     /* begins a line too many */
     STOMP_INVALID_CONTENT_LENGTH = 6, /* spoils the first content-length: no digit, or too large */
     STOMP_INVALID_BODY_END = 7,       /* stands where only octet 0 can */
-    STOMP_INVALID_SECOND_COLON = 8,   /* is a second colon in a header line */
+    STOMP_INVALID_SECOND_COLON = 8,   /* is a second colon in a header line; not in CONNECT and CONNECTED,
+                                         where later colons belong to the value */
     STOMP_INVALID_NO_COLON = 9,       /* ends a header line, or begins its end, before the colon */
     STOMP_INVALID_ESCAPE = 10         /* follows a backslash and makes no escape with it */
 };
@@ -85,7 +86,8 @@ enum stomp_encode_refusal {
     STOMP_ENCODE_MALFORMED = 51,      /* the block is not a row of whole records */
     STOMP_ENCODE_LINE_COUNT = 52,     /* more than STOMP_MAX_LINES lines, the added one counted */
     STOMP_ENCODE_ENTRY = 53,          /* an empty name, a raw line over STOMP_MAX_LINE, or in CONNECT and
-                                         CONNECTED octet 10, 13 or a colon; the index says which entry */
+                                         CONNECTED octet 10 or 13, or a colon in the name; the index says
+                                         which entry */
     STOMP_ENCODE_BODY = 54,           /* a body is not allowed, or longer than STOMP_MAX_BODY */
     STOMP_ENCODE_CONTENT_LENGTH = 55, /* the first content-length is not the body's length in digits */
     STOMP_ENCODE_SHORT_TARGET = 56    /* the target is shorter than the encoded frame */

@@ -34,7 +34,7 @@ pub const INVALID_LINE_LENGTH: u32 = 4; // makes the line longer than 512
 pub const INVALID_LINE_COUNT: u32 = 5; // begins a 33rd header line
 pub const INVALID_CONTENT_LENGTH: u32 = 6; // spoils the first content-length: no digit, or too large
 pub const INVALID_BODY_END: u32 = 7; // stands where only octet 0 can
-pub const INVALID_SECOND_COLON: u32 = 8; // is a second colon in a header line
+pub const INVALID_SECOND_COLON: u32 = 8; // is a second colon; never in CONNECT and CONNECTED
 pub const INVALID_NO_COLON: u32 = 9; // ends a header line, or begins its end, before the colon
 pub const INVALID_ESCAPE: u32 = 10; // follows a backslash and makes no escape with it
 

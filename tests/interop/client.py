@@ -99,6 +99,9 @@ elif CASE == "python-12-no-length":
 elif CASE == "python-12-passcode":
     client, _ = opened(stomp.Connection12(AT), username="user", passcode="a:b")
     client.disconnect(receipt="bye")
+elif CASE == "python-12-passcode-connect":
+    client, _ = opened(stomp.Connection12(AT), username="user", passcode="a:b", with_connect_command=True)
+    client.disconnect(receipt="bye")
 elif CASE == "python-12-passcode-backslash":
     client, _ = opened(stomp.Connection12(AT), username="user", passcode="a\\b")
     client.disconnect(receipt="bye")

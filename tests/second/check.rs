@@ -39,21 +39,39 @@ fn product(fronts: &[Vec<u8>], backs: &[Vec<u8>]) -> Vec<Vec<u8>> {
     fronts.iter().flat_map(with).collect()
 }
 
-/// All texts of so many octets: sound octets and whole escapes.
-fn texts(command: Command, length: usize) -> Vec<Vec<u8>> {
+/// CONNECT and CONNECTED, by their numbers.
+fn is_connect(command: Command) -> bool {
+    [5, 6].contains(&command.0)
+}
+
+/// All names of so many octets: sound octets and whole escapes.
+fn names(command: Command, length: usize) -> Vec<Vec<u8>> {
+    if command.escapes() {
+        texts(b"ac\0", &[b"\\c", b"\\\\"], length)
+    } else {
+        texts(b"ac\0\\", &[], length)
+    }
+}
+
+/// All values of so many octets: in CONNECT and CONNECTED a colon is an octet like any other.
+fn values(command: Command, length: usize) -> Vec<Vec<u8>> {
+    if is_connect(command) {
+        texts(b"ac\0\\:", &[], length)
+    } else {
+        names(command, length)
+    }
+}
+
+/// All texts of so many octets, made of these octets and of these pairs.
+fn texts(singles: &[u8], pairs: &[&[u8]], length: usize) -> Vec<Vec<u8>> {
     if length == 0 {
         return vec![Vec::new()];
     }
-    let singles: &[u8] = if command.escapes() {
-        b"ac\0"
-    } else {
-        b"ac\0\\"
-    };
-    let singles: Vec<_> = singles.iter().map(|&octet| vec![octet]).collect();
-    let mut all = product(&singles, &texts(command, length - 1));
-    if command.escapes() && length > 1 {
-        let escapes = [b"\\c".to_vec(), b"\\\\".to_vec()];
-        all.extend(product(&escapes, &texts(command, length - 2)));
+    let fronts: Vec<_> = singles.iter().map(|&octet| vec![octet]).collect();
+    let mut all = product(&fronts, &texts(singles, pairs, length - 1));
+    if length > 1 {
+        let fronts: Vec<_> = pairs.iter().map(|pair| pair.to_vec()).collect();
+        all.extend(product(&fronts, &texts(singles, pairs, length - 2)));
     }
     all
 }
@@ -64,8 +82,8 @@ fn lines(command: Command, length: usize) -> Vec<Vec<u8>> {
     for (end, width) in [(&b"\n"[..], 1), (b"\r\n", 2)] {
         for name in 1..length.saturating_sub(width) {
             let value = length - width - 1 - name;
-            let named = product(&texts(command, name), &[b":".to_vec()]);
-            let whole = product(&named, &texts(command, value));
+            let named = product(&names(command, name), &[b":".to_vec()]);
+            let whole = product(&named, &values(command, value));
             all.extend(product(&whole, &[end.to_vec()]));
         }
     }
@@ -106,7 +124,7 @@ fn tails(command: Command, length: usize) -> Vec<Vec<u8>> {
 }
 
 fn small_commands() -> Vec<Command> {
-    [&b"ACK"[..], b"SEND", b"CONNECT"]
+    [&b"ACK"[..], b"SEND", b"CONNECT", b"STOMP"]
         .iter()
         .filter_map(|name| Command::named(name))
         .collect()
@@ -210,7 +228,8 @@ fn can_go_on(command: Command, line: &[u8]) -> bool {
             return false;
         }
         if octet == b':' {
-            if colon || index == 0 {
+            let second = colon && !is_connect(command);
+            if second || index == 0 {
                 return false;
             }
             colon = true;
@@ -227,7 +246,7 @@ fn can_go_on(command: Command, line: &[u8]) -> bool {
 fn lines_owe_what_is_missing() {
     let mut random = Random::new(1);
     for round in 0..30_000 {
-        let command = small_commands()[round % 3];
+        let command = small_commands()[round % 4];
         let mut line = vec![b'v'; random.between(500, 514)];
         if random.once_in(2) {
             let colon = random.between(1, line.len() - 1);
@@ -256,7 +275,7 @@ fn spoils(command: Command, line: &[u8], octet: u8) -> Option<usize> {
     match octet {
         _ if escape => (!b"rnc\\".contains(&octet)).then_some(10),
         b':' if line.is_empty() => Some(3),
-        b':' if colon => Some(8),
+        b':' if colon && !is_connect(command) => Some(8),
         b'\n' | b'\r' if !colon && !line.is_empty() => Some(9),
         _ => None,
     }
@@ -309,6 +328,31 @@ fn the_first_number_in_the_order_is_given() {
     for (tail, refused) in cases {
         let listed = listing::of(&[b"ACK\n", &tail[..]].concat());
         assert_eq!(listed, format!("0 refused {refused}\n"));
+    }
+}
+
+/// Document 02, C-12: "For CONNECT and CONNECTED the first colon now divides, and later ones belong to the
+/// value. STOMP frames keep the old rule."
+#[test]
+fn later_colons_of_connect_belong_to_the_value() {
+    let colons = |count| [b"CONNECT\na:", &vec![b':'; count][..], b"\n\n\0"].concat();
+    let zeros = [b"CONNECT\ncontent-length:", &[b'0'; 497][..], b":"].concat();
+    let cases: [(&[u8], &str); 11] = [
+        (b"CONNECT\na:b:c\n\n\0", "0 frame 5 16 1 15 0"),
+        (b"CONNECT\na::\n\n\0", "0 frame 5 14 1 13 0"),
+        (b"CONNECT\na:\\:\n\n\0", "0 frame 5 15 1 14 0"),
+        (b"CONNECTED\na::b\n\n\0", "0 frame 6 17 1 16 0"),
+        (&colons(510), "0 frame 5 523 1 522 0"),
+        (&colons(511), "0 refused 4 520"),
+        (b"CONNECT\n:a:b", "0 refused 3 8"),
+        (b"CONNECT\ncontent-length:0:", "0 refused 6 24"),
+        (b"CONNECT\ncontent-length::", "0 refused 6 23"),
+        (&zeros, "0 refused 4 520"),
+        (b"STOMP\na:b:c\n\n\0", "0 refused 8 9"),
+    ];
+    for (stream, expected) in cases {
+        let listed = listing::of(stream);
+        assert_eq!(listed.lines().next(), Some(expected));
     }
 }
 

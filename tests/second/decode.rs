@@ -35,7 +35,7 @@ pub fn decode(row: &[u8]) -> Option<Content> {
 
 /// Sound raw text decoded. Escapes are taken from the left, one at a time, and what an escape stands
 /// for is not looked at again.
-fn decoded(command: Command, raw: &[u8]) -> Vec<u8> {
+pub fn decoded(command: Command, raw: &[u8]) -> Vec<u8> {
     let mut text = Vec::new();
     let mut octets = raw.iter();
     while let Some(&octet) = octets.next() {

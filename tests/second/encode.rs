@@ -64,14 +64,16 @@ fn first_length(content: &Content) -> Option<&Entry> {
 }
 
 /// "53 an entry has an empty name, a raw line over 512, or in CONNECT/CONNECTED holds 10, 13 or a
-/// colon (the first such entry is named, from 0)"
+/// colon (the first such entry is named, from 0)"; by document 02, C-12, "a colon gets 53 there only in
+/// the name".
 fn spoiled_entry(content: &Content) -> Option<Refusal> {
     let command = content.command;
     let spoiled = |entry: &Entry| {
         let holds = |octet: &u8| entry.name.contains(octet) || entry.value.contains(octet);
+        let unwritable = [LF, CR].iter().any(holds) || entry.name.contains(&COLON);
         entry.name.is_empty()
             || line(command, entry).len() > MAX_LINE
-            || (!command.escapes() && [LF, CR, COLON].iter().any(holds))
+            || (!command.escapes() && unwritable)
     };
     let index = content.entries.iter().position(spoiled)?;
     Some(Refusal { code: 53, index })

@@ -1,4 +1,5 @@
-//! The rules of document 01, "Items on the wire", read over whole items and whole lines.
+//! The rules of document 01, "Items on the wire", with those of document 02's C-12 for colons, read over
+//! whole items and whole lines.
 //!
 //! `first_item` is the only place that knows the format. Whether octets can still be finished is
 //! asked as the document asks it: is there a row of octets after them that makes the whole an item?
@@ -69,6 +70,12 @@ impl Command {
     /// "In CONNECT and CONNECTED there are no escapes." STOMP has them.
     pub fn escapes(self) -> bool {
         self.name() != b"CONNECT" && self.name() != b"CONNECTED"
+    }
+
+    /// Document 02, C-12: "For CONNECT and CONNECTED the first colon now divides, and later ones belong to
+    /// the value. STOMP frames keep the old rule."
+    pub fn has_colons(self) -> bool {
+        [&b"CONNECT"[..], b"CONNECTED"].contains(&self.name())
     }
 
     /// "Only SEND, MESSAGE and ERROR may have a body."
@@ -219,22 +226,24 @@ pub fn header_block(command: Command, row: &[u8]) -> Option<HeaderBlock<'_>> {
 }
 
 /// "A header line is a name of at least one octet, a colon, a value that may be empty." Gives name
-/// and value, both raw.
+/// and value, both raw. The first colon divides; whether the value may have more, the command says.
 pub fn header_line(command: Command, line: &[u8]) -> Option<(&[u8], &[u8])> {
     let colon = line.iter().position(|&octet| octet == COLON)?;
     let (name, value) = (&line[..colon], &line[colon + 1..]);
     let sound = line.len() <= MAX_LINE
         && !name.is_empty()
         && is_text(command, name)
-        && is_text(command, value);
+        && is_text(command, value)
+        && (command.has_colons() || !value.contains(&COLON));
     sound.then_some((name, value))
 }
 
-/// Raw header text: no 10, 13 or colon; where the command escapes, whole escapes only.
+/// Raw header text, its colons apart: no 10 or 13; where the command escapes, whole escapes only, and a
+/// colon is no escape's letter.
 fn is_text(command: Command, text: &[u8]) -> bool {
     match text {
         [] => true,
-        [LF | CR | COLON, ..] => false,
+        [LF | CR, ..] => false,
         [BACKSLASH, rest @ ..] if command.escapes() => match rest {
             [letter, rest @ ..] => ESCAPE_LETTERS.contains(letter) && is_text(command, rest),
             [] => false,

@@ -215,17 +215,15 @@ fn image(random: &mut Random, frame: &Frame) -> Vec<u8> {
     image
 }
 
-/// The entry as the command can have it: without escapes there is no 10, 13 or colon.
+/// The entry as the command can have it: without escapes there is no 10 or 13, and in the name no colon.
 fn writable(command: Command, entry: &Entry) -> Entry {
-    let text = |text: &[u8]| -> Vec<u8> {
-        let octet = |&octet: &u8| match octet {
-            LF | CR | COLON if !command.escapes() => b';',
-            octet => octet,
-        };
+    let without = |stops: &[u8], text: &[u8]| -> Vec<u8> {
+        let writable = |octet: &u8| command.escapes() || !stops.contains(octet);
+        let octet = |octet: &u8| if writable(octet) { *octet } else { b';' };
         text.iter().map(octet).collect()
     };
     Entry {
-        name: text(&entry.name),
-        value: text(&entry.value),
+        name: without(&[LF, CR, COLON], &entry.name),
+        value: without(&[LF, CR], &entry.value),
     }
 }

@@ -72,7 +72,12 @@ pub fn line_end(random: &mut Random, stream: &mut Stream) {
     stream.push(LF);
 }
 
+/// Any command, a little more often CONNECT, CONNECTED or STOMP, whose rules for escapes and colons differ.
 pub fn any_command(random: &mut Random) -> Command {
+    if random.once_in(6) {
+        let opening: [&[u8]; 3] = [b"CONNECT", b"CONNECTED", b"STOMP"];
+        return Command::named(random.pick(&opening)).expect("a command");
+    }
     Command(random.between(1, COMMANDS.len()))
 }
 
@@ -159,12 +164,31 @@ fn line(random: &mut Random, command: Command, stream: &mut Stream) {
     }
     stream.push(COLON);
     let length = random.between(0, 8);
-    text(random, command, length, stream);
+    value(random, command, length, stream);
     line_end(random, stream);
 }
 
+/// A sound raw value of exactly that many octets, with colons where the command has them.
+fn value(random: &mut Random, command: Command, length: usize, stream: &mut Stream) {
+    let start = stream.len();
+    text(random, command, length, stream);
+    colons(random, command, &mut stream[start..]);
+}
+
+/// Puts colons in place of some octets of a value, at times of all, where the command has colons there.
+pub fn colons(random: &mut Random, command: Command, value: &mut [u8]) {
+    if command.has_colons() && random.once_in(2) {
+        let often = random.pick(&[1, 2, 6]);
+        for octet in value {
+            if random.once_in(often) {
+                *octet = COLON;
+            }
+        }
+    }
+}
+
 /// Sound raw text of exactly that many octets, with escapes, or raw backslashes where the command
-/// has no escapes.
+/// has no escapes, and without colons.
 fn text(random: &mut Random, command: Command, length: usize, stream: &mut Stream) {
     let end = stream.len() + length;
     while stream.len() < end {
@@ -207,7 +231,7 @@ fn later_line(random: &mut Random, command: Command, stream: &mut Stream) {
         stream.extend_from_slice(CONTENT_LENGTH);
         stream.push(COLON);
         let length = random.between(0, 4);
-        text(random, command, length, stream);
+        value(random, command, length, stream);
         line_end(random, stream);
     } else {
         line(random, command, stream);

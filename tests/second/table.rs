@@ -137,12 +137,13 @@ fn leaves_name_empty(place: &Place) -> bool {
     line.is_empty() && place.octet == COLON
 }
 
-/// "8 second colon"
+/// "8 second colon", and C-12: "8 is no longer given for" CONNECT and CONNECTED, where a later colon
+/// belongs to the value.
 fn is_second_colon(place: &Place) -> bool {
-    let Part::Line { line, .. } = &place.part else {
+    let Part::Line { command, line, .. } = &place.part else {
         return false;
     };
-    line.contains(&COLON) && place.octet == COLON
+    !command.has_colons() && line.contains(&COLON) && place.octet == COLON
 }
 
 /// "9 line end before the colon", and document 01: "A 13 in a header line can only begin a line end." In

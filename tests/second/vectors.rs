@@ -57,6 +57,7 @@ fn all() -> Vec<Vector> {
         unfinished(),
         specification(),
         spoiled_lines(),
+        connect_colons(),
     ]
     .concat()
 }
@@ -304,7 +305,7 @@ fn refusals() -> Vec<Vector> {
         ("2-in-empty-line", b"ACK\nid:a\n\r:".to_vec()),
         ("3-empty-name", b"ACK\n:a\n\n\0".to_vec()),
         ("9-no-colon", b"ACK\r\nid\n\n\0".to_vec()),
-        ("8-second-colon", b"CONNECT\nid:a:b\n\n\0".to_vec()),
+        ("8-second-colon", b"ACK\nid:a:b\n\n\0".to_vec()),
         ("7-after-crlf", b"RECEIPT\r\n\r\n\n".to_vec()),
     ]
 }
@@ -344,5 +345,33 @@ fn spoiled_lines() -> Vec<Vector> {
         ("name-backslash-13", b"ACK\nid\\\r\n\n\0".to_vec()),
         ("value-513-colon", ack(&join(&[&line_of(MAX_LINE), b":"]))),
         ("name-13", b"ACK\na\r".to_vec()),
+    ]
+}
+
+/// CONNECT with one header line, then all that ends a frame.
+fn connect(line: &[u8]) -> Vec<u8> {
+    join(&[b"CONNECT\n", line, b"\n\n\0"])
+}
+
+/// Document 02, C-12: later colons of a line belong to the value in CONNECT and CONNECTED, and only there.
+fn connect_colons() -> Vec<Vector> {
+    let colons = |count| connect(&join(&[b"a:", &run(b':', count)]));
+    let later: &[u8] = b"content-length:0\ncontent-length:0:";
+    vec![
+        ("connect-colon", connect(b"passcode:a:b")),
+        ("connect-two-colons", connect(b"passcode:a:b:c")),
+        ("connect-only-colons", connect(b"passcode::::")),
+        ("connect-510-colons", colons(MAX_LINE - 2)),
+        ("connect-511-colons", colons(MAX_LINE - 1)),
+        (
+            "connect-513-colon",
+            connect(&join(&[&line_of(MAX_LINE), b":"])),
+        ),
+        ("connect-backslash-colon", connect(b"passcode:\\:\\c")),
+        ("connect-empty-name", connect(b"::a")),
+        ("connect-length-colon", connect(b"content-length:0:")),
+        ("connect-later-length-colon", connect(later)),
+        ("connected-colon", b"CONNECTED\nsession:a:b\n\n\0".to_vec()),
+        ("stomp-second-colon", b"STOMP\npasscode:a:b\n\n\0".to_vec()),
     ]
 }

@@ -6,6 +6,7 @@ use crate::item::{
     Command, BACKSLASH, COLON, CONTENT_LENGTH, CR, ESCAPED, LF, MAX_LINE, MAX_LINES,
 };
 use crate::random::Random;
+use crate::streams::colons;
 
 /// Octets that no command escapes.
 const PLAIN: &[u8] = b"abcnr019- /;.\0\t\xff";
@@ -35,10 +36,12 @@ pub fn entries(random: &mut Random, command: Command, body: usize) -> Vec<Entry>
 /// An entry that a line can hold.
 fn entry(random: &mut Random, command: Command) -> Entry {
     let (name, value) = (random.between(1, 6), random.between(0, 8));
-    Entry {
+    let mut entry = Entry {
         name: text(random, command, name),
         value: text(random, command, value),
-    }
+    };
+    colons(random, command, &mut entry.value);
+    entry
 }
 
 /// Text of that many octets: any octet where the command escapes, else no 10, 13 or colon.
@@ -62,10 +65,12 @@ fn whole_line(random: &mut Random, command: Command) -> Entry {
 fn long_line(random: &mut Random, command: Command, length: usize) -> Entry {
     let name = random.pick(&[1, 2, length / 2, length - 2, length - 1]);
     let plain = random.pick(&[1, 2, 100, 1_000]);
-    Entry {
+    let mut entry = Entry {
         name: raw_text(random, command, name, plain),
         value: raw_text(random, command, length - 1 - name, plain),
-    }
+    };
+    colons(random, command, &mut entry.value);
+    entry
 }
 
 /// Text that takes exactly that many raw octets: an octet that has an escape takes two of them.
@@ -90,7 +95,8 @@ fn raw_text(random: &mut Random, command: Command, length: usize, plain: usize) 
     text
 }
 
-/// Makes an entry one that no line can hold, or that only escapes can.
+/// Makes an entry one that no line can hold; or, with an octet that has an escape, one that the lines of
+/// some commands can.
 fn spoil(random: &mut Random, command: Command, entry: &mut Entry) {
     match random.below(24) {
         0..=5 => entry.name.clear(),

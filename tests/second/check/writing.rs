@@ -4,7 +4,7 @@
 use super::{product, small_commands, tails};
 use crate::block::{self, Entry};
 use crate::calls::{self, Call, MAX_SLICE};
-use crate::decode::{decode, Content};
+use crate::decode::{decode, decoded as decoded_text, Content};
 use crate::encode::{adds_length, encode, image, length_entry, line, Refusal};
 use crate::item::{content_length, header_line, Command, CONTENT_LENGTH};
 use crate::random::Random;
@@ -62,6 +62,42 @@ fn escapes_are_taken_once() {
     let frame = |name: &[u8]| [name, b"\nx:", raw, b"\n\n\0"].concat();
     assert_eq!(decoded(&frame(b"STOMP")).entries[0].value, text);
     assert_eq!(decoded(&frame(b"CONNECT")).entries[0].value, raw);
+}
+
+/// Colons in values of CONNECT and CONNECTED are read and written as they are; a colon in a name would be
+/// read as the one that divides.
+#[test]
+fn colons_are_written_and_read() {
+    let frames: [&[u8]; 4] = [
+        b"CONNECT\npasscode:a:b\n\n\0",
+        b"CONNECT\na::\nb:::c::\n\n\0",
+        b"CONNECTED\nsession::\\:\n\n\0",
+        b"STOMP\npasscode:a\\cb\n\n\0",
+    ];
+    for frame in frames {
+        assert_eq!(encoded(&decoded(frame)), Ok(frame.to_vec()));
+    }
+    assert_eq!(decoded(frames[0]).entries[0].value, b"a:b");
+    assert_eq!(decoded(frames[3]).entries[0].value, b"a:b");
+    let refused = |command, name: &[u8], value: &[u8]| {
+        let block = block::write(&[Entry::new(b"a", b""), Entry::new(name, value)]);
+        encode(command, &block, b"", MAX_SLICE).err()
+    };
+    let second = Some(Refusal { code: 53, index: 1 });
+    for command in [5, 6] {
+        assert_eq!(refused(command, b"n", b"a:b"), None);
+        for (name, value) in [
+            ("n:", "v"),
+            (":", ""),
+            ("n\n", "v"),
+            ("n", "\r"),
+            ("n", ":\n"),
+        ] {
+            let refusal = refused(command, name.as_bytes(), value.as_bytes());
+            assert_eq!(refusal, second);
+        }
+    }
+    assert_eq!(refused(13, b"n:", b":\r\n"), None);
 }
 
 #[test]
@@ -198,11 +234,16 @@ fn content(call: &Call) -> Content {
     }
 }
 
-/// The index of the first entry whose raw line is no header line.
+/// The index of the first entry whose raw line is no header line, or that of another entry.
 fn first_unreadable(content: &Content) -> Option<usize> {
     let command = content.command;
-    let unreadable = |entry: &Entry| header_line(command, &line(command, entry)).is_none();
-    content.entries.iter().position(unreadable)
+    let is_read = |entry: &Entry| {
+        let line = line(command, entry);
+        let read = header_line(command, &line);
+        read.map(|(name, value)| (decoded_text(command, name), decoded_text(command, value)))
+            == Some((entry.name.clone(), entry.value.clone()))
+    };
+    content.entries.iter().position(|entry| !is_read(entry))
 }
 
 /// The first reason that holds gives the answer, and all answers come up.

@@ -2,7 +2,7 @@
 
 use super::{
     any_command, body, body_length, damage, items, later_line, length_line, line, line_end, opened,
-    text, with_body, Stream, PLAIN, TELLING,
+    text, value, with_body, Stream, PLAIN, TELLING,
 };
 use crate::item::{Command, COLON, CR, MAX_BODY, MAX_LINE, MAX_LINES, NUL};
 use crate::random::Random;
@@ -64,7 +64,7 @@ fn whole_line(random: &mut Random, command: Command, stream: &mut Stream) {
     let name = random.between(1, MAX_LINE - 1);
     text(random, command, name, stream);
     stream.push(COLON);
-    text(random, command, MAX_LINE - name - 1, stream);
+    value(random, command, MAX_LINE - name - 1, stream);
     line_end(random, stream);
 }
 
@@ -89,7 +89,7 @@ pub fn around_whole_line(random: &mut Random) -> Stream {
             let name = random.between(1, length - 1);
             text(random, command, name, &mut stream);
             stream.push(COLON);
-            text(random, command, length - name - 1, &mut stream);
+            value(random, command, length - name - 1, &mut stream);
         }
     }
     for _ in 0..random.between(0, 3) {

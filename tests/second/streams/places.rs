@@ -1,8 +1,8 @@
 //! The kinds of place in an item, with each octet that matters at each of them.
 
 use super::{
-    any_command, body, items, later_lines, length_line, line_end, lines, opened, text, with_body,
-    Stream, TELLING,
+    any_command, body, items, later_lines, length_line, line_end, lines, opened, text, value,
+    with_body, Stream, TELLING,
 };
 use crate::item::{BACKSLASH, CR};
 use crate::random::Random;
@@ -89,7 +89,7 @@ fn in_value(random: &mut Random) -> Stream {
     lines(random, command, &mut stream, 1);
     stream.extend_from_slice(b"id:");
     let length = random.between(0, 8);
-    text(random, command, length, &mut stream);
+    value(random, command, length, &mut stream);
     backslash(random, &mut stream);
     stream
 }
@@ -140,7 +140,7 @@ fn in_later_content_length(random: &mut Random) -> Stream {
     let mut stream = opened(random, command);
     stream.extend_from_slice(b"content-length:0\ncontent-length:");
     let length = random.between(0, 3);
-    text(random, command, length, &mut stream);
+    value(random, command, length, &mut stream);
     stream
 }
 
