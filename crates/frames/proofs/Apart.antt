@@ -1,5 +1,5 @@
 -- What an answer says tells it apart from every other of its enum. Assumes nothing.
-use mathlib.Core.Path.{_≡_, refl}
+use mathlib.Core.Path.{_≡_, refl, ap}
 use mathlib.Core.Bool.{cond}
 use mathlib.Core.List.{[], _∷_}
 use Prim.Native.Nat.{ℕ}
@@ -8,8 +8,11 @@ use Rattle.headers.specs.Answers.{Answer, accepted, refused}
 use Rattle.headers.proofs.Answers.{once}
 use Rattle.frames.specs.Replies.{Reply, Complete, Incomplete, Invalid}
 use Rattle.frames.specs.Encoding.{Encoding, image-length, refusal}
-use Rattle.frames.specs.Answers.{parsed-says, decoded-says, encoded-says}
+use Rattle.frames.specs.Streams.{Feeding, replied}
+use Rattle.frames.specs.Streams as streams
+use Rattle.frames.specs.Answers.{parsed-says, fed-says, decoded-says, encoded-says}
 use Rattle.frames.specs.declared.parse.Parsed.{Parsed}
+use Rattle.frames.specs.declared.stream.Fed.{Fed}
 use Rattle.frames.specs.declared.decode.Decoded.{Decoded}
 use Rattle.frames.specs.declared.encode.Encoded.{Encoded}
 
@@ -18,8 +21,24 @@ parsed (Complete k u c h s l) = Parsed.Complete (record { kind = k; len = u; com
 parsed Incomplete = Parsed.Incomplete
 parsed (Invalid k n) = Parsed.Invalid (record { code = k; offset = n })
 
+parsed-back : (r : Parsed) → parsed (parsed-says r) ≡ r
+parsed-back = elim [ Parsed.Complete i ↦ refl | Parsed.Incomplete ↦ refl | Parsed.Invalid r ↦ refl ]
+
 pub parsed-once : (r s : Parsed) → parsed-says r ≡ parsed-says s → r ≡ s
-parsed-once = once parsed-says parsed (elim [ Parsed.Complete i ↦ refl | Parsed.Incomplete ↦ refl | Parsed.Invalid r ↦ refl ])
+parsed-once = once parsed-says parsed parsed-back
+
+abbrev fed : Feeding → Fed
+fed (replied r n) = Fed.Replied (record { reply = parsed r; octets = n })
+fed (streams.refused k) = cond (eqb k 70) Fed.ShortBuffer Fed.InvalidParser
+
+-- the reply inside is taken back as it is by itself
+fed-back : (f : Fed) → fed (fed-says f) ≡ f
+fed-back (Fed.Replied t) = ap (λ r. Fed.Replied (record { reply = r; octets = t .octets })) (parsed-back (t .reply))
+fed-back Fed.ShortBuffer = refl
+fed-back Fed.InvalidParser = refl
+
+pub fed-once : (r s : Fed) → fed-says r ≡ fed-says s → r ≡ s
+fed-once = once fed-says fed fed-back
 
 abbrev decoded : Answer → Decoded
 decoded (accepted []) = Decoded.NotFrame

@@ -39,3 +39,10 @@ pub mod Sums
 pub mod Settled
 pub mod Putting
 pub mod Packed
+pub mod Counting
+pub mod Feeding
+pub mod Agreement
+pub mod Repeating
+pub mod Resuming
+pub mod Records
+pub mod Kept

@@ -33,7 +33,7 @@ module _ (st : Scan) where
       && (not (eqb (st .phase) 12) || leb (st .len) (most-of (st .command)))
       && (not (eqb (st .phase) 13) || leb (st .len) (st .size))
 
-  -- what a phase does not use is 0
+  -- what most phases do not use is 0 there: lines, the number of a refusal, the octets matched, a length; the rest is not looked at
   abbrev pub is-clean : Bool
   is-clean =
       (not (ltb (st .phase) 4) || eqb (st .lines) 0)

@@ -19,9 +19,15 @@ pub(crate) fn name_stops(style: Style) -> Stops
     ensures { λ r. ⌜ r ≡ text-stops style Name ⌝ }
 {
     if style.escapes {
-        return Stops { colon: 58, back: 92 };
+        return Stops {
+            colon: 58,
+            back: 92,
+        };
     }
-    Stops { colon: 58, back: 10 }
+    Stops {
+        colon: 58,
+        back: 10,
+    }
 }
 
 // Those of a value.
@@ -29,9 +35,15 @@ fn value_stops(style: Style) -> Stops
     ensures { λ r. ⌜ r ≡ text-stops style Value ⌝ }
 {
     if style.escapes {
-        return Stops { colon: 58, back: 92 };
+        return Stops {
+            colon: 58,
+            back: 92,
+        };
     }
-    Stops { colon: 10, back: 10 }
+    Stops {
+        colon: 10,
+        back: 10,
+    }
 }
 
 // Whether header text takes the octet as it is.

@@ -9,8 +9,10 @@ mod ahead; // plain stretches
 mod pass; // octets passed at a go
 mod run; // a row of octets
 pub mod parse; // the reply
+pub mod stream; // octets that arrive in pieces
 mod layout; // where the parts of a head stand
 pub mod decode; // a frame's entries as a header block
 mod put; // a frame's parts, written
 pub mod encode; // a frame's octets from its parts
 pub mod exports; // calls for C
+pub mod stream_calls; // the stream parser for C

@@ -23,3 +23,6 @@ pub const BLOCK: usize = 16544;
 
 // The octets of the longest frame.
 pub const FRAME: usize = 49228;
+
+// The octets of an item that is not whole yet.
+pub const HELD: usize = 49227;

@@ -3,6 +3,7 @@ ghost use mathlib.Core.Path.{_≡_};
 ghost use Prim.Native.Nat.{_-_};
 ghost use Rattle.frames.specs.Grammar.{v1-2};
 ghost use Rattle.frames.specs.Parsing.{parsed};
+ghost use Rattle.frames.specs.Scanning.{scan-reply};
 ghost use Rattle.frames.specs.Exactness.{Exact};
 ghost use Rattle.frames.specs.Answers.{parsed-says};
 use crate::state::Scan;
@@ -71,14 +72,10 @@ fn less(a: usize, b: usize) -> usize
     if a < b { 0 } else { a - b }
 }
 
-// The reply to the octets: of the item that they begin with, that they can still be finished, or where and why not.
-pub fn parse(octets: &[u8]) -> Parsed
-    ensures { λ r. ⌜
-        (parsed-says r ≡ parsed v1-2 (now (octets .entry)))
-        × Exact v1-2 (now (octets .entry)) (parsed-says r)
-        ⌝ }
+// The reply that a state has.
+pub(crate) fn reply(st: Scan) -> Parsed
+    ensures { λ r. ⌜ parsed-says r ≡ scan-reply st ⌝ }
 {
-    let st = crate::run::run(octets, 0, crate::state::nothing_read());
     let phase = st.phase;
     if phase == Scan::HEART_BEAT_READ {
         return Parsed::Complete(Item {
@@ -108,4 +105,14 @@ pub fn parse(octets: &[u8]) -> Parsed
         });
     }
     Parsed::Incomplete
+}
+
+// The reply to the octets: of the item that they begin with, that they can still be finished, or where and why not.
+pub fn parse(octets: &[u8]) -> Parsed
+    ensures { λ r. ⌜
+        (parsed-says r ≡ parsed v1-2 (now (octets .entry)))
+        × Exact v1-2 (now (octets .entry)) (parsed-says r)
+        ⌝ }
+{
+    reply(crate::run::run(octets, 0, crate::state::nothing_read()))
 }

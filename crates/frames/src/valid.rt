@@ -1,6 +1,7 @@
-// Whether a state is one that a run can leave, by tests of its numbers in constant time.
+// Whether a state passes the tests for states of a run, in constant time: every state that a run leaves does.
 ghost use mathlib.Core.Path.{_≡_};
-ghost use mathlib.Core.Bool.{true};
+ghost use mathlib.Core.Bool.{true, _||_, not};
+ghost use lib.Dec.{eqb};
 ghost use Prim.Native.Nat.{_≤_};
 ghost use lib.ListN.{length, getD};
 ghost use Rattle.frames.specs.Scanning.{word-of, Valid, len-max, line-open, outside};
@@ -103,15 +104,26 @@ fn is_small(st: Scan) -> bool
     (st.size <= limits::BODY) & (st.at <= outside(phase) + 514 * st.lines + st.len)
 }
 
+// Whether the word so far is one that a run can have, where one is read: the tables are asked nowhere else.
+fn is_word(st: Scan) -> bool
+    ensures { λ r. ⌜ r ≡ (not (eqb (st .phase) 2) || is-reached (st .command) (st .at)) ⌝ }
+{
+    let phase = st.phase;
+    if phase != Scan::IN_COMMAND {
+        return true;
+    }
+    is_reached(st.command, st.at)
+}
+
 // Whether the word and the body so far are some that a run can have.
 fn is_so_far(st: Scan) -> bool
     ensures { λ r. ⌜ r ≡ is-so-far st ⌝ }
 {
     let phase = st.phase;
-    let reached = is_reached(st.command, st.at);
+    let word = is_word(st);
     let most = crate::word::most_of(st.command);
     ((phase != Scan::START) | ((st.command == 0) & (st.at == 0)))
-        & ((phase != Scan::IN_COMMAND) | reached)
+        & word
         & ((phase != Scan::IN_BODY) | (st.len <= most))
         & ((phase != Scan::IN_COUNTED) | (st.len <= st.size))
 }

@@ -1,0 +1,81 @@
+-- `stream::feed` meets its contract: the checks in order, a run over the piece, and a copy of what it took.
+use borrow.Author.Needs.{needs}
+use mathlib.Core.Path.{_≡_, sym, _∙_, ap}
+use mathlib.Core.Bool.{true}
+use Prim.Native.Nat.{_+_, _-_, _≤_}
+use native.Mathlib.Omega.{arith}
+use lib.ListN.{length}
+use lib.Seq.{paste}
+use borrow.Author.Tests.{not-true, not-false}
+use Rattle.frames.specs.Scanning.{scan}
+use Rattle.frames.specs.Streams.{replied, is-resumable}
+use Rattle.frames.proofs.Counting.{scan-counts}
+use Rattle.frames.proofs.Resuming.{resumed, gives-short, gives-invalid, gives-reply}
+use Rattle.frames.proofs.stream.feed.Statement.{statement}
+use Rattle.frames.proofs.stream.feed.Tie as tie
+
+returns : tie.Need-returns
+returns c = let a = c .before .before .before .before .args in gives-short (a .parser .scan) (a .buffer .now) (a .piece .now) (c .if1 .taken)
+
+is-resumable-requires : tie.Need-is-resumable-requires
+is-resumable-requires c κs = search needs
+
+returns-2 : tie.Need-returns-2
+returns-2 c =
+    let a = c .before .before .before .before .before .before .args in
+    gives-invalid (a .parser .scan) (a .buffer .now) (a .piece .now) (c .before .before .if1 .left) (sym (c .before .is-resumable .ensures) ∙ not-true (c .before .is-resumable .result) (c .if2 .taken))
+
+-- the record passes its rule
+passed : (c : tie.Else2) → let st = c .before .before .before .before .before .before .args .parser .scan in is-resumable st ≡ true
+passed c = sym (c .before .is-resumable .ensures) ∙ not-false (c .before .is-resumable .result) (c .if2 .left)
+
+run-requires : tie.Need-run-requires
+run-requires c κs = (omega arith, resumed _ (passed c) .0)
+
+-- how far the run went
+counted : (c : tie.After-run) → let a = c .before .before .before .before .before .before .before .args in
+    (a .parser .scan .at ≤ c .run .result .at) × (c .run .result .at ≤ a .parser .scan .at + length (a .piece .now))
+counted c =
+    let a = c .before .before .before .before .before .before .before .args in
+    let n = scan-counts (a .piece .now) (a .parser .scan) in
+    (omega (arith, n .onward, ap (λ z. z .at) (c .run .ensures .0)), omega (arith, n .most, ap (λ z. z .at) (c .run .ensures .0)))
+
+sub-octets : tie.Need-sub-octets
+sub-octets c = counted (c .before) .0
+
+sub-least : tie.Need-sub-least
+sub-least c = let e = c .before .before in omega (arith, resumed _ (passed e) .1, e .before .before .if1 .left)
+
+least-requires : tie.Need-least-requires
+least-requires c κs = search needs
+
+copy-requires : tie.Need-copy-requires
+copy-requires c κs =
+    let r = c .before .before .before in
+    let e = r .before in
+    (omega (arith, c .before .least .ensures, resumed _ (passed e) .1, e .before .before .if1 .left), omega (arith, c .before .least .ensures, counted r))
+
+reply-requires : tie.Need-reply-requires
+reply-requires c κs = search needs
+
+next-item-requires : tie.Need-next-item-requires
+next-item-requires c κs = search needs
+
+same-length : tie.Need-same-length
+same-length c = search needs
+
+returns-3 : tie.Need-returns-3
+returns-3 c =
+    let k = c .before .before .before .before in
+    let l = k .before .before in
+    let r = l .before .before in
+    let e = r .before in
+    let a = e .before .before .before .before .before .before .args in
+    let g = gives-reply (a .parser .scan) (a .buffer .now) (a .piece .now) (e .before .before .if1 .left) (passed e) (r .run .result) (r .run .ensures .0) in (
+      ap (λ z. replied z (r .run .result .at - a .parser .scan .at)) (c .before .reply .ensures) ∙ g .0,
+      c .next-item .ensures ∙ g .1,
+      k .copy .ensures ∙ ap (paste (a .buffer .now) (a .parser .scan .at) (a .piece .now)) (l .least .ensures) ∙ g .2,
+    )
+
+pub feed-spec : {M : Type 1} → statement M
+feed-spec = tie.close (tie.spec returns is-resumable-requires returns-2 run-requires sub-octets sub-least least-requires copy-requires reply-requires next-item-requires same-length returns-3)
