@@ -2,7 +2,9 @@
 
 use crate::comparison::quietly;
 use crate::random::Random;
-use crate::{compare, compare_encode, compare_replay, compare_rewrite, compare_session};
+use crate::{
+    compare, compare_encode, compare_feed, compare_replay, compare_rewrite, compare_session,
+};
 use std::io;
 use std::path::Path;
 use std::time::{Duration, Instant};
@@ -18,7 +20,7 @@ struct Comparison {
 }
 
 /// The comparisons; the batches take about as long as each other.
-const COMPARISONS: [Comparison; 5] = [
+const COMPARISONS: [Comparison; 6] = [
     Comparison {
         mode: "compare",
         program: "list",
@@ -53,6 +55,13 @@ const COMPARISONS: [Comparison; 5] = [
         what: "calls",
         batch: 20_000,
         run: quietly::<compare_session::Tally>,
+    },
+    Comparison {
+        mode: "compare-feed",
+        program: "feed_calls",
+        what: "streams",
+        batch: 500,
+        run: quietly::<compare_feed::Tally>,
     },
 ];
 

@@ -33,7 +33,7 @@ pub fn quietly<T: Tally>(program: &str, count: usize, seed: u64) -> io::Result<O
 
 /// The calls that one run of a program is given, with the replies that are due.
 pub trait Batch: Sized {
-    /// How many calls one run is given at most.
+    /// How many calls, or streams of calls, one run is given at most.
     const SIZE: usize;
     /// What the file of a difference is named for.
     const NAME: &'static str;
@@ -42,6 +42,11 @@ pub trait Batch: Sized {
     fn octets(&self) -> Vec<u8>;
     /// The replies, as the program has to write them.
     fn replies(&self) -> Vec<Vec<u8>>;
+    /// How many octets at the output's front are the reply of this index, where they are as they should
+    /// be: those that are due.
+    fn length_of_reply(&self, _index: usize, reply: &[u8], output: &[u8]) -> Option<usize> {
+        output.starts_with(reply).then_some(reply.len())
+    }
     /// Keeps the call of this index in a file of that name, and says what it is.
     fn report(&self, name: &str, index: usize) -> io::Result<()>;
     /// Prints the reply of this index, and what the program wrote for it.
@@ -64,12 +69,13 @@ pub fn in_batches<B: Batch>(
         let input = batch.octets();
         let ran = program::run(program, &[], &input)?;
         io::stderr().write_all(&ran.errors)?;
-        let (alike, rest) = matched(&batch.replies(), &ran.output);
-        if alike < size || !rest.is_empty() || ran.status.is_none() {
-            let index = alike.min(size - 1);
+        let replies = batch.replies();
+        let (alike, rest) = matched(&batch, &replies, &ran.output);
+        if alike < replies.len() || !rest.is_empty() || ran.status.is_none() {
+            let index = alike.min(replies.len() - 1);
             let name = format!("second-difference-{}-{seed}-{}", B::NAME, done + index);
             batch.report(&name, index)?;
-            if alike < size {
+            if alike < replies.len() {
                 batch.print_both(alike, rest);
             } else {
                 program::print_difference("what stands behind the last reply", b"", rest);
@@ -84,11 +90,11 @@ pub fn in_batches<B: Batch>(
 }
 
 /// How many replies from the first on are those that are due, and what was written behind these.
-fn matched<'a>(replies: &[Vec<u8>], output: &'a [u8]) -> (usize, &'a [u8]) {
+fn matched<'a, B: Batch>(batch: &B, replies: &[Vec<u8>], output: &'a [u8]) -> (usize, &'a [u8]) {
     let mut rest = output;
     for (index, reply) in replies.iter().enumerate() {
-        match rest.strip_prefix(&reply[..]) {
-            Some(behind) => rest = behind,
+        match batch.length_of_reply(index, reply, rest) {
+            Some(length) => rest = &rest[length..],
             None => return (index, rest),
         }
     }

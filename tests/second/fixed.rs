@@ -1,6 +1,7 @@
 //! The fixed inputs of the programs `session_calls` and `replay`: document 01's examples of a session,
-//! each refusal, and the limits with one more.
+//! each refusal, and the limits with one more; and those of `feed_calls`.
 
+pub mod feeding;
 mod records;
 
 use self::records::{invalid, making, valid};

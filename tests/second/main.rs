@@ -7,6 +7,7 @@ mod calls;
 mod client;
 mod compare;
 mod compare_encode;
+mod compare_feed;
 mod compare_for;
 mod compare_replay;
 mod compare_rewrite;
@@ -14,6 +15,8 @@ mod compare_session;
 mod comparison;
 mod decode;
 mod encode;
+mod feed;
+mod feed_calls;
 mod fixed;
 mod item;
 mod listing;
@@ -33,6 +36,7 @@ mod vectors;
 #[cfg(test)]
 mod check;
 
+use feed_calls::Due;
 use session::opening::MAX_INTERVAL;
 use std::fs;
 use std::io::{self, Read, Write};
@@ -44,15 +48,18 @@ const USAGE: &str = "second list
 second rewrite
 second replay [SENDS WANTS]
 second session
+second feed
 second compare PROGRAM COUNT SEED
 second compare-rewrite PROGRAM COUNT SEED
 second compare-encode PROGRAM COUNT SEED
 second compare-replay PROGRAM COUNT SEED
 second compare-session PROGRAM COUNT SEED
+second compare-feed PROGRAM COUNT SEED
 second compare-for SECONDS SEED PROGRAMS
 second make DIR
 second make-replay FILE
 second make-session FILE
+second make-feed FILE
 second vectors DIR";
 
 fn main() -> ExitCode {
@@ -64,6 +71,7 @@ fn main() -> ExitCode {
         ["replay"] => replay("0", "0"),
         ["replay", sends, wants] => replay(sends, wants),
         ["session"] => session(),
+        ["feed"] => feed(),
         ["compare-for", seconds, seed, programs] => compare_for(seconds, seed, programs),
         [mode, program, count, seed] => match comparison(mode) {
             Some(compare) => compare_by(compare, program, count, seed),
@@ -72,6 +80,7 @@ fn main() -> ExitCode {
         ["make", folder] => vectors::make(Path::new(folder)).map(|()| true),
         ["make-replay", file] => fs::write(file, fixed::stream()).map(|()| true),
         ["make-session", file] => fs::write(file, fixed::calls()).map(|()| true),
+        ["make-feed", file] => fs::write(file, fixed::feeding::calls()).map(|()| true),
         ["vectors", folder] => vectors::write_listings(Path::new(folder)).map(|()| true),
         _ => Err(io::Error::other(USAGE)),
     };
@@ -132,6 +141,27 @@ fn session() -> io::Result<bool> {
     Ok(true)
 }
 
+/// Reads calls of the stream parser from standard input and writes the replies.
+fn feed() -> io::Result<bool> {
+    let mut input = Vec::new();
+    io::stdin().read_to_end(&mut input)?;
+    let calls = feed_calls::read(&input).ok_or(io::Error::other("feed: a call is cut off"))?;
+    let mut output = io::stdout().lock();
+    for due in feed_calls::dues(&calls) {
+        match due {
+            Due::Nothing => {}
+            Due::Exactly { reply, .. } => output.write_all(&reply.octets())?,
+            Due::Any(_) => {
+                return Err(io::Error::other(
+                    "feed: what such a record gives is not said",
+                ))
+            }
+        }
+    }
+    output.flush()?;
+    Ok(true)
+}
+
 type Comparison = fn(&str, usize, u64) -> io::Result<bool>;
 
 fn comparison(mode: &str) -> Option<Comparison> {
@@ -141,6 +171,7 @@ fn comparison(mode: &str) -> Option<Comparison> {
         "compare-encode" => comparison::compare::<compare_encode::Tally>,
         "compare-replay" => comparison::compare::<compare_replay::Tally>,
         "compare-session" => comparison::compare::<compare_session::Tally>,
+        "compare-feed" => comparison::compare::<compare_feed::Tally>,
         _ => return None,
     })
 }

@@ -8,7 +8,7 @@ use crate::item::{
 };
 
 /// Where in an item the octet at the place stands.
-enum Part<'a> {
+pub enum Part<'a> {
     /// In the command or its line end, or at the item's start.
     Command,
     /// In a header line or its line end, or at the line's start: the whole lines before it, and what
@@ -67,7 +67,7 @@ pub fn code(before: &[u8], octet: u8) -> usize {
 }
 
 /// Finds the part of the item that the octet after `before` stands in, by whole lines.
-fn part_after(before: &[u8]) -> Part<'_> {
+pub fn part_after(before: &[u8]) -> Part<'_> {
     let Some((command, start)) = command_line(before) else {
         return Part::Command;
     };
@@ -226,7 +226,7 @@ fn content_length_value(line: &[u8]) -> Option<&[u8]> {
 
 /// Whether the line stops inside an escape: an odd number of backslashes at its end, where the
 /// command escapes. (What stands before is sound, so those backslashes pair up from the left.)
-fn in_escape(command: Command, line: &[u8]) -> bool {
+pub fn in_escape(command: Command, line: &[u8]) -> bool {
     let backslashes = line
         .iter()
         .rev()

@@ -1,0 +1,205 @@
+//! The record of a stream parser, 16 octets, read from the octets held: where the next octet stands, and
+//! what of the item is known there. README.md has the table.
+
+use super::StreamParser;
+use crate::item::{decimal, Command, COLON, COMMANDS, CONTENT_LENGTH, CR, MAX_BODY};
+use crate::table::{in_escape, part_after, Part, NUMBERS};
+use std::convert::TryInto;
+
+pub const LENGTH: usize = 16;
+
+pub type Record = [u8; LENGTH];
+
+/// The most octets that an unfinished item has.
+pub const MOST_HELD: usize = 49_227;
+
+/// Where the next octet stands.
+const START: u8 = 0;
+const AFTER_13_OF_BEAT: u8 = 1;
+const IN_COMMAND: u8 = 2;
+const AFTER_13_OF_COMMAND: u8 = 3;
+const AT_LINE_START: u8 = 4;
+const IN_NAME: u8 = 5;
+const IN_ESCAPE_OF_NAME: u8 = 6;
+const IN_VALUE: u8 = 7;
+const IN_ESCAPE_OF_VALUE: u8 = 8;
+const IN_CONTENT_LENGTH: u8 = 9;
+const AFTER_13_OF_LINE: u8 = 10;
+const AFTER_13_OF_EMPTY_LINE: u8 = 11;
+const IN_BODY: u8 = 12;
+const IN_COUNTED_BODY: u8 = 13;
+pub const REFUSED: u8 = 16;
+
+/// The name is not the beginning of content-length.
+const ANOTHER_NAME: usize = 15;
+
+/// The octets of a record: the phase, the number of a refusal, the count held (two octets), and those
+/// that are 0.
+pub const PHASE: usize = 0;
+pub const CODE: usize = 5;
+pub const HELD: usize = 10;
+pub const ZEROS: usize = 12;
+
+/// What a record says. The size is that of content-length, the length that of the line or body.
+#[derive(Default)]
+struct Fields {
+    phase: u8,
+    command: usize,
+    lines: usize,
+    matched: usize,
+    declared: bool,
+    code: usize,
+    size: usize,
+    length: usize,
+    held: usize,
+}
+
+impl Fields {
+    fn octets(&self) -> Record {
+        let [size, length, held] =
+            [self.size, self.length, self.held].map(|number| (number as u16).to_be_bytes());
+        let singles = [self.command, self.lines, self.matched];
+        let [command, lines, matched] = singles.map(|number| number as u8);
+        let front = [self.phase, command, lines, matched];
+        let mark = [u8::from(self.declared), self.code as u8];
+        let all = [&front[..], &mark, &size, &length, &held, &[0; 4]].concat();
+        all.try_into().expect("a record's octets")
+    }
+}
+
+/// The record of a stream parser.
+pub fn of(parser: &StreamParser) -> Record {
+    let held = &parser.held[..];
+    let mut fields = match parser.refused {
+        Some(code) => Fields {
+            phase: REFUSED,
+            code,
+            ..Fields::default()
+        },
+        None => unfinished(held),
+    };
+    fields.held = held.len();
+    fields.octets()
+}
+
+fn unfinished(held: &[u8]) -> Fields {
+    match part_after(held) {
+        Part::Command => in_command(held),
+        Part::Line {
+            command,
+            earlier,
+            line,
+        } => in_line(command, &earlier, line),
+        Part::Body {
+            command,
+            declared,
+            read,
+        } => Fields {
+            phase: if declared.is_some() {
+                IN_COUNTED_BODY
+            } else {
+                IN_BODY
+            },
+            command: command.0,
+            lines: lines_of(command, held),
+            declared: declared.is_some(),
+            size: declared.unwrap_or(0),
+            length: read,
+            ..Fields::default()
+        },
+    }
+}
+
+/// While its letters are read the command is the first that begins with them.
+fn in_command(held: &[u8]) -> Fields {
+    let named = |name: &[u8]| Command::named(name).expect("a command").0;
+    let (phase, command) = match held {
+        [] => (START, 0),
+        [CR] => (AFTER_13_OF_BEAT, 0),
+        [name @ .., CR] => (AFTER_13_OF_COMMAND, named(name)),
+        letters => {
+            let first = COMMANDS.iter().position(|name| name.starts_with(letters));
+            (IN_COMMAND, first.expect("a command begins so") + 1)
+        }
+    };
+    Fields {
+        phase,
+        command,
+        ..Fields::default()
+    }
+}
+
+/// The header lines of a frame whose empty line is read.
+fn lines_of(command: Command, held: &[u8]) -> usize {
+    let (_, start) = crate::item::command_line(held).expect("a command's line");
+    let block = crate::item::header_block(command, &held[start..]).expect("a header block");
+    block.lines.len()
+}
+
+/// What the first content-length among these lines says.
+fn declared_in(lines: &[&[u8]]) -> Option<usize> {
+    let value = lines.iter().find_map(|line| value_of_length(line))?;
+    decimal(value, MAX_BODY)
+}
+
+fn value_of_length(line: &[u8]) -> Option<&[u8]> {
+    line.strip_prefix(CONTENT_LENGTH)?.strip_prefix(&[COLON])
+}
+
+/// In a header line, at its start, or in its line end. A 13 ends the line: it counts as read.
+fn in_line(command: Command, earlier: &[&[u8]], line: &[u8]) -> Fields {
+    let mut read = earlier.to_vec();
+    let mut fields = Fields {
+        command: command.0,
+        ..Fields::default()
+    };
+    match line {
+        [] => fields.phase = AT_LINE_START,
+        [CR] => fields.phase = AFTER_13_OF_EMPTY_LINE,
+        [text @ .., CR] => {
+            fields.phase = AFTER_13_OF_LINE;
+            read.push(text);
+        }
+        _ => fields.length = line.len(),
+    }
+    fields.lines = read.len();
+    let declared = declared_in(&read);
+    fields.declared = declared.is_some();
+    fields.size = declared.unwrap_or(0);
+    if fields.length == 0 {
+        return fields;
+    }
+    let escape = in_escape(command, line);
+    match value_of_length(line) {
+        _ if !line.contains(&COLON) => {
+            fields.phase = if escape { IN_ESCAPE_OF_NAME } else { IN_NAME };
+            fields.matched = if CONTENT_LENGTH.starts_with(line) {
+                line.len()
+            } else {
+                ANOTHER_NAME
+            };
+        }
+        Some(digits) if declared.is_none() => {
+            fields.phase = IN_CONTENT_LENGTH;
+            fields.size = decimal(digits, MAX_BODY).unwrap_or(0);
+        }
+        _ => {
+            fields.phase = if escape { IN_ESCAPE_OF_VALUE } else { IN_VALUE };
+        }
+    }
+    fields
+}
+
+pub fn count_held(record: &Record) -> usize {
+    usize::from(record[HELD]) << 8 | usize::from(record[HELD + 1])
+}
+
+/// What is 71 by document 02: "at least a count held over 49,227 and a refusal number the judge lacks";
+/// and an octet that is kept for later requests and is not 0.
+pub fn is_refused(record: &Record) -> bool {
+    let code = usize::from(record[CODE]);
+    let is_number = (1..=NUMBERS).contains(&code);
+    count_held(record) > MOST_HELD
+        || (record[PHASE] == REFUSED && !is_number)
+        || record[ZEROS..].iter().any(|&octet| octet != 0)
+}

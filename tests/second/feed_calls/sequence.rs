@@ -1,0 +1,276 @@
+//! Random calls of the stream parser: streams in pieces, cut everywhere and where it matters, short
+//! buffers, calls behind a refusal, and records that no call leaves.
+
+use super::{Call, Calls, Due, BUFFER};
+use crate::feed::record::{Record, CODE, HELD, LENGTH, MOST_HELD, PHASE, REFUSED, ZEROS};
+use crate::feed::{StreamParser, LEAST_BUFFER};
+use crate::item::{Answer, BACKSLASH, COLON, CONTENT_LENGTH, CR, LF, NUL};
+use crate::random::Random;
+use crate::streams;
+
+/// The longest stream of which every cut is tried, and of which most octets come alone.
+const SHORT: usize = 64;
+const ALONE: usize = 200;
+
+/// A call, and what is due to it.
+pub struct Step {
+    pub call: Call,
+    pub due: Due,
+}
+
+/// The calls for so many streams.
+pub fn sequence(random: &mut Random, streams: usize) -> Vec<Step> {
+    let mut maker = Maker {
+        calls: Calls::new(),
+        steps: Vec::new(),
+    };
+    for _ in 0..streams {
+        match random.below(20) {
+            0 | 1 => maker.every_cut(random),
+            2 => maker.short_buffers(random),
+            3..=5 => maker.other_record(random),
+            _ => maker.in_pieces(random),
+        }
+    }
+    maker.steps
+}
+
+/// The calls that are being made.
+struct Maker {
+    calls: Calls,
+    steps: Vec<Step>,
+}
+
+/// How much of the buffer a call is given: as much as it needs, or more.
+fn enough(random: &mut Random) -> usize {
+    random.pick(&[LEAST_BUFFER, LEAST_BUFFER, LEAST_BUFFER + 1, BUFFER])
+}
+
+/// Too little of the buffer.
+fn too_short(random: &mut Random) -> usize {
+    random.pick(&[0, 1, 100, LEAST_BUFFER - 1, LEAST_BUFFER - 1])
+}
+
+impl Maker {
+    fn push(&mut self, call: Call) -> &Due {
+        let due = self.calls.call(&call);
+        self.steps.push(Step { call, due });
+        &self.steps[self.steps.len() - 1].due
+    }
+
+    fn fresh(&mut self, random: &mut Random) {
+        let room = enough(random);
+        self.push(Call::Fresh { room });
+    }
+
+    fn feed(&mut self, piece: &[u8]) -> &Due {
+        self.push(Call::Feed {
+            piece: piece.to_vec(),
+        })
+    }
+
+    /// Hands a piece in, and behind each item what is left of it. The octets left where it is refused.
+    fn hand_in<'a>(&mut self, piece: &'a [u8]) -> Result<(), &'a [u8]> {
+        let mut rest = piece;
+        loop {
+            let Due::Exactly { fed, .. } = self.feed(rest) else {
+                return Err(rest);
+            };
+            rest = &rest[fed.taken..];
+            match fed.reply {
+                Answer::Complete(_) => {}
+                Answer::Incomplete => return Ok(()),
+                Answer::Invalid { .. } => return Err(rest),
+            }
+        }
+    }
+
+    /// A stream cut somehow, and what comes behind a refusal.
+    fn in_pieces(&mut self, random: &mut Random) {
+        self.fresh(random);
+        let stream = streams::stream(random);
+        for piece in pieces(random, &stream) {
+            if random.once_in(40) {
+                self.too_short_once(random, piece);
+            }
+            if let Err(rest) = self.hand_in(piece) {
+                self.go_on(random, rest);
+                return;
+            }
+        }
+    }
+
+    /// The same call with too short a buffer before, which takes and changes nothing.
+    fn too_short_once(&mut self, random: &mut Random, piece: &[u8]) {
+        let room = too_short(random);
+        self.push(Call::Room { room });
+        self.feed(piece);
+        let room = enough(random);
+        self.push(Call::Room { room });
+    }
+
+    /// Calls behind a refusal: the octets that are left, none, others; at times a fresh parser with the
+    /// buffer as it is.
+    fn go_on(&mut self, random: &mut Random, rest: &[u8]) {
+        self.feed(rest);
+        for _ in 0..random.between(0, 2) {
+            let other = streams::stream(random);
+            let piece: [&[u8]; 4] = [b"", b"\n", b"ACK\n\n\0", &other];
+            self.feed(random.pick(&piece));
+        }
+        if random.once_in(3) {
+            self.too_short_once(random, rest);
+        }
+        if random.once_in(3) {
+            self.push(Call::Record([0; LENGTH]));
+            let other = streams::stream(random);
+            for piece in pieces(random, &other) {
+                if self.hand_in(piece).is_err() {
+                    return;
+                }
+            }
+        }
+    }
+
+    /// A short stream in two pieces, cut at each place.
+    fn every_cut(&mut self, random: &mut Random) {
+        let mut stream = streams::stream(random);
+        stream.truncate(SHORT);
+        for place in 0..=stream.len() {
+            self.fresh(random);
+            if self.hand_in(&stream[..place]).is_ok() {
+                let _ = self.hand_in(&stream[place..]);
+            }
+        }
+    }
+
+    /// A stream with buffers that are long enough or not, as it comes.
+    fn short_buffers(&mut self, random: &mut Random) {
+        self.fresh(random);
+        let stream = streams::stream(random);
+        for piece in pieces(random, &stream) {
+            let room = if random.once_in(2) {
+                too_short(random)
+            } else {
+                enough(random)
+            };
+            self.push(Call::Room { room });
+            let _ = self.hand_in(piece);
+        }
+    }
+
+    /// Octets for a record that was set: those of an item that goes on, or any stream.
+    fn other_record(&mut self, random: &mut Random) {
+        self.fresh(random);
+        let stream = streams::stream(random);
+        let place = random.between(0, stream.len());
+        let mut parser = StreamParser::default();
+        let taken = parser.feed(&mut vec![0; BUFFER], &stream[..place]).taken;
+        let mut record = parser.record();
+        if random.once_in(4) {
+            let _ = self.hand_in(&stream[..place]);
+        }
+        let is_left = random.once_in(5);
+        if !is_left {
+            damage(random, &mut record);
+        }
+        self.push(Call::Record(record));
+        if is_left {
+            self.calls.is_left();
+        }
+        if random.once_in(4) {
+            self.too_short_once(random, &stream);
+        }
+        self.feed(&stream[taken..]);
+        self.feed(random.pick(&[&b""[..], b"\n", b"a", &stream]));
+    }
+}
+
+/// Alters a record: the count, the number, the octets kept for later requests, or any octets.
+fn damage(random: &mut Random, record: &mut Record) {
+    let mut put_count = |random: &mut Random, least: usize, most: usize| {
+        let count = random.between(least, most) as u16;
+        record[HELD..HELD + 2].copy_from_slice(&count.to_be_bytes());
+    };
+    match random.below(8) {
+        0 => {
+            let most = random.pick(&[MOST_HELD + 1, MOST_HELD + 2, 65_535]);
+            put_count(random, MOST_HELD + 1, most);
+        }
+        1 => put_count(random, MOST_HELD - 1, MOST_HELD),
+        2 | 3 => {
+            let (place, count) = (random.below(LENGTH - 6), random.pick(&[0, 3, 40_000]));
+            *record = [0; LENGTH];
+            record[place] = random.pick(&[0, 0, 1, 255]);
+            record[PHASE] = REFUSED;
+            record[CODE] = random.pick(&[0, 1, 7, 10, 11, 12, 38, 70, 71, 255]);
+            record[HELD..HELD + 2].copy_from_slice(&(count as u16).to_be_bytes());
+        }
+        4 => record[random.between(ZEROS, LENGTH - 1)] = random.pick(&[1, 2, 128, 255]),
+        5 => record[PHASE] = random.pick(&[0, 4, 9, 12, 13, 14, 15, 16, 17, 255]),
+        6 => {
+            for _ in 0..random.between(1, 3) {
+                record[random.below(ZEROS)] = random.pick(&[0, 1, 2, 14, 15, 31, 32, 33, 128, 255]);
+            }
+        }
+        _ => {
+            for octet in &mut record[..ZEROS] {
+                *octet = random.below(256) as u8;
+            }
+        }
+    }
+}
+
+/// A stream cut into pieces, some of them empty.
+fn pieces<'a>(random: &mut Random, stream: &'a [u8]) -> Vec<&'a [u8]> {
+    let most = random.pick(&[1, 3, 40, 2_000]);
+    let cuts = match random.below(8) {
+        0 => Vec::new(),
+        1 => vec![random.between(0, stream.len())],
+        2 | 3 => (1..stream.len().min(ALONE)).collect(),
+        4 | 5 => places_that_matter(random, stream),
+        _ => at_random(random, stream.len(), most),
+    };
+    let mut pieces = Vec::new();
+    let mut start = 0;
+    for end in cuts.into_iter().chain([stream.len()]) {
+        if random.once_in(10) {
+            pieces.push(&stream[start..start]);
+        }
+        pieces.push(&stream[start..end]);
+        start = end;
+    }
+    pieces
+}
+
+/// Places that leave at most so many octets between them, or as many as make few pieces.
+fn at_random(random: &mut Random, length: usize, most: usize) -> Vec<usize> {
+    let most = most.max(length / 100);
+    let mut cuts = Vec::new();
+    let mut place = 0;
+    loop {
+        place += random.between(0, most);
+        if place >= length {
+            return cuts;
+        }
+        cuts.push(place);
+    }
+}
+
+/// Places inside a command's word, a line end, an escape, content-length and its line, and beside the
+/// octets that end something.
+fn places_that_matter(random: &mut Random, stream: &[u8]) -> Vec<usize> {
+    let often = random.pick(&[1, 2, 4]);
+    let first = |place: usize| &stream[place..];
+    let in_length = |place: usize| {
+        let start = place.saturating_sub(CONTENT_LENGTH.len() + 3);
+        (start..place).any(|start| first(start).starts_with(CONTENT_LENGTH))
+    };
+    let matters = |place: &usize| {
+        let octet = stream[place - 1];
+        *place < 14 || [CR, LF, BACKSLASH, COLON, NUL].contains(&octet) || in_length(*place)
+    };
+    let places: Vec<usize> = (1..stream.len()).filter(matters).collect();
+    let places = places.into_iter().filter(|_| random.once_in(often));
+    places.take(ALONE).collect()
+}
