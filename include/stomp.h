@@ -1,4 +1,4 @@
-/* Mouhtali: STOMP 1.2 frames, parsed, decoded, searched and encoded.
+/* Mouhtali: STOMP 1.2 frames, parsed, also piece by piece, decoded, searched and encoded.
  *
  * The functions are in libframes.a, which `rt staticlib frames` writes, for x86-64. For C99, C11
  * and C++. docs/MANUAL.md has the rules of the format and what to do about each number.
@@ -37,19 +37,21 @@ enum stomp_command {
 
 /* The sizes. */
 enum stomp_size {
-    STOMP_MAX_LINES = 32,    /* header lines of a frame */
-    STOMP_MAX_LINE = 512,    /* octets of a raw header line, its line end not counted */
-    STOMP_MAX_BODY = 32768,  /* octets of a body */
-    STOMP_MAX_FRAME = 49228, /* octets of a frame: holds every encoded frame */
-    STOMP_MAX_BLOCK = 16544  /* octets of a decoded frame's header block: holds those of every frame */
+    STOMP_MAX_LINES = 32,     /* header lines of a frame */
+    STOMP_MAX_LINE = 512,     /* octets of a raw header line, its line end not counted */
+    STOMP_MAX_BODY = 32768,   /* octets of a body */
+    STOMP_MAX_FRAME = 49228,  /* octets of a frame: holds every encoded frame */
+    STOMP_MAX_BLOCK = 16544,  /* octets of a decoded frame's header block: holds those of every frame */
+    STOMP_FEED_STATE = 16,    /* octets of a stream parser's state */
+    STOMP_FEED_BUFFER = 49228 /* octets that a stream parser's buffer has at least */
 };
 
-/* What stomp_parse found. */
+/* What stomp_parse and stomp_feed found. */
 enum stomp_kind {
     STOMP_INCOMPLETE = 0, /* the octets can still be finished: read more */
     STOMP_HEART_BEAT = 1, /* they begin with a heart-beat */
     STOMP_FRAME = 2,      /* they begin with a frame */
-    STOMP_INVALID = 3     /* neither: no item begins so */
+    STOMP_INVALID = 3     /* neither: no item begins so; of stomp_feed also 70 and 71 */
 };
 
 /* The numbers of stomp_parse: what the octet at the offset does. Where several fit one octet,
@@ -66,6 +68,13 @@ enum stomp_parse_refusal {
                                          where later colons belong to the value */
     STOMP_INVALID_NO_COLON = 9,       /* ends a header line, or begins its end, before the colon */
     STOMP_INVALID_ESCAPE = 10         /* follows a backslash and makes no escape with it */
+};
+
+/* The numbers of stomp_feed itself, in the order in which they are given; else it gives those of
+ * stomp_parse. */
+enum stomp_feed_refusal {
+    STOMP_FEED_SHORT_BUFFER = 70, /* the buffer is shorter than STOMP_FEED_BUFFER */
+    STOMP_FEED_INVALID_STATE = 71 /* the state is not STOMP_FEED_STATE octets long, or not valid */
 };
 
 /* The numbers of stomp_decode. */
@@ -99,6 +108,28 @@ enum stomp_encode_refusal {
  * 2 + 4*(length + 2^16*(command + 2^4*(headers + 2^6*(body + 2^16*body_len)))) for a frame,
  * 3 + 4*(code + 2^8*offset) where they are invalid, with a number from 1 to 10. */
 uint64_t stomp_parse(const uint8_t *octets, size_t len);
+
+/* Parses a stream as it arrives, piece by piece; a piece may be empty. `state` is the stream parser,
+ * STOMP_FEED_STATE octets, all 0 before a stream's first piece. `buffer` holds the octets of the item
+ * under way; it has at least STOMP_FEED_BUFFER octets, and need not be cleared. Both are handed back
+ * as the last call left them. With any others the call is safe, but what it finds is not the stream's,
+ * and its numbers may go up to four octets beyond the buffer.
+ *
+ * The piece is taken up to the end of the item under way, or up to the octet refused, or whole. What
+ * is taken is in the buffer after what was taken of that item before, so the item, or what is before
+ * the octet refused, is at the buffer's front; the rest of the buffer stays as it was.
+ * A call finds one item at most: hand in what is left of the piece, until the call is incomplete.
+ * After a refusal every call repeats it, and takes and writes nothing: a new stream begins with a
+ * state of 0.
+ *
+ * The answer is 4*taken where the item is incomplete, 1 + 4*(taken + 2^16*length) for a heart-beat,
+ * 2 + 4*(taken + 2^16*(command + 2^4*(headers + 2^6*(body + 2^16*body_len)))) for a frame, whose
+ * length is body + body_len + 1, and 3 + 4*(taken + 2^16*(code + 2^8*offset)) where it is refused:
+ * with 70, else 71, nothing is taken or changed and the offset is 0; else the number is one of
+ * stomp_parse, and the offset counts from the item's start. `state`, `buffer` and `piece` must not
+ * overlap. */
+uint64_t stomp_feed(uint8_t *state, size_t state_len, uint8_t *buffer, size_t buffer_len,
+                    const uint8_t *piece, size_t piece_len);
 
 /* Decodes the header lines of one frame into a header block: for each line, in order, a record of
  * the octets 72 68, the lengths of name and value in two octets each, high first, then the name and
@@ -177,6 +208,65 @@ static inline unsigned stomp_parse_code(uint64_t answer)
 static inline size_t stomp_parse_offset(uint64_t answer)
 {
     return stomp_parse_kind(answer) == STOMP_INVALID ? (size_t)(answer >> 10) : 0;
+}
+
+/* Readers of what stomp_feed answered. Places count from the item's start, and so from the buffer's. */
+
+static inline enum stomp_kind stomp_feed_kind(uint64_t answer)
+{
+    return (enum stomp_kind)(answer & 3);
+}
+
+/* How many octets of the piece are taken. */
+static inline size_t stomp_feed_taken(uint64_t answer)
+{
+    return stomp_feed_kind(answer) == STOMP_INCOMPLETE ? (size_t)(answer >> 2) : (size_t)(answer >> 2 & 0xffff);
+}
+
+/* The number of the frame's command; of anything else 0. */
+static inline uint32_t stomp_feed_command(uint64_t answer)
+{
+    return stomp_feed_kind(answer) == STOMP_FRAME ? (uint32_t)(answer >> 18 & 0xf) : 0;
+}
+
+/* How many header lines the frame has; of anything else 0. */
+static inline size_t stomp_feed_headers(uint64_t answer)
+{
+    return stomp_feed_kind(answer) == STOMP_FRAME ? (size_t)(answer >> 22 & 0x3f) : 0;
+}
+
+/* Where in the buffer the frame's body starts; of anything else 0. */
+static inline size_t stomp_feed_body(uint64_t answer)
+{
+    return stomp_feed_kind(answer) == STOMP_FRAME ? (size_t)(answer >> 28 & 0xffff) : 0;
+}
+
+/* The length of the frame's body; of anything else 0. */
+static inline size_t stomp_feed_body_length(uint64_t answer)
+{
+    return stomp_feed_kind(answer) == STOMP_FRAME ? (size_t)(answer >> 44) : 0;
+}
+
+/* The length of the heart-beat or frame, which stands at the buffer's front; else 0. */
+static inline size_t stomp_feed_used(uint64_t answer)
+{
+    if (stomp_feed_kind(answer) == STOMP_HEART_BEAT)
+        return (size_t)(answer >> 18);
+    if (stomp_feed_kind(answer) == STOMP_FRAME)
+        return stomp_feed_body(answer) + stomp_feed_body_length(answer) + 1;
+    return 0;
+}
+
+/* The number of the refusal; 0 where it was not refused. */
+static inline unsigned stomp_feed_code(uint64_t answer)
+{
+    return stomp_feed_kind(answer) == STOMP_INVALID ? (unsigned)(answer >> 18 & 0xff) : 0;
+}
+
+/* The place of the first octet that no item can have there; 0 where it was not refused. */
+static inline size_t stomp_feed_offset(uint64_t answer)
+{
+    return stomp_feed_kind(answer) == STOMP_INVALID ? (size_t)(answer >> 26) : 0;
 }
 
 /* Readers of what stomp_decode and stomp_encode answered. */
