@@ -2,7 +2,7 @@
  * the page lies that cannot be touched (third bit), and what the buffers hold before (all of it).
  * The rest is cut into the arguments, numbers high octet first:
  *
- *   0 parse    octets
+ *   0 parse    octets; with the fourth bit they are fed in pieces, see feed.c
  *   1 decode   room 2, frame
  *   2 encode   command 4, room 2, body length 2, body, block
  *   3 find     name length 2, name, block
@@ -12,7 +12,6 @@
  * entry, 254 the name in it. So most changes of an input leave its block well-formed. */
 #define _DEFAULT_SOURCE
 
-#include <stdbool.h>
 #include <stdio.h>
 #include <stdlib.h>
 #include <string.h>
@@ -21,14 +20,12 @@
 
 #include "../../bench/baseline.h"
 #include "../../include/stomp.h"
+#include "fuzz.h"
 
 enum { PARSE, DECODE, ENCODE, FIND };
-enum { PAGE_BEHIND = 4, AS_TEXT = 8 };
-enum { ROOM = 1 << 17, GUARD = 64, HEAD = 6 };
+enum { PAGE_BEHIND = 4, AS_TEXT = 8, IN_PIECES = 8 };
+enum { HEAD = 6 };
 enum { NAME_END = 254, ENTRY_END = 255 };
-
-/* The slices of a call: two are read, one is written. */
-enum { FIRST, SECOND, BUFFER, SLICES };
 
 struct call {
     unsigned which;
@@ -43,7 +40,7 @@ static uint8_t *rooms[SLICES];
 
 /* What guards and buffers hold before a call: these octets from some place on. */
 static uint8_t fill[256 + GUARD + ROOM];
-static const uint8_t *filled;
+const uint8_t *filled;
 static bool at_end;
 
 static void fail(const char *what, const struct call *c, uint64_t ours, uint64_t other)
@@ -73,12 +70,12 @@ int LLVMFuzzerInitialize(int *argc, char ***argv)
     return 0;
 }
 
-static uint8_t *our_slice(size_t i, size_t length)
+uint8_t *our_slice(size_t i, size_t length)
 {
     return at_end ? rooms[i] + ROOM - length : rooms[i];
 }
 
-static uint8_t *our_guard(size_t i, size_t length)
+uint8_t *our_guard(size_t i, size_t length)
 {
     return at_end ? rooms[i] + ROOM - length - GUARD : rooms[i] + length;
 }
@@ -280,6 +277,10 @@ int LLVMFuzzerTestOneInput(const uint8_t *octets, size_t length)
         return 0;
     at_end = (choice & PAGE_BEHIND) != 0;
     filled = fill + choice;
+    if (c.which == PARSE && (choice & IN_PIECES)) {
+        fuzz_feed(r.octets, r.length);
+        return 0;
+    }
     if (c.which == ENCODE)
         c.command = take_number(&r, 4);
     if (c.which == DECODE || c.which == ENCODE)

@@ -1,7 +1,7 @@
-/* Writes inputs of fuzz.c made of streams: seeds DIRECTORY STREAM.. For each item one that parses;
- * for each frame also ones that decode it, encode what it holds, and find its first two names and
- * one that it does not have. They are read with the baseline. A block is there as it is and as the
- * text that fuzz.c makes it of. */
+/* Writes inputs of fuzz.c made of streams: seeds DIRECTORY STREAM.. Each stream is fed in pieces, in some
+ * ways. For each item one input that parses; for each frame also ones that decode it, encode what it
+ * holds, and find its first two names and one that it does not have. They are read with the baseline. A
+ * block is there as it is and as the text that fuzz.c makes it of. */
 #include <stdio.h>
 #include <stdlib.h>
 #include <string.h>
@@ -9,8 +9,9 @@
 #include "../../bench/baseline.h"
 #include "../../include/stomp.h"
 
-enum { HEAD = 6, STREAM = 1 << 18 };
-enum { PARSE, DECODE, ENCODE, FIND, PAGE_BEHIND = 4, AS_TEXT = 8, NAME_END = 254, ENTRY_END = 255 };
+enum { HEAD = 6, STREAM = 1 << 18, LONGEST_INPUT = 66000 };
+enum { PARSE, DECODE, ENCODE, FIND, PAGE_BEHIND = 4, AS_TEXT = 8, IN_PIECES = 8 };
+enum { NAME_END = 254, ENTRY_END = 255 };
 
 static const char *directory;
 static unsigned long count;
@@ -106,6 +107,19 @@ static void write_frame(const uint8_t *frame, uint64_t parsed)
     write_find("none", 4, block, used);
 }
 
+/* The stream in pieces: one octet each, some of none, and longer ones. */
+static void write_feeds(const uint8_t *stream, size_t size)
+{
+    static const char *const lengths[] = {"\1\1", "\4\1\0\7\2", "\2\0\144", "\1\377"};
+    for (size_t i = 0; i < sizeof lengths / sizeof *lengths; i++) {
+        begin(PARSE | IN_PIECES);
+        put_number(0, 1);
+        put(lengths[i], 1 + (size_t)lengths[i][0]);
+        put(stream, size < LONGEST_INPUT - length ? size : LONGEST_INPUT - length);
+        finish();
+    }
+}
+
 int main(int argc, char **argv)
 {
     static uint8_t stream[STREAM];
@@ -121,6 +135,7 @@ int main(int argc, char **argv)
         size_t size = fread(stream, 1, sizeof stream, file);
         size_t used = 1;
         fclose(file);
+        write_feeds(stream, size);
         for (size_t at = 0; at < size && used > 0; at += used) {
             uint64_t parsed = baseline_parse(stream + at, size - at);
             used = stomp_parse_used(parsed);

@@ -4,6 +4,8 @@
 uint64_t right_parse(const uint8_t *octets, size_t len);
 uint64_t right_decode(const uint8_t *frame, size_t frame_len, uint8_t *block, size_t block_len);
 uint64_t right_find(const uint8_t *block, size_t block_len, const uint8_t *name, size_t name_len);
+uint64_t right_feed(uint8_t *state, size_t state_len, uint8_t *buffer, size_t buffer_len, const uint8_t *piece,
+                    size_t piece_len);
 uint64_t right_encode(uint32_t command, const uint8_t *block, size_t block_len, const uint8_t *body,
                       size_t body_len, uint8_t *target, size_t target_len);
 
@@ -44,5 +46,26 @@ uint64_t stomp_encode(uint32_t command, const uint8_t *block, size_t block_len, 
     uint64_t answer = right_encode(command, block, block_len, body, body_len, target, target_len);
     if (WRONG == 7 && stomp_code(answer) == STOMP_ENCODE_BODY && target_len > 0)
         target[0]++;
+    return answer;
+}
+
+/* 8: takes the octet that is refused; 9: goes on after a refusal; 10: writes an octet behind what it takes;
+ * 11: forgets what it has read where a piece is empty; 12: changes a state that it refuses. */
+uint64_t stomp_feed(uint8_t *state, size_t state_len, uint8_t *buffer, size_t buffer_len, const uint8_t *piece,
+                    size_t piece_len)
+{
+    uint64_t answer = right_feed(state, state_len, buffer, buffer_len, piece, piece_len);
+    int refused = stomp_feed_code(answer) > 0 && stomp_feed_code(answer) < STOMP_FEED_SHORT_BUFFER;
+    if (WRONG == 8 && refused && stomp_feed_taken(answer) < piece_len)
+        answer += 4;
+    if (WRONG == 9 && refused)
+        state[0] = 0, state[5] = 0, state[10] = 0, state[11] = 0;
+    if (WRONG == 10 && stomp_feed_kind(answer) == STOMP_FRAME)
+        buffer[stomp_feed_used(answer)]++;
+    if (WRONG == 11 && piece_len == 0 && stomp_feed_kind(answer) == STOMP_INCOMPLETE)
+        for (size_t i = 0; i < state_len; i++)
+            state[i] = 0;
+    if (WRONG == 12 && stomp_feed_code(answer) == STOMP_FEED_INVALID_STATE)
+        state[0]++;
     return answer;
 }
