@@ -266,11 +266,15 @@ static void check_stream(const struct stream *st, uint64_t *seed)
 /* Empty slices with the null pointer: ours answers as the rules say of nothing. */
 static void check_null(void)
 {
-    uint8_t image[8];
+    uint8_t image[8], state[STOMP_FEED_STATE] = {0};
+    static uint8_t buffer[STOMP_FEED_BUFFER];
     static const uint8_t ack[] = "ACK\n\n";
     bool right = stomp_parse(NULL, 0) == STOMP_INCOMPLETE;
     right = right && stomp_code(stomp_decode(NULL, 0, NULL, 0)) == STOMP_DECODE_NOT_A_FRAME;
     right = right && stomp_find(NULL, 0, NULL, 0) == 0;
+    right = right && stomp_feed_code(stomp_feed(NULL, 0, NULL, 0, NULL, 0)) == STOMP_FEED_SHORT_BUFFER;
+    right = right && stomp_feed_code(stomp_feed(NULL, 0, buffer, sizeof buffer, NULL, 0)) == STOMP_FEED_INVALID_STATE;
+    right = right && stomp_feed(state, sizeof state, buffer, sizeof buffer, NULL, 0) == STOMP_INCOMPLETE;
     right = right && stomp_code(stomp_encode(STOMP_COMMAND_ACK, NULL, 0, NULL, 0, NULL, 0)) ==
                          STOMP_ENCODE_SHORT_TARGET;
     right = right && stomp_encode(STOMP_COMMAND_ACK, NULL, 0, NULL, 0, image, sizeof image) == sizeof ack;

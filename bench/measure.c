@@ -5,12 +5,13 @@
 #include <stdio.h>
 #include <stdlib.h>
 #include <string.h>
-#include <time.h>
 
 #include "../include/stomp.h"
 #include "answers.h"
 #include "baseline.h"
 #include "calls.h"
+#include "feed.h"
+#include "seconds.h"
 #include "streams.h"
 
 /* Rounds of parse, and of decode and encode, which take longer. */
@@ -59,14 +60,6 @@ typedef uint64_t pass(const struct work *w, size_t who);
 
 /* Keeps the compiler from leaving the calls out. */
 static volatile uint64_t sink;
-
-/* The processor time of this program, so that other work on the machine counts less. */
-static double seconds(void)
-{
-    struct timespec t;
-    clock_gettime(CLOCK_PROCESS_CPUTIME_ID, &t);
-    return (double)t.tv_sec + 1e-9 * (double)t.tv_nsec;
-}
 
 static void *room_for(size_t octets)
 {
@@ -292,8 +285,9 @@ int main(int argc, char **argv)
     double find[STREAMS][PARSERS];
     bool good = true;
     bool check = argc > 1 && strcmp(argv[1], "--check") == 0;
-    if (argc > 2 || (argc == 2 && !check)) {
-        fprintf(stderr, "usage: measure [--check]\n");
+    int first = check ? 2 : 1;
+    if (argc <= first) {
+        fprintf(stderr, "usage: measure [--check] STREAM..\n");
         return 2;
     }
     make_streams(streams);
@@ -306,6 +300,7 @@ int main(int argc, char **argv)
     measure_buffers("decode", decode_pass, works, decode);
     measure_buffers("encode", encode_pass, works, encode);
     measure_buffers("find", find_pass, works, find);
+    good &= measure_feed(streams, argv + first, argc - first, check);
     if (check) {
         good &= are_enough("parse", works, parse, least_ratio);
         good &= is_enough("parse", &streams[TEXT_BODIES], BASELINE_MEMCHR, parse[TEXT_BODIES],
