@@ -56,7 +56,7 @@ static uint64_t read_whole(const struct stream *st)
     return sum;
 }
 
-/* In pieces; what is left of a piece behind an item is handed in again. */
+/* In pieces; what is left of a piece after an item is handed in again. */
 static uint64_t read_pieces(const struct stream *st, size_t way)
 {
     uint8_t state[STOMP_FEED_STATE] = {0};

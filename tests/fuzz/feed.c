@@ -4,7 +4,7 @@
  *
  * The mark's higher bits say how much longer than needed the buffer is; of the count the lowest four bits
  * are taken. The octets come in pieces of those lengths, in turn and again from the first; without a
- * length, or with none but 0, in one piece. What is left of a piece behind an item is handed in again.
+ * length, or with none but 0, in one piece. What is left of a piece after an item is handed in again.
  * What each call has to answer is known from one parse an item of all octets, and what it leaves in the
  * buffer too. Behind a refusal, or at the end, come calls that must change nothing: the refusal repeated,
  * a short buffer (70), a count that no unfinished item has (71).
@@ -118,7 +118,7 @@ static uint64_t settled_answer(size_t octets)
     }
 }
 
-/* Hands in the next octets of the stream, so many, and what is left of them behind each item. False where
+/* Hands in the next octets of the stream, so many, and what is left of them after each item. False where
  * they are refused. */
 static bool hand_in(size_t length)
 {

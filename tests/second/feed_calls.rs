@@ -148,7 +148,7 @@ impl Bounds {
 }
 
 /// The record: what calls left; one that was set, and calls need not leave; or one that no one knows,
-/// behind a call with such a record, with a buffer that no one knows either.
+/// after a call with such a record, with a buffer that no one knows either.
 #[derive(Clone)]
 enum Known {
     Left(StreamParser),

@@ -1,4 +1,4 @@
-//! The fixed calls of the stream parser: items in pieces, refusals and what comes behind them, short
+//! The fixed calls of the stream parser: items in pieces, refusals and what comes after them, short
 //! buffers, and records that no call leaves.
 
 use crate::feed::record::{Record, CODE, HELD, LENGTH, PHASE, REFUSED, ZEROS};
@@ -75,7 +75,7 @@ fn heart_beats() -> Vec<Call> {
     fed(&pieces)
 }
 
-/// A refusal in each kind of place, the octet refused in a piece of its own and not; behind it a stopped
+/// A refusal in each kind of place, the octet refused in a piece of its own and not; after it a stopped
 /// parser, which a record of 0 makes fresh, with the buffer as it is.
 fn refusals() -> Vec<Call> {
     let rows: [&[&[u8]]; 8] = [
@@ -100,7 +100,7 @@ fn refusals() -> Vec<Call> {
     calls
 }
 
-/// A buffer with an octet too few, of none, and with enough, before an item, inside and behind a refusal.
+/// A buffer with an octet too few, of none, and with enough, before an item, inside and after a refusal.
 fn short_buffers() -> Vec<Call> {
     let room = |room: usize| Call::Room { room };
     vec![
