@@ -26,6 +26,7 @@ pub use line::entry_length;
 pub use line::line_length;
 pub use line::write_encoded;
 pub use line::write_line;
+pub use octets::copy;
 pub use octets::equal;
 pub use record::RecordWritten;
 pub use record::write_decoded;

@@ -1,8 +1,10 @@
-// Rows of octets.
+// Rows of octets: compared, measured, copied.
 ghost use mathlib.Core.Path.{_≡_};
-ghost use Prim.Native.Nat.{_+_};
+ghost use Prim.Native.Nat.{_+_, _≤_};
 ghost use lib.Dec.{leb};
-ghost use Rattle.headers.specs.Rows.{same};
+ghost use lib.ListN.{length, drop};
+ghost use lib.Seq.{paste};
+ghost use Rattle.headers.specs.Rows.{same, copied};
 
 // Whether two rows are the same.
 pub fn equal(a: &[u8], b: &[u8]) -> bool
@@ -32,4 +34,116 @@ pub(crate) fn both_fit(n: usize, m: usize, room: usize) -> bool
         return false;
     }
     true
+}
+
+// The octets of s, copied to d from a place on, one by one.
+fn put_octets(d: &mut [u8], at: usize, s: &[u8])
+    requires { ⌜ at + length (now s) ≤ length (now d) ⌝ }
+    ensures { λ _. ⌜ now (d .exit) ≡ paste (now (d .entry)) at (now (s .entry)) (length (now (s .entry))) ⌝ }
+{
+    let mut i = 0usize;
+    while i < s.len() {
+        let j = at + i;
+        d[j] = s[i];
+        i += 1;
+    }
+}
+
+// A block of s, from place i on, copied to d as far from a place. It is read whole before it is written, so that it is moved at once.
+fn put_128(d: &mut [u8], at: usize, s: &[u8], i: usize)
+    requires { ⌜ (i + 128 ≤ length (now s)) × (at + length (now s) ≤ length (now d)) ⌝ }
+    ensures { λ _. ⌜ now (d .exit) ≡ paste (now (d .entry)) (at + i) (drop i (now (s .entry))) 128 ⌝ }
+{
+    let e = i + 128;
+    let mut block = [0u8; 128];
+    put_octets(&mut block, 0, &s[i..e]);
+    put_octets(d, at + i, &block);
+}
+
+fn put_16(d: &mut [u8], at: usize, s: &[u8], i: usize)
+    requires { ⌜ (i + 16 ≤ length (now s)) × (at + length (now s) ≤ length (now d)) ⌝ }
+    ensures { λ _. ⌜ now (d .exit) ≡ paste (now (d .entry)) (at + i) (drop i (now (s .entry))) 16 ⌝ }
+{
+    let e = i + 16;
+    let mut block = [0u8; 16];
+    put_octets(&mut block, 0, &s[i..e]);
+    put_octets(d, at + i, &block);
+}
+
+fn put_4(d: &mut [u8], at: usize, s: &[u8], i: usize)
+    requires { ⌜ (i + 4 ≤ length (now s)) × (at + length (now s) ≤ length (now d)) ⌝ }
+    ensures { λ _. ⌜ now (d .exit) ≡ paste (now (d .entry)) (at + i) (drop i (now (s .entry))) 4 ⌝ }
+{
+    let e = i + 4;
+    let mut block = [0u8; 4];
+    put_octets(&mut block, 0, &s[i..e]);
+    put_octets(d, at + i, &block);
+}
+
+// The octets of s, copied by blocks; the last ends with s, over octets that are copied already. After the first block the others
+// begin at multiples of 128 in d: stores to such places are quicker.
+fn put_blocks_128(d: &mut [u8], at: usize, s: &[u8])
+    requires { ⌜ (128 ≤ length (now s)) × (at + length (now s) ≤ length (now d)) ⌝ }
+    ensures { λ _. ⌜ now (d .exit) ≡ paste (now (d .entry)) at (now (s .entry)) (length (now (s .entry))) ⌝ }
+{
+    let mut i = 0usize;
+    while 128 <= s.len() - i {
+        put_128(d, at, s, i);
+        i += 128 - (at + i) % 128;
+    }
+    put_128(d, at, s, s.len() - 128);
+}
+
+fn put_blocks_16(d: &mut [u8], at: usize, s: &[u8])
+    requires { ⌜ (16 ≤ length (now s)) × (at + length (now s) ≤ length (now d)) ⌝ }
+    ensures { λ _. ⌜ now (d .exit) ≡ paste (now (d .entry)) at (now (s .entry)) (length (now (s .entry))) ⌝ }
+{
+    let mut i = 0usize;
+    while 16 <= s.len() - i {
+        put_16(d, at, s, i);
+        i += 16;
+    }
+    put_16(d, at, s, s.len() - 16);
+}
+
+fn put_blocks_4(d: &mut [u8], at: usize, s: &[u8])
+    requires { ⌜ (4 ≤ length (now s)) × (at + length (now s) ≤ length (now d)) ⌝ }
+    ensures { λ _. ⌜ now (d .exit) ≡ paste (now (d .entry)) at (now (s .entry)) (length (now (s .entry))) ⌝ }
+{
+    let mut i = 0usize;
+    while 4 <= s.len() - i {
+        put_4(d, at, s, i);
+        i += 4;
+    }
+    put_4(d, at, s, s.len() - 4);
+}
+
+// The octets of s, copied by the largest blocks that they have.
+fn put_all(d: &mut [u8], at: usize, s: &[u8])
+    requires { ⌜ at + length (now s) ≤ length (now d) ⌝ }
+    ensures { λ _. ⌜ now (d .exit) ≡ paste (now (d .entry)) at (now (s .entry)) (length (now (s .entry))) ⌝ }
+{
+    if 128 <= s.len() {
+        put_blocks_128(d, at, s);
+        return;
+    }
+    if 16 <= s.len() {
+        put_blocks_16(d, at, s);
+        return;
+    }
+    if 4 <= s.len() {
+        put_blocks_4(d, at, s);
+        return;
+    }
+    put_octets(d, at, s);
+}
+
+// The octets of s, copied to d from a place on; nothing where they have no room there.
+pub fn copy(d: &mut [u8], at: usize, s: &[u8])
+    ensures { λ _. ⌜ now (d .exit) ≡ copied (now (d .entry)) at (now (s .entry)) ⌝ }
+{
+    if !both_fit(at, s.len(), d.len()) {
+        return;
+    }
+    put_all(d, at, s);
 }

@@ -1,0 +1,95 @@
+-- Octets copied by blocks. Assumes nothing.
+--     paste-block     a block more, over octets that are copied already
+--     paste-through   a block that is read whole before it is written
+--     Upto, upto-..   a copy by blocks, from the first to the last
+--     copied-..       what a copy leaves
+use Prim.Native.Nat.{ℕ, _+_, _-_, _≤_, _<_}
+use mathlib.Core.List.{List, _++_, append-assoc}
+use mathlib.Core.Path.{_≡_, ap, sym, _∙_}
+use mathlib.Core.Bool.{true, false, cond}
+use lib.Dec.{leb}
+use lib.ListN.{length, take, drop, length-drop}
+use lib.Seq.{paste, paste-zero, take-paste, drop-paste, take-add, take-take, drop-drop, take-append-le, take-append-add, length-take-le, length-paste-head, length-paste}
+use native.Mathlib.Omega.{arith}
+use Rattle.headers.specs.Rows.{copied}
+
+-- the octets before place i of s are copied; then w of them from place j on, which is not after i
+pub paste-block : (d : List ℕ) (at : ℕ) (s : List ℕ) (i j w : ℕ) → j ≤ i → i ≤ j + w → j + w ≤ length s → at + length s ≤ length d
+    → paste (paste d at s i) (at + j) (drop j s) w ≡ paste d at s (j + w)
+paste-block d at s i j w ji iw ws fits =
+    let X = paste d at s i in
+    let m = j + w - i in
+    let long : length (take at d) ≡ at = length-take-le at d (omega arith) in
+    let front : take (at + j) X ≡ take at d ++ take j s =
+    take-append-le (at + j) (take at d ++ take i s) (drop (at + i) d) (omega (arith, length-paste-head d at s i (omega arith) (omega arith)))
+    ∙ ap (λ k. take (k + j) (take at d ++ take i s)) (sym long) ∙ take-append-add (take at d) (take i s) j
+    ∙ ap (λ z. take at d ++ z) (take-take j i s ji) in
+    let all : at + i + m ≡ at + (j + w) = omega arith in
+    let far : at + j + w ≡ at + i + m = omega arith in
+    let back : drop (at + j + w) X ≡ drop (at + (j + w)) d =
+    ap (λ k. drop k X) far ∙ sym (drop-drop m (at + i) X)
+    ∙ ap (drop m) (drop-paste d at s i (omega arith) (omega arith)) ∙ drop-drop m (at + i) d ∙ ap (λ k. drop k d) all in
+    ap (λ z. z ++ take w (drop j s) ++ drop (at + j + w) X) front
+    ∙ ap (λ z. z ++ drop (at + j + w) X) (append-assoc (take at d) (take j s) (take w (drop j s)) ∙ ap (λ z. take at d ++ z) (sym (take-add j w s)))
+    ∙ ap (λ z. take at d ++ take (j + w) s ++ z) back
+
+-- w octets of s from place i on, by way of a row of w octets
+pub paste-through : (d s z block after : List ℕ) (at i w e : ℕ) → length z ≡ w → e ≡ i + w → i + w ≤ length s
+    → block ≡ paste z 0 (take (e - i) (drop i s)) (length (take (e - i) (drop i s))) → after ≡ paste d (at + i) block (length block)
+    → after ≡ paste d (at + i) (drop i s) w
+paste-through d s z block after at i w e long end fits read written =
+    let part = take w (drop i s) in
+    let far : length (drop i s) ≡ length s - i = length-drop i s in
+    let wide : e - i ≡ w = omega arith in
+    let short : length part ≡ w = length-take-le w (drop i s) (omega (arith, far)) in
+    let none : w ≡ 0 + w = omega arith in
+    let is : block ≡ paste z 0 part w = read ∙ ap (λ k. paste z 0 (take k (drop i s)) (length (take k (drop i s)))) wide ∙ ap (paste z 0 part) short in
+    let whole : length block ≡ w = ap length is ∙ length-paste z 0 part w (omega arith) (omega (arith, short)) ∙ long in
+    let same : take w block ≡ part =
+    ap (take w) is ∙ ap (λ k. take k (paste z 0 part w)) none ∙ take-paste z 0 part w (omega arith) (omega (arith, short)) ∙ take-take w w (drop i s) (omega arith) in
+    written ∙ ap (paste d (at + i) block) whole ∙ ap (λ r. take (at + i) d ++ r ++ drop (at + i + w) d) same
+
+-- A copy of s to d₀ by blocks of w: octets up to place i, and perhaps some more, are copied.
+pub record Upto (w : ℕ) (d₀ : List ℕ) (at : ℕ) (s d : List ℕ) (i : ℕ) : Type 0 where
+  pub done : ℕ
+  pub onward : i ≤ done
+  pub near : done ≤ i + w
+  pub most : done ≤ length s
+  pub is : d ≡ paste d₀ at s done
+
+module _ (w : ℕ) (d₀ : List ℕ) (at : ℕ) (s : List ℕ) (fits : at + length s ≤ length d₀) where
+  -- before the first block
+  pub upto-none : Upto w d₀ at s d₀ 0
+  upto-none = record { done = 0; onward = omega arith; near = omega arith; most = omega arith; is = paste-zero d₀ at s }
+
+  pub upto-long : (d : List ℕ) (i : ℕ) → Upto w d₀ at s d i → length d ≡ length d₀
+  upto-long d i u = ap length (u .is) ∙ length-paste d₀ at s (u .done) (omega (arith, u .most)) (u .most)
+
+  -- a block more, written from place i on; the next begins in it, or where it ends
+  pub upto-block : (d after : List ℕ) (i next : ℕ) → Upto w d₀ at s d i → i + w ≤ length s → after ≡ paste d (at + i) (drop i s) w
+      → i ≤ next → next ≤ i + w → Upto w d₀ at s after next
+  upto-block d after i next u more is on near = record {
+    done = i + w;
+    onward = near;
+    near = omega arith;
+    most = more;
+    is = is ∙ ap (λ z. paste z (at + i) (drop i s) w) (u .is) ∙ paste-block d₀ at s (u .done) i w (u .onward) (u .near) more fits;
+  }
+
+  -- the last block ends with s
+  pub upto-end : (d after : List ℕ) (i : ℕ) → Upto w d₀ at s d i → w ≤ length s → length s - i < w
+      → after ≡ paste d (at + (length s - w)) (drop (length s - w) s) w → after ≡ paste d₀ at s (length s)
+  upto-end d after i u long short is =
+      let j = length s - w in
+      let all : j + w ≡ length s = omega arith in
+      is ∙ ap (λ z. paste z (at + j) (drop j s) w) (u .is)
+      ∙ paste-block d₀ at s (u .done) j w (omega (arith, u .onward)) (omega (arith, u .most)) (omega arith) fits
+      ∙ ap (paste d₀ at s) all
+
+-- a copy where there is no room, and where there is
+module _ (d : List ℕ) (at : ℕ) (s : List ℕ) where
+  pub copied-none : leb (at + length s) (length d) ≡ false → copied d at s ≡ d
+  copied-none h = ap (λ t. cond t (paste d at s (length s)) d) h
+
+  pub copied-all : leb (at + length s) (length d) ≡ true → copied d at s ≡ paste d at s (length s)
+  copied-all h = ap (λ t. cond t (paste d at s (length s)) d) h
