@@ -57,6 +57,19 @@ otherwise : (b : Bool) {d : Bool} {A B : Type 0} → Decides b A → Decides d B
 otherwise true p q = record { pass = λ h n. absurd (n (p .pass refl)); sure = λ f. refl }
 otherwise false p q = record { pass = λ h n. q .pass h; sure = λ f. q .sure (f (λ x. let e = p .sure x in let z : _≡_ {A = ℕ} 0 1 = cc in omega arith)) }
 
+unlike : (b : Bool) → not b ≡ false → b ≡ true
+unlike true h = refl
+unlike false h = sym h
+
+-- a test of two facts that says where one holds without the other
+pub met : (a b : Bool) → a && not b ≡ false → not a || b ≡ true
+met true b h = rw (unlike b h)
+met false b h = refl
+
+pub unmet : (a b : Bool) → a && not b ≡ true → not a || b ≡ false
+unmet true b h = not-true b h
+unmet false b h = sym h
+
 -- the same fact in another form
 turned : {b : Bool} {A B : Type 0} → Decides b A → (A → B) → (B → A) → Decides b B
 turned p f g = record { pass = λ h. f (p .pass h); sure = λ y. p .sure (g y) }

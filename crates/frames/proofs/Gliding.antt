@@ -2,7 +2,7 @@
 -- Assumes nothing.
 use mathlib.Core.Path.{_≡_, refl, sym, _∙_, ap, subst}
 use mathlib.Core.Bool.{Bool, true, false, cond, _&&_, _||_, not, and-assoc, and-true, and-comm}
-use mathlib.Core.List.{List, [], _∷_, _++_}
+use mathlib.Core.List.{List, [], _∷_, _++_, append-nil}
 use mathlib.Core.Logic.{_⊎_, inl, inr}
 use Prim.Native.Nat.{ℕ, _+_, _-_, _≤_, _<_, min}
 use native.Mathlib.Numerals.{add-one, one-add}
@@ -18,7 +18,7 @@ use Rattle.headers.specs.Lines.{line-max}
 use Rattle.headers.specs.declared.text.Style.{Style}
 use Rattle.headers.specs.declared.text.Field.{Field}
 use Rattle.headers.specs.declared.text.Field.the-variants.{Name as in-name, Value as in-value}
-use Rattle.headers.proofs.Rows.{cond-case, and-left, and-right, and-no, and-yes, or-false-left, or-false-right, every-step, every-end}
+use Rattle.headers.proofs.Rows.{cond-case, and-left, and-right, and-no, and-yes, or-false-left, or-false-right, every-step, every-end, every-drop}
 use Rattle.frames.specs.declared.state.Scan.{Scan}
 use Rattle.frames.specs.declared.ahead.Stops.{Stops}
 use Rattle.frames.specs.Scanning.{style-of, most-of, in-line, on-value, on-name, on-body, on-counted, scan-step, scan, len-max, Valid, span, text-stops, plain-in, not-zero, skip, Ahead}
@@ -307,6 +307,17 @@ ahead-then st l i k m a b =
       kept = subst Valid same (b .kept);
       same-end = a .same-end ∙ b .same-end ∙ ap (λ z. scan z (drop (i + k + m) l)) same ∙ ap (λ n. scan (skip (k + m) st) (drop n l)) (add-assoc i k m);
     }
+
+-- where all octets from e on pass the test, so do those from i on, which is not before e
+pub span-tail : (p : ℕ → Bool) (s : List ℕ) (i e : ℕ) → e ≤ i → i ≤ length s → every p (take (length s - e) (drop e s)) ≡ true → i + span p (drop i s) ≡ length s
+unfolding span
+span-tail p s i e ei is h =
+    let far : e + (i - e) ≡ i = omega arith in
+    let all : take (length s - e) (drop e s) ≡ drop e s = take-all (length s - e) (drop e s) (simp length-drop (omega arith)) in
+    let on : every p (drop i s) ≡ true =
+    ap (λ k. every p (drop k s)) (sym far) ∙ ap (every p) (sym (drop-drop (i - e) e s)) ∙ every-drop p (i - e) (drop e s) (ap (every p) (sym all) ∙ h) in
+    let passed = span-every p (drop i s) [] on in
+    omega (arith, passed, ap (span p) (append-nil (drop i s)), length-drop i s)
 
 pub span-part : (p : ℕ → Bool) (l : List ℕ) (i e k : ℕ) → i ≤ e → e ≤ length l → k ≡ span p (take (e - i) (drop i l)) → i + k ≤ e
 span-part p l i e k ie el is = omega (arith, part-long l i e ie el, span-le p (take (e - i) (drop i l)))

@@ -89,3 +89,9 @@ module _ (st : Scan) (x : ℕ) where
   digit-on e h l u m =
       let y = style-of (st .command) in
       simp (e, reads-plain y in-value x (digit-plain (y .escapes) (y .escapes) x l u), room 0 512 (st .len) refl, lt-ltb (st .len) 512 h, le-leb 48 x l, le-leb x 57 u, le-leb (st .size * 10 + (x - 48)) (most-of (st .command)) m)
+
+-- octets at the front of a row that lie ahead: the state after them, and the rest from there
+pub front-on : (s : List ℕ) (st next : Scan) (k : ℕ) → Ahead s 0 st k → next ≡ skip k st → (k ≤ length s) × Valid next × (scan next (drop k s) ≡ scan st s)
+front-on s st next k a is =
+    let none : 0 + k ≡ k = omega arith in
+    (omega (arith, a .within), subst Valid (sym is) (a .kept), ap (λ z. scan z (drop k s)) is ∙ ap (λ j. scan (skip k st) (drop j s)) (sym none) ∙ sym (a .same-end))

@@ -7,7 +7,9 @@ use native.Mathlib.Omega.{arith}
 use lib.ListN.{length, take, drop, drop-of-length-le}
 use lib.Seq.{paste, take-all}
 use lib.Dec.{eqb, ltb}
-use borrow.Author.Tests.{eqb-true}
+use borrow.Author.Tests.{eqb-true, le-leb}
+use Rattle.headers.specs.Rows.{copied}
+use Rattle.headers.proofs.Copying.{copied-all}
 use Rattle.headers.proofs.Rows.{and-left, cond-case}
 use Rattle.frames.specs.declared.state.Scan.{Scan}
 use Rattle.frames.specs.Replies.{Reply}
@@ -74,6 +76,6 @@ row st m =
     ∷ st .size / 256 % 256 ∷ st .size % 256 ∷ st .len / 256 % 256 ∷ st .len % 256 ∷ st .at / 256 % 256 ∷ st .at % 256
     ∷ 0 ∷ 0 ∷ 0 ∷ 0 ∷ []
 
-pub laid : (d : List ℕ) (st : Scan) (m : ℕ) (xs : List ℕ) → length d ≡ 16 → m ≡ mark (st .sized) → xs ≡ paste d 0 (row st m) 16 → xs ≡ record-of st
+pub laid : (d : List ℕ) (st : Scan) (m : ℕ) (xs : List ℕ) → length d ≡ 16 → m ≡ mark (st .sized) → xs ≡ copied d 0 (row st m) → xs ≡ record-of st
 unfolding record-of
-laid d st m xs e f h = h ∙ pasted d (row st m) 16 e refl ∙ ap (row st) f
+laid d st m xs e f h = h ∙ copied-all d 0 (row st m) (le-leb (0 + 16) (length d) (omega arith)) ∙ pasted d (row st m) 16 e refl ∙ ap (row st) f

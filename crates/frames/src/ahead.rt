@@ -152,12 +152,12 @@ fn clear_blocks(s: &[u8], from: usize, size: usize) -> usize
     i
 }
 
-// How many octets at the front of s are not 0: by large blocks, then by small ones, then one by one.
-pub(crate) fn body_span(s: &[u8]) -> usize
-    ensures { λ r. ⌜ r ≡ span not-zero (now (s .entry)) ⌝ }
+// How far small blocks and then single octets without an octet 0 go on from a place of s.
+fn clear_rest(s: &[u8], from: usize) -> usize
+    requires { ⌜ from ≤ length (now s) ⌝ }
+    ensures { λ r. ⌜ r ≡ from + span not-zero (drop from (now (s .entry))) ⌝ }
 {
-    let far = clear_blocks(s, 0, 128);
-    let mut i = clear_blocks(s, far, 16);
+    let mut i = clear_blocks(s, from, 16);
     while i < s.len() {
         if s[i] == 0 {
             return i;
@@ -165,6 +165,24 @@ pub(crate) fn body_span(s: &[u8]) -> usize
         i += 1;
     }
     i
+}
+
+// How many octets at the front of s are not 0: by large blocks, the last of which may begin in the one before it; where an octet 0
+// is near, by small ones.
+pub(crate) fn body_span(s: &[u8]) -> usize
+    ensures { λ r. ⌜ r ≡ span not-zero (now (s .entry)) ⌝ }
+{
+    if s.len() < 128 {
+        return clear_rest(s, 0);
+    }
+    let far = clear_blocks(s, 0, 128);
+    let e = s.len() - 128;
+    if e <= far {
+        if is_clear(&s[e..]) {
+            return s.len();
+        }
+    }
+    clear_rest(s, far)
 }
 
 // The end of the octets from i on that fit the room.

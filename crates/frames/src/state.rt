@@ -18,10 +18,10 @@ pub struct Scan {
     pub phase: u8,
     // Whether a content-length is declared.
     pub sized: bool,
-    // The command's number; while its word is read, the first command that begins so.
-    pub command: u32,
     // The number of the refusal.
     pub code: u32,
+    // The command's number; while its word is read, the first command that begins so.
+    pub command: u32,
 }
 
 // The phases: where the next octet is.

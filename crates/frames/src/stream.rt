@@ -2,9 +2,7 @@
 // octets.
 ghost use mathlib.Core.Path.{_≡_};
 ghost use mathlib.Core.Bool.{cond};
-ghost use Prim.Native.Nat.{_+_, _≤_, min};
-ghost use lib.ListN.{length};
-ghost use lib.Seq.{paste};
+ghost use Prim.Native.Nat.{min};
 ghost use Rattle.frames.specs.Scanning.{nothing-read};
 ghost use Rattle.frames.specs.Streams.{is-number, is-resumable, is-whole, feed-answer, feed-state, feed-buffer};
 ghost use Rattle.frames.specs.Answers.{fed-says};
@@ -63,11 +61,16 @@ fn is_number(code: u32) -> bool
 fn is_resumable(st: Scan) -> bool
     ensures { λ r. ⌜ r ≡ is-resumable st ⌝ }
 {
-    let known = crate::valid::is_valid(st);
-    let number = is_number(st.code);
-    known
-        & ((st.at <= limits::HELD)
-            & ((st.phase < Scan::HEART_BEAT_READ) | ((st.phase == Scan::REFUSED) & number)))
+    if !crate::valid::is_valid(st) {
+        return false;
+    }
+    if limits::HELD < st.at {
+        return false;
+    }
+    if st.phase < Scan::HEART_BEAT_READ {
+        return true;
+    }
+    (st.phase == Scan::REFUSED) & is_number(st.code)
 }
 
 // The state itself, or that before the first octet where it has a whole item.
@@ -84,19 +87,6 @@ fn least(a: usize, b: usize) -> usize
     ensures { λ r. ⌜ r ≡ min a b ⌝ }
 {
     if a < b { a } else { b }
-}
-
-// The first n octets of s, copied to d from a place on.
-pub(crate) fn copy(d: &mut [u8], at: usize, s: &[u8], n: usize)
-    requires { ⌜ (at + n ≤ length (now d)) × (n ≤ length (now s)) ⌝ }
-    ensures { λ _. ⌜ now (d .exit) ≡ paste (now (d .entry)) at (now (s .entry)) n ⌝ }
-{
-    let mut i = 0usize;
-    while i < n {
-        let j = at + i;
-        d[j] = s[i];
-        i += 1;
-    }
 }
 
 // One piece: the reply to the octets of the item so far, those that the buffer's front has and the piece; the piece is taken up to the
@@ -122,11 +112,11 @@ pub fn feed(parser: StreamParser, buffer: &mut [u8], piece: &[u8]) -> Step
             parser,
         };
     }
-    let next = crate::run::run(piece, 0, st);
+    let next = crate::run::run_on(piece, st);
     let at = st.at;
     let octets = next.at - at;
     let n = least(octets, buffer.len() - at);
-    copy(buffer, at, piece, n);
+    headers::copy(buffer, at, &piece[0..n]);
     let reply = crate::parse::reply(next);
     let scan = next_item(next);
     Step {

@@ -20,13 +20,14 @@ fn wide(x: u8) -> usize
     x as usize
 }
 
-// A number in two octets, high first.
+// A number in two octets, high first. The sum is such that each octet is read by itself: a record that was just written, octet by
+// octet, is not read back sooner than it is in memory if two are read at once.
 fn pair_at(r: &[u8], i: usize) -> usize
     requires { ⌜ i + 1 < length (now r) ⌝ }
     ensures { λ v. ⌜ v ≡ pair-at (now (r .entry)) i ⌝ }
 {
     let j = i + 1;
-    wide(r[i]) * 256 + wide(r[j])
+    wide(r[i]) * 255 + (wide(r[i]) + wide(r[j]))
 }
 
 // Whether octets are a record.
@@ -111,7 +112,7 @@ fn write_record(r: &mut [u8], st: Scan)
         0,
         0,
     ];
-    crate::stream::copy(r, 0, &octets, 16);
+    headers::copy(r, 0, &octets);
 }
 
 // An item and the octets taken in one number.

@@ -115,17 +115,21 @@ fn is_word(st: Scan) -> bool
     is_reached(st.command, st.at)
 }
 
-// Whether the word and the body so far are some that a run can have.
+// Whether the word and the body so far are some that a run can have: what a phase asks is tested there alone.
 fn is_so_far(st: Scan) -> bool
     ensures { λ r. ⌜ r ≡ is-so-far st ⌝ }
 {
     let phase = st.phase;
-    let word = is_word(st);
-    let most = crate::word::most_of(st.command);
-    ((phase != Scan::START) | ((st.command == 0) & (st.at == 0)))
-        & word
-        & ((phase != Scan::IN_BODY) | (st.len <= most))
-        & ((phase != Scan::IN_COUNTED) | (st.len <= st.size))
+    if phase == Scan::IN_BODY {
+        return st.len <= crate::word::most_of(st.command);
+    }
+    if phase == Scan::IN_COUNTED {
+        return st.len <= st.size;
+    }
+    if phase == Scan::START {
+        return (st.command == 0) & (st.at == 0);
+    }
+    is_word(st)
 }
 
 // Whether what a phase does not use is 0.
@@ -133,10 +137,16 @@ fn is_clean(st: Scan) -> bool
     ensures { λ r. ⌜ r ≡ is-clean st ⌝ }
 {
     let phase = st.phase;
-    (!(phase < Scan::LINE_START) | (st.lines == 0))
-        & (!(phase < Scan::REFUSED) | (st.code == 0))
-        & (!(Scan::NAME_ESCAPE < phase) | (st.matched == 0))
-        & (st.sized | ((phase == Scan::IN_LENGTH) | (st.size == 0)))
+    if (phase < Scan::LINE_START) & (st.lines != 0) {
+        return false;
+    }
+    if (phase < Scan::REFUSED) & (st.code != 0) {
+        return false;
+    }
+    if (Scan::NAME_ESCAPE < phase) & (st.matched != 0) {
+        return false;
+    }
+    (st.sized | ((phase == Scan::IN_LENGTH) | (st.size == 0)))
         & ((phase != Scan::IN_BODY) | !st.sized)
 }
 
@@ -144,5 +154,11 @@ fn is_clean(st: Scan) -> bool
 pub(crate) fn is_valid(st: Scan) -> bool
     ensures { λ r. ⌜ (r ≡ true → Valid st) × (Valid st → r ≡ true) ⌝ }
 {
-    is_small(st) & is_so_far(st) & is_clean(st)
+    if !is_small(st) {
+        return false;
+    }
+    if !is_so_far(st) {
+        return false;
+    }
+    is_clean(st)
 }

@@ -8,6 +8,7 @@ use mathlib.Core.List.{List, _++_, append-assoc}
 use mathlib.Core.Path.{_≡_, ap, sym, _∙_}
 use mathlib.Core.Bool.{true, false, cond}
 use lib.Dec.{leb}
+use borrow.Author.Tests.{le-leb}
 use lib.ListN.{length, take, drop, length-drop}
 use lib.Seq.{paste, paste-zero, take-paste, drop-paste, take-add, take-take, drop-drop, take-append-le, take-append-add, length-take-le, length-paste-head, length-paste}
 use native.Mathlib.Omega.{arith}
@@ -93,3 +94,10 @@ module _ (d : List ℕ) (at : ℕ) (s : List ℕ) where
 
   pub copied-all : leb (at + length s) (length d) ≡ true → copied d at s ≡ paste d at s (length s)
   copied-all h = ap (λ t. cond t (paste d at s (length s)) d) h
+
+-- a copy of the first n octets of s
+pub copied-front : (d : List ℕ) (at : ℕ) (s : List ℕ) (n : ℕ) → n ≤ length s → at + n ≤ length d → copied d at (take n s) ≡ paste d at s n
+copied-front d at s n short fits =
+    let long : length (take n s) ≡ n = length-take-le n s short in
+    copied-all d at (take n s) (le-leb (at + length (take n s)) (length d) (omega (arith, long)))
+    ∙ ap (paste d at (take n s)) long ∙ ap (λ z. take at d ++ z ++ drop (at + n) d) (take-take n n s (omega arith))

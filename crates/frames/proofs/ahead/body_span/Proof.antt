@@ -1,63 +1,62 @@
--- `ahead::body_span` meets its contract: what is passed, and the span of what is left, are the span.
-use Rattle.frames.specs.Scanning.{span, not-zero}
-use Rattle.frames.proofs.Gliding.{span-more, span-stop, span-end}
-use borrow.Author.Needs.{needs}
-use Prim.Native.Nat.{_≤_, _-_, _+_}
+-- `ahead::body_span` meets its contract: whole blocks, and what is left after them.
+use Prim.Native.Nat.{ℕ, _≤_, _<_, _-_, _+_, _*_}
 use native.Mathlib.Omega.{arith}
-use lib.ListN.{length, drop}
-use mathlib.Core.Bool.{not}
-use borrow.Author.Tests.{eq-eqb, ne-eqb}
-use mathlib.Core.Path.{_≡_, _∙_, ap}
+use lib.ListN.{length}
+use mathlib.Core.Path.{_≡_, sym, _∙_}
+use Rattle.frames.specs.Scanning.{not-zero}
+use Rattle.frames.proofs.Gliding.{span-tail}
+use borrow.Author.Needs.{needs}
 use Rattle.frames.proofs.ahead.body_span.Statement.{statement}
 use Rattle.frames.proofs.ahead.body_span.Tie as tie
 
-abbrev Inv-loop : tie.InvT-loop
-Inv-loop s far i₀ i = (i ≤ length s) × (i + span not-zero (drop i s) ≡ span not-zero s)
+clear-rest-requires : tie.Need-clear-rest-requires
+clear-rest-requires c κs = search needs
 
-abbrev μ-loop : tie.MeasureT-loop
-μ-loop s far i₀ i = length s - i
+returns : tie.Need-returns
+returns c = search needs
 
-clear-blocks-requires : tie.Need-clear-blocks-requires Inv-loop μ-loop
+clear-blocks-requires : tie.Need-clear-blocks-requires
 clear-blocks-requires c κs = search needs
 
-clear-blocks-requires-2 : tie.Need-clear-blocks-requires-2 Inv-loop μ-loop
-clear-blocks-requires-2 c κs = search needs
+sub-e : tie.Need-sub-e
+sub-e c = search needs
 
-loop-holds : tie.Need-loop-holds Inv-loop μ-loop
-loop-holds c = search needs
+sub-is-clear : tie.Need-sub-is-clear
+sub-is-clear c = search needs
 
-shared-slice-read-if1 : tie.Need-shared-slice-read-if1 Inv-loop μ-loop
-shared-slice-read-if1 c = search needs
+part-is-clear-start : tie.Need-part-is-clear-start
+part-is-clear-start c = search needs
 
-returns : tie.Need-returns Inv-loop μ-loop
-returns c = span-stop not-zero _ _ (c .before .before .loop-test .taken) (ap not (eq-eqb _ _ (c .if1 .taken))) ∙ c .before .before .before .loop .inv .1
+part-is-clear-end : tie.Need-part-is-clear-end
+part-is-clear-end c = search needs
 
-add-i : tie.Need-add-i Inv-loop μ-loop
-add-i c = search needs
+is-clear-requires : tie.Need-is-clear-requires
+is-clear-requires c κs = search needs
 
-loop-less : tie.Need-loop-less Inv-loop μ-loop
-loop-less c = search needs
+returns-2 : tie.Need-returns-2
+returns-2 c =
+    let s = c .before .before .before .before .before .before .before .args .s .now in
+    let far = c .before .before .before .before .clear-blocks in
+    sym (span-tail not-zero s (far .result) _ (c .before .before .before .if2 .taken) (far .ensures .0) (sym (c .before .is-clear .ensures) ∙ c .if3 .taken)) ∙ far .ensures .1 ∙ omega arith
 
-loop-again : tie.Need-loop-again Inv-loop μ-loop
-loop-again c =
-    let l = c .before .before .before .loop in
-    (omega arith, span-more not-zero _ _ (c .before .before .loop-test .taken) (ap not (ne-eqb _ _ (c .if1 .left))) ∙ l .inv .1)
+clear-rest-requires-2 : tie.Need-clear-rest-requires-2
+clear-rest-requires-2 c κs = search needs
 
-returns-2 : tie.Need-returns-2 Inv-loop μ-loop
-returns-2 c = span-end not-zero _ _ (c .loop-test .left) ∙ c .before .loop .inv .1
+returns-3 : tie.Need-returns-3
+returns-3 c = search needs
 
 pub body-span-spec : {M : Type 1} → statement M
 body-span-spec =
     tie.close
     (tie.spec
-    Inv-loop
-    μ-loop
-    clear-blocks-requires
-    clear-blocks-requires-2
-    loop-holds
-    shared-slice-read-if1
+    clear-rest-requires
     returns
-    add-i
-    loop-less
-    loop-again
-    returns-2)
+    clear-blocks-requires
+    sub-e
+    sub-is-clear
+    part-is-clear-start
+    part-is-clear-end
+    is-clear-requires
+    returns-2
+    clear-rest-requires-2
+    returns-3)
