@@ -34,6 +34,14 @@ paste-block d at s i j w ji iw ws fits =
     ∙ ap (λ z. z ++ drop (at + j + w) X) (append-assoc (take at d) (take j s) (take w (drop j s)) ∙ ap (λ z. take at d ++ z) (sym (take-add j w s)))
     ∙ ap (λ z. take at d ++ take (j + w) s ++ z) back
 
+-- the same octets once more, and those after them
+pub paste-again : (d : List ℕ) (at : ℕ) (s : List ℕ) (k n : ℕ) → k ≤ n → n ≤ length s → at + length s ≤ length d
+    → paste (paste d at s k) at s n ≡ paste d at s n
+paste-again d at s k n kn ns fits =
+    let here : at ≡ at + 0 = omega arith in
+    let none : 0 + n ≡ n = omega arith in
+    ap (λ a. paste (paste d at s k) a s n) here ∙ paste-block d at s k 0 n (omega arith) (omega arith) (omega arith) fits ∙ ap (paste d at s) none
+
 -- w octets of s from place i on, by way of a row of w octets
 pub paste-through : (d s z block after : List ℕ) (at i w e : ℕ) → length z ≡ w → e ≡ i + w → i + w ≤ length s
     → block ≡ paste z 0 (take (e - i) (drop i s)) (length (take (e - i) (drop i s))) → after ≡ paste d (at + i) block (length block)
@@ -62,6 +70,10 @@ module _ (w : ℕ) (d₀ : List ℕ) (at : ℕ) (s : List ℕ) (fits : at + leng
   -- before the first block
   pub upto-none : Upto w d₀ at s d₀ 0
   upto-none = record { done = 0; onward = omega arith; near = omega arith; most = omega arith; is = paste-zero d₀ at s }
+
+  -- where a block is copied already
+  pub upto-again : (i : ℕ) → w ≤ length s → i ≤ w → d₀ ≡ paste d₀ at s w → Upto w d₀ at s d₀ i
+  upto-again i long early is = record { done = w; onward = early; near = omega arith; most = long; is = is }
 
   pub upto-long : (d : List ℕ) (i : ℕ) → Upto w d₀ at s d i → length d ≡ length d₀
   upto-long d i u = ap length (u .is) ∙ length-paste d₀ at s (u .done) (omega (arith, u .most)) (u .most)

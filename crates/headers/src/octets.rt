@@ -80,20 +80,32 @@ fn put_4(d: &mut [u8], at: usize, s: &[u8], i: usize)
     put_octets(d, at + i, &block);
 }
 
-// The octets of s, copied by blocks; the last ends with s, over octets that are copied already. After the first block the others
-// begin at multiples of 128 in d: stores to such places are quicker.
-fn put_blocks_128(d: &mut [u8], at: usize, s: &[u8])
-    requires { ⌜ (128 ≤ length (now s)) × (at + length (now s) ≤ length (now d)) ⌝ }
+// The octets of s, copied by blocks from place from on, where a block of them is copied already; the last block ends with s.
+fn put_rest_128(d: &mut [u8], at: usize, s: &[u8], from: usize)
+    requires { ⌜
+        (128 ≤ length (now s)) × (at + length (now s) ≤ length (now d)) × (from ≤ 128)
+        × (now d ≡ paste (now d) at (now s) 128)
+        ⌝ }
     ensures { λ _. ⌜ now (d .exit) ≡ paste (now (d .entry)) at (now (s .entry)) (length (now (s .entry))) ⌝ }
 {
-    let mut i = 0usize;
+    let mut i = from;
     while 128 <= s.len() - i {
         put_128(d, at, s, i);
-        i += 128 - (at + i) % 128;
+        i += 128;
     }
     put_128(d, at, s, s.len() - 128);
 }
 
+// The octets of s, copied by blocks. After the first the others begin at multiples of 128 in d, since stores to such places are quicker.
+fn put_blocks_128(d: &mut [u8], at: usize, s: &[u8])
+    requires { ⌜ (128 ≤ length (now s)) × (at + length (now s) ≤ length (now d)) ⌝ }
+    ensures { λ _. ⌜ now (d .exit) ≡ paste (now (d .entry)) at (now (s .entry)) (length (now (s .entry))) ⌝ }
+{
+    put_128(d, at, s, 0);
+    put_rest_128(d, at, s, 128 - at % 128);
+}
+
+// The same by smaller blocks; here too the last ends with s, over octets that are copied already.
 fn put_blocks_16(d: &mut [u8], at: usize, s: &[u8])
     requires { ⌜ (16 ≤ length (now s)) × (at + length (now s) ≤ length (now d)) ⌝ }
     ensures { λ _. ⌜ now (d .exit) ≡ paste (now (d .entry)) at (now (s .entry)) (length (now (s .entry))) ⌝ }
