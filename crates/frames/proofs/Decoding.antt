@@ -1,12 +1,14 @@
 -- Decoding, line by line: the places of a line's parts, what is left to decode behind it, and what decode replies. Assumes nothing.
 --     on-drop, stop-place, on-behind, line-cut     the places that the code computes
+--     back-..                                      one search for the end of a text and for a backslash in it
 --     Parted, entries-left, left-all, left-none    the entries of the lines that are left to decode
 --     Adds, adds                                   what the next line adds to the measure
 --     Written, Asked, asked                        its record, written into the part of the block that is left
 --     not-complete, few-lines                      what decode learns from parse
 --     decodes-none, Settled, settled               what decode replies, and what it leaves in the block
-use mathlib.Core.Path.{_≡_, refl, sym, _∙_, ap, ap₂}
-use mathlib.Core.Bool.{Bool, true, false, _||_}
+use mathlib.Core.Path.{_≡_, refl, sym, _∙_, ap, ap₂, subst}
+use mathlib.Core.Bool.{Bool, true, false, _||_, not}
+use mathlib.Core.Logic.{⊎-elim}
 use mathlib.Core.Option.{Option, none, some}
 use mathlib.Core.List.{List, [], _∷_, _++_}
 use Prim.Native.Nat.{ℕ, suc, _+_, _-_, _≤_, _<_}
@@ -14,10 +16,10 @@ use native.Mathlib.Omega.{arith}
 use native.Mathlib.Nat.{add-zero}
 use lib.ListN.{length, take, drop, getD, length-append, length-take, length-drop, drop-of-length-le, List·getD-eq-default}
 use lib.Seq.{take-all, drop-drop, getD-drop}
-use lib.Dec.{leb, ltb}
-use borrow.Author.Tests.{leb-true, leb-false, ltb-false, lt-ltb, le-ltb, eq-eqb, ne-eqb}
+use lib.Dec.{eqb, leb, ltb}
+use borrow.Author.Tests.{not-true, not-false, eqb-true, leb-true, leb-false, ltb-false, lt-ltb, le-ltb, eq-eqb, ne-eqb}
 use borrow.Rule.Slice.PartMut.{midOf, putMid}
-use Rattle.headers.specs.Rows.{any}
+use Rattle.headers.specs.Rows.{any, every}
 use Rattle.headers.specs.Escapes.{decode}
 use Rattle.headers.specs.Block.{Entry, image}
 use Rattle.headers.specs.Lines.{decoded-entry}
@@ -37,8 +39,9 @@ use Rattle.frames.specs.Grammar.{Version, v1-2, frame}
 use Rattle.frames.specs.Layout.{stop-span, end-width, behind-end, front-name, behind-colon, front-value, at-end, behind-line, front-lines, behind-word}
 use Rattle.frames.specs.Decoding.{line-entries, too-long, decode-answer, head-entries, Decodes}
 use Rattle.frames.specs.Answers.{parsed-says}
-use Rattle.frames.specs.Scanning.{plain-in, style-of}
-use Rattle.frames.proofs.Gliding.{span-le}
+use Rattle.headers.specs.Stretches.{span, plain-in, not-back}
+use Rattle.frames.specs.Scanning.{style-of}
+use Rattle.headers.proofs.Stretches.{span-rest, span-inside, span-clear, span-ends, span-stop, span-end}
 use Rattle.frames.proofs.Heads.{frame-lines, block-long, none-too-long}
 use Rattle.frames.proofs.Readings.{Other, OneFrame, NoFrame}
 
@@ -57,10 +60,61 @@ on-drop xs i k r f g = by (leb (i + k) (length xs)) refl ∙ sym (drop-drop k i 
 -- the first 10, 13 or colon of what stands from i on
 pub stop-place : (colon : ℕ) (xs : List ℕ) (i k : ℕ) → i ≤ length xs → k ≡ stop-span colon (take (length xs - i) (drop i xs))
     → (i + k ≡ i + stop-span colon (drop i xs)) × (i + k ≤ length xs)
-stop-place colon xs i k h e =
-    let long = length-drop i xs in
-    let is : k ≡ stop-span colon (drop i xs) = e ∙ ap (stop-span colon) (take-all (length xs - i) (drop i xs) (omega arith)) in
-    (ap (i +_) is, omega (arith, span-le (plain-in (record { colon = colon; back = 10 })) (drop i xs)))
+stop-place colon xs i k h e = span-rest (plain-in (record { colon = colon; back = 10 })) xs i h e
+
+-- the octets before a backslash too
+module _ (colon : ℕ) where
+  abbrev pub strict : ℕ → Bool
+  strict x = plain-in (record { colon = colon; back = 92 }) x
+
+  abbrev pub loose : ℕ → Bool
+  loose x = plain-in (record { colon = colon; back = 10 }) x
+
+  strict-loose : (x : ℕ) → strict x ≡ true → loose x ≡ true
+  strict-loose x h =
+      let others = or-false-left (eqb x 10 || eqb x 13 || eqb x colon) (eqb x 92) (not-true _ h) in
+      let ends = or-false-left (eqb x 10 || eqb x 13) (eqb x colon) others in
+      ap not (ap (_|| eqb x 10) others ∙ or-false-left (eqb x 10) (eqb x 13) ends)
+
+  strict-clear : (x : ℕ) → strict x ≡ true → not-back x ≡ true
+  strict-clear x h = rw (or-false-right (eqb x 10 || eqb x 13 || eqb x colon) (eqb x 92) (not-true _ h)) refl
+
+  -- an octet that ends the search and is no backslash ends the text
+  loose-end : (x : ℕ) → strict x ≡ false → (x ≡ 92 → ⊥) → loose x ≡ false
+  loose-end x h n = by (eqb x 10 || eqb x 13 || eqb x colon) (not-false _ h)
+    where
+      by : (t : Bool) → t || eqb x 92 ≡ true → not (t || eqb x 10) ≡ false
+      by true e = refl
+      by false e = absurd (n (eqb-true x 92 e))
+
+  module _ (xs : List ℕ) (i k : ℕ) (h : i ≤ length xs) (e : k ≡ span strict (take (length xs - i) (drop i xs))) where
+    found : (i + k ≡ i + span strict (drop i xs)) × (i + k ≤ length xs)
+    found = span-rest strict xs i h e
+
+    is : span strict (drop i xs) ≡ k
+    is = omega (arith, found .0)
+
+    pub back-inside : i + k ≤ length xs
+    back-inside = found .1
+
+    pub back-clear : every not-back (take k (drop i xs)) ≡ true
+    back-clear = subst (λ n. every not-back (take n (drop i xs)) ≡ true) is (span-clear strict not-back strict-clear (drop i xs))
+
+    -- the end of the text, searched for from there
+    pub back-more : i + k + stop-span colon (drop (i + k) xs) ≡ i + stop-span colon (drop i xs)
+    back-more =
+        let there : drop (span strict (drop i xs)) (drop i xs) ≡ drop (i + k) xs = drop-drop (span strict (drop i xs)) i xs ∙ ap (λ n. drop n xs) (sym (found .0)) in
+        omega (arith, is, span-inside strict loose strict-loose (drop i xs), ap (span loose) there)
+
+    pub back-past : length xs ≤ i + k → i + k ≡ i + stop-span colon (drop i xs)
+    back-past l = span-end loose xs (i + k) l ∙ back-more
+
+    pub back-none : i + k < length xs → (getD xs (i + k) 0 ≡ 92 → ⊥) → i + k ≡ i + stop-span colon (drop i xs)
+    back-none l n =
+        let at : getD (drop i xs) (span strict (drop i xs)) 0 ≡ getD xs (i + k) 0 = ap (λ m. getD (drop i xs) m 0) is ∙ getD-drop i xs k 0 in
+        let ends : strict (getD xs (i + k) 0) ≡ false =
+        ⊎-elim (λ w. absurd (omega (arith, w, is, length-drop i xs, l))) (λ w. ap strict (sym at) ∙ w) (span-ends strict (drop i xs)) in
+        span-stop loose xs (i + k) l (loose-end (getD xs (i + k) 0) ends n) ∙ back-more
 
 -- behind the line end at i, which has two octets where it begins with 13
 module _ (xs : List ℕ) (i : ℕ) where
@@ -93,9 +147,10 @@ pub line-cut : (xs : List ℕ) (i colon value end next : ℕ) → colon ≡ i + 
     → (take (colon - i) (drop i xs) ≡ front-name (drop i xs))
     × (take (end - value) (drop value xs) ≡ front-value (drop i xs))
     × (drop next xs ≡ behind-line (drop i xs))
+    × (drop value xs ≡ behind-colon (drop i xs))
 line-cut xs i colon value end next first on second behind =
     let past : drop value xs ≡ behind-colon (drop i xs) = on ∙ ap (drop 1) (cut-end 58 xs i colon first) ∙ drop-drop 1 (stop-span 58 (drop i xs)) (drop i xs) in
-    (cut-name 58 xs i colon first, cut-name 10 xs value end second ∙ ap (λ z. take (stop-span 10 z) z) past, behind ∙ ap behind-end (cut-end 10 xs value end second ∙ ap at-end past))
+    (cut-name 58 xs i colon first, cut-name 10 xs value end second ∙ ap (λ z. take (stop-span 10 z) z) past, behind ∙ ap behind-end (cut-end 10 xs value end second ∙ ap at-end past), past)
 
 -- ---- The lines that are left
 
@@ -106,6 +161,7 @@ Parted xs i l =
     × (take (l .colon - i) (drop i xs) ≡ front-name (drop i xs))
     × (take (l .end - l .value) (drop (l .value) xs) ≡ front-value (drop i xs))
     × (drop (l .next) xs ≡ behind-line (drop i xs))
+    × (l .plain ≡ true → (every not-back (front-name (drop i xs)) ≡ true) × (every not-back (front-value (drop i xs)) ≡ true))
 
 module _ (style : Style) (xs : List ℕ) (n : ℕ) where
   -- their entries, where i of n lines are passed and the next is at a place

@@ -18,116 +18,14 @@ use Rattle.headers.specs.Lines.{line-max}
 use Rattle.headers.specs.declared.text.Style.{Style}
 use Rattle.headers.specs.declared.text.Field.{Field}
 use Rattle.headers.specs.declared.text.Field.the-variants.{Name as in-name, Value as in-value}
-use Rattle.headers.proofs.Rows.{cond-case, and-left, and-right, and-no, and-yes, or-false-left, or-false-right, every-step, every-end, every-drop}
+use Rattle.headers.proofs.Stretches.{part-long, span-le, span-part}
+use Rattle.headers.proofs.Rows.{cond-case, and-left, and-right, and-no, and-yes, or-false-left, or-false-right, every-step, every-end}
 use Rattle.frames.specs.declared.state.Scan.{Scan}
-use Rattle.frames.specs.declared.ahead.Stops.{Stops}
-use Rattle.frames.specs.Scanning.{style-of, most-of, in-line, on-value, on-name, on-body, on-counted, scan-step, scan, len-max, Valid, span, text-stops, plain-in, not-zero, skip, Ahead}
+use Rattle.headers.specs.declared.plain.Stops.{Stops}
+use Rattle.headers.specs.Stretches.{span, plain-in}
+use Rattle.frames.specs.Scanning.{style-of, most-of, in-line, on-value, on-name, on-body, on-counted, scan-step, scan, len-max, Valid, text-stops, not-zero, skip, Ahead}
 use Rattle.frames.proofs.Steps.{read-open, is-lettered}
 use Rattle.frames.proofs.Validity.{most-small}
-
--- ---- The front of a row that passes a test
-
--- a part's length
-part-long : (l : List ℕ) (i e : ℕ) → i ≤ e → e ≤ length l → length (take (e - i) (drop i l)) ≡ e - i
-part-long l i e ie el = simp (length-take, length-drop) (omega arith)
-
-module _ (p : ℕ → Bool) where
-  span-every : (xs ys : List ℕ) → every p xs ≡ true → span p (xs ++ ys) ≡ length xs + span p ys
-  unfolding span
-  span-every [] ys h = omega arith
-  span-every (x ∷ xs) ys h = rw (and-left (p x) (every p xs) h) (omega (arith, span-every xs ys (and-right (p x) (every p xs) h)))
-
-  -- a front that ends within a row, and one that is all of it
-  span-within : (xs ys : List ℕ) → span p xs < length xs → span p (xs ++ ys) ≡ span p xs
-  unfolding span
-  span-within [] ys h = absurd (omega arith)
-  span-within (x ∷ xs) ys h = by (p x) refl (span-within xs ys)
-    where
-      by : (t : Bool) → p x ≡ t → (span p xs < length xs → span p (xs ++ ys) ≡ span p xs) → span p (x ∷ (xs ++ ys)) ≡ span p (x ∷ xs)
-      by true e r = rw e (ap (λ n. 1 + n) (r (omega (arith, rw e at h))))
-      by false e r = rw e
-
-  span-full : (xs : List ℕ) → span p xs ≡ length xs → every p xs ≡ true
-  unfolding span
-  span-full [] h = refl
-  span-full (x ∷ xs) h = by (p x) refl (span-full xs)
-    where
-      by : (t : Bool) → p x ≡ t → (span p xs ≡ length xs → every p xs ≡ true) → every p (x ∷ xs) ≡ true
-      by true e r = rw e (r (omega (arith, rw e at h)))
-      by false e r = absurd (omega (arith, rw e at h))
-
-  pub span-le : (xs : List ℕ) → span p xs ≤ length xs
-  unfolding span
-  span-le [] = omega arith
-  span-le (x ∷ xs) = cond-case (λ n. n ≤ length (x ∷ xs)) (p x) (λ h. omega (arith, span-le xs)) (λ h. omega arith)
-
--- read off a row at a place
-module _ (p : ℕ → Bool) (s : List ℕ) (i : ℕ) where
-  pub every-more : (ok : Bool) → i < length s → (ok && p (getD s i 0)) && every p (drop (i + 1) s) ≡ ok && every p (drop i s)
-  every-more ok h = and-assoc ok _ _ ∙ ap (λ t. ok && t) (sym (every-step p s i h))
-
-  pub every-done : (ok : Bool) → length s ≤ i → ok && every p (drop i s) ≡ ok
-  every-done ok h = ap (λ t. ok && t) (every-end p s i h) ∙ and-true ok
-
-  pub span-block : (e : ℕ) → i ≤ e → e ≤ length s → every p (take (e - i) (drop i s)) ≡ true → e + span p (drop e s) ≡ i + span p (drop i s)
-  span-block e ie h t =
-      let long = part-long s i e ie h in
-      let q = ap (span p) (sym (take-append-drop (e - i) (drop i s))) ∙ span-every p (take (e - i) (drop i s)) (drop (e - i) (drop i s)) t in
-      let sum : i + (e - i) ≡ e = omega arith in
-      let r = ap (span p) (drop-drop (e - i) i s ∙ ap (λ n. drop n s) sum) in
-      omega arith
-
-  -- a block's front, of k octets: the row's, or all of the block
-  module _ (e : ℕ) {k : ℕ} (ie : i ≤ e) (h : e ≤ length s) (is : k ≡ span p (take (e - i) (drop i s))) where
-    pub block-stop : k < e - i → i + k ≡ i + span p (drop i s)
-    block-stop l =
-        let long = part-long s i e ie h in
-        let q = ap (span p) (sym (take-append-drop (e - i) (drop i s))) ∙ span-within p (take (e - i) (drop i s)) (drop (e - i) (drop i s)) (omega arith) in
-        omega arith
-
-    pub block-more : k ≡ e - i → i + k + span p (drop (i + k) s) ≡ i + span p (drop i s)
-    block-more l =
-        let at : e ≡ i + k = omega arith in
-        rw (← at) (span-block e ie h (span-full p (take (e - i) (drop i s)) (omega (arith, part-long s i e ie h))))
-
-  -- r octets on in the rest of the row
-  pub span-on : {r : ℕ} → i ≤ length s → let rest = take (length s - i) (drop i s) in (r ≤ length rest) × (r + span p (drop r rest) ≡ span p rest)
-      → (i + r ≤ length s) × (i + r + span p (drop (i + r) s) ≡ i + span p (drop i s))
-  span-on {r} h q =
-      let all : take (length s - i) (drop i s) ≡ drop i s = take-all (length s - i) (drop i s) (simp length-drop (omega arith)) in
-      let (short, e) = rw all at q in
-      (omega (arith, length-drop i s), omega (arith, ap (span p) (drop-drop r i s)))
-
-  pub span-more : i < length s → p (getD s i 0) ≡ true → i + 1 + span p (drop (i + 1) s) ≡ i + span p (drop i s)
-  unfolding span
-  span-more h e = rw (add-one, drop-cons s i 0 h, e) (omega arith)
-
-  pub span-stop : i < length s → p (getD s i 0) ≡ false → i ≡ i + span p (drop i s)
-  unfolding span
-  span-stop h e = rw (drop-cons s i 0 h, e) (omega arith)
-
-  pub span-end : length s ≤ i → i ≡ i + span p (drop i s)
-  unfolding span
-  span-end h = rw (drop-of-length-le s h) (omega arith)
-
--- the first octet of a row that fails the test is at k, before i; or none before i does, and k is the row's length
-abbrev pub FirstStop : (ℕ → Bool) → List ℕ → ℕ → ℕ → Type 0
-FirstStop p s k i = (i ≤ length s) × (((k < i) × (k ≡ span p s)) ⊎ ((k ≡ length s) × (i + span p (drop i s) ≡ span p s)))
-
-module _ (p : ℕ → Bool) (s : List ℕ) (i : ℕ) {k : ℕ} where
-  -- one place more: the octet there passes, or fails
-  module _ (h : i < length s) {c k′ : ℕ} (m : k′ ≡ min c k) where
-    pub first-on : p (getD s i 0) ≡ true → c ≡ length s → FirstStop p s k i → FirstStop p s k′ (i + 1)
-    first-on t e (l, inl (a, b)) = (omega arith, inl (omega arith))
-    first-on t e (l, inr (a, b)) = (omega arith, inr (omega arith, span-more p s i h t ∙ b))
-
-    pub first-here : p (getD s i 0) ≡ false → c ≡ i → FirstStop p s k i → FirstStop p s k′ (i + 1)
-    first-here t e (l, inl (a, b)) = (omega arith, inl (omega arith))
-    first-here t e (l, inr (a, b)) = (omega arith, inl (omega (arith, span-stop p s i h t)))
-
-  pub first-end : length s ≤ i → FirstStop p s k i → k ≡ span p s
-  first-end h (l, inl (a, b)) = b
-  first-end h (l, inr (a, b)) = omega (arith, span-end p s i h)
 
 -- ---- Numbers of a state fit
 
@@ -307,20 +205,6 @@ ahead-then st l i k m a b =
       kept = subst Valid same (b .kept);
       same-end = a .same-end ∙ b .same-end ∙ ap (λ z. scan z (drop (i + k + m) l)) same ∙ ap (λ n. scan (skip (k + m) st) (drop n l)) (add-assoc i k m);
     }
-
--- where all octets from e on pass the test, so do those from i on, which is not before e
-pub span-tail : (p : ℕ → Bool) (s : List ℕ) (i e : ℕ) → e ≤ i → i ≤ length s → every p (take (length s - e) (drop e s)) ≡ true → i + span p (drop i s) ≡ length s
-unfolding span
-span-tail p s i e ei is h =
-    let far : e + (i - e) ≡ i = omega arith in
-    let all : take (length s - e) (drop e s) ≡ drop e s = take-all (length s - e) (drop e s) (simp length-drop (omega arith)) in
-    let on : every p (drop i s) ≡ true =
-    ap (λ k. every p (drop k s)) (sym far) ∙ ap (every p) (sym (drop-drop (i - e) e s)) ∙ every-drop p (i - e) (drop e s) (ap (every p) (sym all) ∙ h) in
-    let passed = span-every p (drop i s) [] on in
-    omega (arith, passed, ap (span p) (append-nil (drop i s)), length-drop i s)
-
-pub span-part : (p : ℕ → Bool) (l : List ℕ) (i e k : ℕ) → i ≤ e → e ≤ length l → k ≡ span p (take (e - i) (drop i l)) → i + k ≤ e
-span-part p l i e k ie el is = omega (arith, part-long l i e ie el, span-le p (take (e - i) (drop i l)))
 
 -- a value in which e is no further than its line may go takes the octets from i to j
 abbrev pub Takes : Style → List ℕ → ℕ → ℕ → ℕ → Type 0

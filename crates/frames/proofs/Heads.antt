@@ -24,7 +24,7 @@ use Rattle.headers.proofs.Coding.{decode-short}
 use Rattle.headers.proofs.Blocks.{length-image}
 use Rattle.headers.proofs.Finding.{Finds, find-finds}
 use Rattle.frames.specs.Grammar.{Version, Command, word, style, end, Line, line, lines, LineOk, Head, HeadOk, frame, octets, Valid}
-use Rattle.frames.specs.Scanning.{span, plain-in}
+use Rattle.headers.specs.Stretches.{span, plain-in}
 use Rattle.frames.specs.Layout.{stop-span, behind-end, front-name, behind-colon, front-value, at-end, behind-line, front-line, front-lines, behind-word}
 use Rattle.frames.specs.Decoding.{line-entry, line-entries, too-long, head-entries}
 use Rattle.frames.proofs.Commands.{each-test}

@@ -12,7 +12,8 @@ use Rattle.headers.specs.declared.text.Field.the-variants.{Name as in-name, Val
 use Rattle.headers.proofs.Rows.{cond-case}
 use Rattle.headers.proofs.Decimals.{digit-apart}
 use Rattle.frames.specs.declared.state.Scan.{Scan}
-use Rattle.frames.specs.Scanning.{style-of, most-of, next-command, to-phase, in-line, on-word, on-name, on-length, scan-step, scan, Valid, text-stops, plain-in, skip, Ahead, Passed}
+use Rattle.headers.specs.Stretches.{plain-in}
+use Rattle.frames.specs.Scanning.{style-of, most-of, next-command, to-phase, in-line, on-word, on-name, on-length, scan-step, scan, Valid, text-stops, skip, Ahead, Passed}
 use Rattle.frames.proofs.Upto.{upto-at}
 use Rattle.frames.proofs.Steps.{room, room-name}
 use Rattle.frames.proofs.Validity.{valid-step}

@@ -6,7 +6,7 @@ use Prim.Native.Nat.{ℕ, zero, suc, _+_}
 use lib.ListN.{take, drop, getD}
 use lib.Dec.{eqb}
 use Rattle.frames.specs.Grammar.{Line}
-use Rattle.frames.specs.Scanning.{span, plain-in}
+use Rattle.headers.specs.Stretches.{span, plain-in}
 
 -- how many octets are before the first 10, 13 or c
 abbrev pub stop-span : ℕ → List ℕ → ℕ

@@ -11,6 +11,7 @@ use Rattle.headers.specs.Rows.{same, begins}
 use Rattle.headers.specs.Text.{divides, Part, fresh, back, owes, Into, into, bad, stop, reads}
 use Rattle.headers.specs.Numbers.{is-digit, digit-value}
 use Rattle.headers.specs.Lines.{line-max, content-length}
+use Rattle.headers.specs.declared.plain.Stops.{Stops}
 use Rattle.headers.specs.declared.text.Style.{Style}
 use Rattle.headers.specs.declared.text.Field.{Field}
 use Rattle.headers.specs.declared.text.Field.the-variants.{Name as in-name, Value as in-value}
@@ -20,7 +21,6 @@ use Rattle.frames.specs.Parsing.{first}
 use Rattle.frames.specs.Refusals.{numbered, faulty, no-command, no-10, nameless, second-colon, no-colon, long-line, many-lines, bad-length, past-body}
 use Rattle.frames.specs.Replies.{Reply, Complete, Incomplete, Invalid}
 use Rattle.frames.specs.declared.state.Scan.{Scan}
-use Rattle.frames.specs.declared.ahead.Stops.{Stops}
 
 -- The phases: where the next octet stands.
 --      0 at the start                      1 after the 13 of a heart-beat
@@ -259,18 +259,9 @@ pub record Valid (st : Scan) : Type 0 where
 
 -- ---- Plain stretches at a go
 
--- how many octets at the front of a row pass a test
-unfoldable pub span : (ℕ → Bool) → List ℕ → ℕ
-span p [] = 0
-span p (x ∷ xs) = cond (p x) (1 + span p xs) 0
-
 -- what ends a stretch of header text beside 10 and 13: a colon and a backslash, or 10 again in the place of one that does not
 abbrev pub text-stops : Style → Field → Stops
 text-stops s f = record { colon = cond (divides s f) 58 10; back = cond (s .escapes) 92 10 }
-
--- the octets that such stops leave as they are
-abbrev pub plain-in : Stops → ℕ → Bool
-plain-in s x = not (eqb x 10 || eqb x 13 || eqb x (s .colon) || eqb x (s .back))
 
 abbrev pub not-zero : ℕ → Bool
 not-zero x = not (eqb x 0)

@@ -1,13 +1,14 @@
 // Decoding: the entries of a frame, as a header block.
 ghost use mathlib.Core.Path.{_≡_};
-ghost use mathlib.Core.Bool.{false};
+ghost use mathlib.Core.Bool.{true, false};
 ghost use Prim.Native.Nat.{_+_, _≤_};
 ghost use lib.Dec.{ltb};
 ghost use lib.ListN.{length, drop};
-ghost use Rattle.headers.specs.Rows.{any};
+ghost use Rattle.headers.specs.Rows.{any, every};
+ghost use Rattle.headers.specs.Stretches.{not-back};
 ghost use Rattle.headers.specs.Block.{image};
 ghost use Rattle.headers.specs.Lines.{line-max};
-ghost use Rattle.headers.specs.Answers.{Puts};
+ghost use Rattle.headers.specs.Answers.{left-in, Puts, written-record, decoded-answer, record-says};
 ghost use Rattle.frames.specs.Grammar.{v1-2};
 ghost use Rattle.frames.specs.Layout.{front-lines};
 ghost use Rattle.frames.specs.Decoding.{line-entries, too-long, Decodes};
@@ -77,6 +78,27 @@ fn measure(s: &[u8], from: usize, n: usize, style: Style) -> Measured
     Measured { total, long }
 }
 
+// The record of a line at the front of d, as write_decoded puts it: by copying where the line is known to have no backslash.
+fn write_line_record(
+    d: &mut [u8],
+    name: &[u8],
+    value: &[u8],
+    plain: bool,
+    style: Style,
+) -> RecordWritten
+    requires { ⌜ (plain ≡ true → (every not-back (now name) ≡ true) × (every not-back (now value) ≡ true)) ⌝ }
+    ensures { λ r. ⌜
+        (record-says r ≡ decoded-answer style (length (now (d .entry))) (now (name .entry)) (now (value .entry)))
+        × (now (d .exit) ≡ left-in (decoded-answer style (length (now (d .entry))) (now (name .entry)) (now (value .entry)))
+        (written-record style (now (name .entry)) (now (value .entry))) (now (d .entry)))
+        ⌝ }
+{
+    if plain {
+        return headers::write_plain(d, name, value);
+    }
+    headers::write_decoded(d, name, value, style)
+}
+
 // Those records at the front of the block: their octets. Each is written by a call that is given the part of the block that is left.
 fn put_records(s: &[u8], from: usize, n: usize, style: Style, block: &mut [u8]) -> usize
     requires { ⌜
@@ -96,10 +118,11 @@ fn put_records(s: &[u8], from: usize, n: usize, style: Style, block: &mut [u8]) 
         let colon = l.colon;
         let value = l.value;
         let end = l.end;
-        let RecordWritten::Length(k) = headers::write_decoded(
+        let RecordWritten::Length(k) = write_line_record(
             &mut block[used..],
             &s[at..colon],
             &s[value..end],
+            l.plain,
             style,
         ) else {
             return used;

@@ -1,16 +1,27 @@
 // Where the parts of a frame's head stand, read off its octets.
 ghost use mathlib.Core.Path.{_≡_};
+ghost use mathlib.Core.Bool.{true};
 ghost use Prim.Native.Nat.{_+_, _-_, _≤_, _<_};
 ghost use lib.ListN.{length, take, drop};
+ghost use Rattle.headers.specs.Rows.{every};
+ghost use Rattle.headers.specs.Stretches.{not-back};
 ghost use Rattle.frames.specs.Layout.{stop-span, behind-end, front-name, front-value, behind-line, behind-word};
-use crate::ahead::Stops;
+use headers::Stops;
 
-// The parts of a header line: its name from the line's start up to colon, its value from value up to end; next is behind its line end.
+// The parts of a header line: its name from the line's start up to colon, its value from value up to end; next is after its line end.
+// Where plain is true, neither has a backslash.
 pub struct LineAt {
     pub colon: usize,
     pub value: usize,
     pub end: usize,
     pub next: usize,
+    pub plain: bool,
+}
+
+// Where a name or a value ends. Where plain is true, it has no backslash.
+pub struct TextEnd {
+    pub at: usize,
+    pub plain: bool,
 }
 
 // k places on, or n where that is less.
@@ -26,7 +37,35 @@ fn stop_at(s: &[u8], i: usize, colon: u8) -> usize
     requires { ⌜ i ≤ length (now s) ⌝ }
     ensures { λ r. ⌜ (r ≡ i + stop-span colon (drop i (now (s .entry)))) × (r ≤ length (now (s .entry))) ⌝ }
 {
-    i + crate::ahead::plain_span(&s[i..], Stops { colon, back: 10 })
+    i + headers::plain_span(&s[i..], Stops { colon, back: 10 })
+}
+
+// The same, and whether a backslash is before it: one search finds the end of a text without one, and a text that has one is searched on.
+fn text_end(s: &[u8], i: usize, colon: u8) -> TextEnd
+    requires { ⌜ i ≤ length (now s) ⌝ }
+    ensures { λ r. ⌜
+        (r .at ≡ i + stop-span colon (drop i (now (s .entry))))
+        × (r .at ≤ length (now (s .entry)))
+        × (r .plain ≡ true → every not-back (take (stop-span colon (drop i (now (s .entry)))) (drop i (now (s .entry)))) ≡ true)
+        ⌝ }
+{
+    let stop = i + headers::plain_span(&s[i..], Stops { colon, back: 92 });
+    if s.len() <= stop {
+        return TextEnd {
+            at: stop,
+            plain: true,
+        };
+    }
+    if s[stop] == 92 {
+        return TextEnd {
+            at: stop_at(s, stop, colon),
+            plain: false,
+        };
+    }
+    TextEnd {
+        at: stop,
+        plain: true,
+    }
 }
 
 // The place behind the line end at i.
@@ -57,15 +96,18 @@ pub(crate) fn line_at(s: &[u8], i: usize) -> LineAt
         × (take (r .colon - i) (drop i (now (s .entry))) ≡ front-name (drop i (now (s .entry))))
         × (take (r .end - r .value) (drop (r .value) (now (s .entry))) ≡ front-value (drop i (now (s .entry))))
         × (drop (r .next) (now (s .entry)) ≡ behind-line (drop i (now (s .entry))))
+        × (r .plain ≡ true
+        → (every not-back (front-name (drop i (now (s .entry)))) ≡ true) × (every not-back (front-value (drop i (now (s .entry)))) ≡ true))
         ⌝ }
 {
-    let colon = stop_at(s, i, 58);
-    let value = on(colon, 1, s.len());
-    let end = stop_at(s, value, 10);
+    let name = text_end(s, i, 58);
+    let value = on(name.at, 1, s.len());
+    let text = text_end(s, value, 10);
     LineAt {
-        colon,
+        colon: name.at,
         value,
-        end,
-        next: behind_end(s, end),
+        end: text.at,
+        next: behind_end(s, text.at),
+        plain: name.plain & text.plain,
     }
 }

@@ -5,20 +5,24 @@
 --     decode-short                   decoded text is never longer than raw
 --     encode-long, encode-twice      encoded text is never shorter, and at most twice as long
 --     encode-append                  two texts are encoded one after the other
+--     decode-front, decode-stretch   octets without a backslash are decoded as themselves
+--     decode-off, encode-off         without escapes text is itself
+--     encode-same                    so is text that is as long encoded
 --     encode-text                    what can be written is raw text when encoded
 --     decode-name                    a raw name without escapes, as content-length, is its decoded one, and only it is
-use mathlib.Core.Path.{_≡_, refl, sym, _∙_, ap, ap₂}
+use mathlib.Core.Path.{_≡_, refl, sym, _∙_, ap, ap₂, subst}
 use mathlib.Core.Bool.{Bool, true, false, cond, _&&_, not}
-use mathlib.Core.List.{List, [], _∷_, _++_, append-assoc}
-use Prim.Native.Nat.{ℕ, suc, _+_, _*_, _/_, _≤_, _<_}
+use mathlib.Core.List.{List, [], _∷_, _++_, append-assoc, append-nil}
+use Prim.Native.Nat.{ℕ, suc, _+_, _-_, _*_, _/_, _≤_, _<_}
 use native.Mathlib.Omega.{arith}
 use native.Mathlib.Nat.{add-zero}
 use native.Mathlib.Numerals.{add-one}
-use lib.ListN.{length, drop, getD, length-append, length-drop, drop-of-length-le}
-use lib.Seq.{drop-cons, drop-drop, getD-drop}
+use lib.ListN.{length, take, drop, getD, length-append, length-drop, drop-of-length-le, take-append-drop}
+use lib.Seq.{drop-cons, drop-drop, getD-drop, take-all, length-take-le}
 use lib.Dec.{eqb, leb}
 use borrow.Author.Tests.{eqb-true, not-true, leb-true, le-leb}
 use Rattle.headers.specs.Rows.{every}
+use Rattle.headers.specs.Stretches.{not-back, Stretch}
 use Rattle.headers.specs.Text.{divides, stops, escape-table, is-letter, opens, plain, Character, itself, escape, Text, none, more}
 use Rattle.headers.specs.Escapes.{meaning, letter-of, means, at-escape, width, octet-at, decode, escaped, encode-octet, encode, writable}
 use Rattle.headers.specs.Lines.{content-length}
@@ -214,6 +218,59 @@ pub encode-append : (s : Style) (xs ys : List ℕ) → encode s (xs ++ ys) ≡ e
 unfolding encode
 encode-append s [] ys = refl
 encode-append s (x ∷ xs) ys = rw (encode-append s xs ys) (sym (append-assoc (encode-octet s x) (encode s xs) (encode s ys)))
+
+-- octets without a backslash stand for themselves, and what follows them is decoded by itself
+pub decode-front : (s : Style) (xs ys : List ℕ) → every not-back xs ≡ true → decode s (xs ++ ys) ≡ xs ++ decode s ys
+decode-front s [] ys h = refl
+decode-front s (x ∷ xs) ys h =
+    let shut : opens s x ≡ false = rw (not-true (eqb x 92) (and-left (not-back x) (every not-back xs) h)) (and-no (s .escapes)) in
+    decode-itself s x (xs ++ ys) shut ∙ ap (x ∷_) (decode-front s xs ys (and-right (not-back x) (every not-back xs) h))
+
+pub decode-clear : (s : Style) (xs : List ℕ) → every not-back xs ≡ true → decode s xs ≡ xs
+unfolding decode
+decode-clear s xs h = ap (decode s) (sym (append-nil xs)) ∙ decode-front s xs [] h ∙ append-nil xs
+
+-- the stretch of n octets at place i
+pub decode-stretch : (s : Style) (xs : List ℕ) (i n : ℕ) → every not-back (take n (drop i xs)) ≡ true
+    → decode s (drop i xs) ≡ take n (drop i xs) ++ decode s (drop (i + n) xs)
+decode-stretch s xs i n h =
+    ap (decode s) (sym (take-append-drop n (drop i xs))) ∙ decode-front s (take n (drop i xs)) (drop n (drop i xs)) h
+    ∙ ap (λ z. take n (drop i xs) ++ decode s z) (drop-drop n i xs)
+
+-- the same of the stretch in the rest of a row, which ends at place i + n
+pub decode-on : (s : Style) (xs : List ℕ) (i n : ℕ) → i ≤ length xs → Stretch (take (length xs - i) (drop i xs)) n
+    → (i + n ≤ length xs) × (length (take (i + n - i) (drop i xs)) ≡ i + n - i) × (decode s (drop i xs) ≡ take (i + n - i) (drop i xs) ++ decode s (drop (i + n) xs))
+decode-on s xs i n h so =
+    let all : take (length xs - i) (drop i xs) ≡ drop i xs = take-all (length xs - i) (drop i xs) (simp length-drop (omega arith)) in
+    let at : Stretch (drop i xs) n = subst (λ z. Stretch z n) all so in
+    let fits : n ≤ length xs - i = omega (arith, at .within, length-drop i xs) in
+    let wide : n ≡ i + n - i = omega arith in (
+      omega (arith, fits),
+      length-take-le (i + n - i) (drop i xs) (omega (arith, fits, length-drop i xs)),
+      decode-stretch s xs i n (at .clear) ∙ ap (λ k. take k (drop i xs) ++ decode s (drop (i + n) xs)) wide,
+    )
+
+-- where there are no escapes, text is itself
+pub decode-off : (s : Style) → s .escapes ≡ false → (xs : List ℕ) → decode s xs ≡ xs
+unfolding decode
+decode-off s e [] = refl
+decode-off s e (x ∷ xs) = decode-itself s x xs (rw e) ∙ ap (x ∷_) (decode-off s e xs)
+
+pub encode-off : (s : Style) → s .escapes ≡ false → (xs : List ℕ) → encode s xs ≡ xs
+unfolding encode
+encode-off s e [] = refl
+encode-off s e (x ∷ xs) =
+    let shut : escaped s x ≡ false = rw e in
+    ap (λ t. cond t (92 ∷ letter-of s x ∷ []) (x ∷ []) ++ encode s xs) shut ∙ ap (x ∷_) (encode-off s e xs)
+
+-- no octet is escaped where the encoded text is as long
+pub encode-same : (s : Style) (xs : List ℕ) → length (encode s xs) ≡ length xs → encode s xs ≡ xs
+unfolding encode
+encode-same s [] h = refl
+encode-same s (x ∷ xs) h =
+    cond-case (λ u. length (u ++ encode s xs) ≡ length (x ∷ xs) → u ++ encode s xs ≡ x ∷ xs) (escaped s x)
+    (λ e k. absurd (omega (arith, k, encode-long s xs)))
+    (λ e k. ap (x ∷_) (encode-same s xs (omega (arith, k)))) h
 
 -- two texts that fit raw fit decoded, and that fit a half fit encoded
 module _ (s : Style) (xs ys : List ℕ) (most : ℕ) where

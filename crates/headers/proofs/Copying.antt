@@ -3,16 +3,18 @@
 --     paste-through   a block that is read whole before it is written
 --     Upto, upto-..   a copy by blocks, from the first to the last
 --     copied-..       what a copy leaves
+--     partly-copy, partly-copied   a copy as the next of some parts, and as the first
 use Prim.Native.Nat.{ℕ, _+_, _-_, _≤_, _<_}
 use mathlib.Core.List.{List, _++_, append-assoc}
-use mathlib.Core.Path.{_≡_, ap, sym, _∙_}
+use mathlib.Core.Path.{_≡_, refl, ap, sym, subst, _∙_}
 use mathlib.Core.Bool.{true, false, cond}
 use lib.Dec.{leb}
-use borrow.Author.Tests.{le-leb}
-use lib.ListN.{length, take, drop, length-drop}
-use lib.Seq.{paste, paste-zero, take-paste, drop-paste, take-add, take-take, drop-drop, take-append-le, take-append-add, length-take-le, length-paste-head, length-paste}
+use lib.ListN.{length, take, drop, length-drop, length-append}
+use lib.Seq.{take-all, paste, paste-zero, take-paste, drop-paste, take-add, take-take, drop-drop, take-append-le, take-append-add, length-take-le, length-paste-head, length-paste}
 use native.Mathlib.Omega.{arith}
+use borrow.Author.Tests.{le-leb}
 use Rattle.headers.specs.Rows.{copied}
+use Rattle.headers.proofs.Put.{Partly, partly-none}
 
 -- the octets before place i of s are copied; then w of them from place j on, which is not after i
 pub paste-block : (d : List ℕ) (at : ℕ) (s : List ℕ) (i j w : ℕ) → j ≤ i → i ≤ j + w → j + w ≤ length s → at + length s ≤ length d
@@ -113,3 +115,30 @@ copied-front d at s n short fits =
     let long : length (take n s) ≡ n = length-take-le n s short in
     copied-all d at (take n s) (le-leb (at + length (take n s)) (length d) (omega (arith, long)))
     ∙ ap (paste d at (take n s)) long ∙ ap (λ z. take at d ++ z ++ drop (at + n) d) (take-take n n s (omega arith))
+
+-- R copied next, where some of whole is left to write
+pub partly-copy : {whole todo d₀ d : List ℕ} {at : ℕ} → Partly whole todo d₀ d at → (R rest after : List ℕ) (n : ℕ) → todo ≡ R ++ rest → n ≡ length R
+    → after ≡ copied d at R → Partly whole rest d₀ after (at + n)
+partly-copy {whole} {todo} {d₀} {d} {at} so R rest after n next e w =
+    let long : length todo ≡ length R + length rest = ap length next ∙ length-append R rest in
+    let fits : at + length R ≤ length d = omega (arith, so .room, so .as-long, so .long, long) in
+    let put : after ≡ paste d at R n =
+    w ∙ copied-all d at R (le-leb (at + length R) (length d) fits) ∙ ap (paste d at R) (sym e) in
+    let inside : at + n ≤ length d = omega (arith, fits, e) in
+    let short : n ≤ length R = omega (arith, e) in
+    let all : take n R ≡ R = take-all n R (omega (arith, e)) in
+    let front : take (at + n) after ≡ take at d ++ R = ap (take (at + n)) put ∙ take-paste d at R n (omega (arith, inside)) short ∙ ap (take at d ++_) all in
+    record {
+      room = so .room;
+      as-long = ap length put ∙ length-paste d at R n inside short ∙ so .as-long;
+      long = omega (arith, so .long, long, e);
+      parts = ap (_++ rest) front ∙ append-assoc (take at d) R rest ∙ ap (take at d ++_) (sym next) ∙ so .parts;
+      kept =
+          ap (drop (at + n)) put ∙ drop-paste d at R n (omega (arith, inside)) short ∙ sym (drop-drop n at d) ∙ ap (drop n) (so .kept) ∙ drop-drop n at d₀;
+    }
+
+-- R copied to the front
+pub partly-copied : (whole R rest d after : List ℕ) → length whole ≤ length d → R ++ rest ≡ whole → after ≡ copied d 0 R → Partly whole rest d after (length R)
+partly-copied whole R rest d after room parts w =
+    let none : 0 + length R ≡ length R = omega arith in
+    subst (Partly whole rest d after) none (partly-copy (partly-none whole d room) R rest after (length R) (sym parts) refl w)

@@ -1,7 +1,8 @@
 -- Answers settled by checks in order: laws. Assumes nothing.
 --     refusal, acceptance     what a buffer call owes at its end, from the answer alone
+--     clear-..                a record without a backslash, by the answer without escapes
 --     decoded-.., record-.., length-.., encoded-.., line-.., decimal-..   which answer the checks of a call settle on
-use mathlib.Core.Path.{_≡_, refl, sym, ap, _∙_}
+use mathlib.Core.Path.{_≡_, refl, sym, ap, ap₂, _∙_}
 use mathlib.Core.Bool.{Bool, true, false, _&&_, _||_, not}
 use mathlib.Core.List.{List, [], _∷_, _++_}
 use Prim.Native.Nat.{ℕ, zero, suc, _+_, _≤_, _<_}
@@ -14,14 +15,15 @@ use Rattle.headers.specs.Rows.{empty, every}
 use Rattle.headers.specs.Text.{divides, stops, is-text}
 use Rattle.headers.specs.Escapes.{decode, encode, escaped, writable}
 use Rattle.headers.specs.Numbers.{shortest}
-use Rattle.headers.specs.Block.{Entry}
-use Rattle.headers.specs.Lines.{entry-of, decoded-entry, line-length, are-text, raw-line, written-line, can-write}
-use Rattle.headers.specs.Answers.{Answer, accepted, refused, left-in, written-record, decoded-answer, record-answer, writable-answer, length-answer, encoded-answer, line-answer, decimal-answer}
+use Rattle.headers.specs.Block.{Entry, entry-record}
+use Rattle.headers.specs.Stretches.{not-back, unescaped}
+use Rattle.headers.specs.Lines.{line-max, entry-of, decoded-entry, line-length, are-text, raw-line, written-line, can-write}
+use Rattle.headers.specs.Answers.{Answer, accepted, refused, settle, left-in, written-record, decoded-answer, record-answer, writable-answer, length-answer, encoded-answer, line-answer, decimal-answer}
 use Rattle.headers.specs.declared.text.Style.{Style}
 use Rattle.headers.specs.declared.text.Field.{Field}
 use Rattle.headers.specs.declared.text.Field.the-variants.{Name, Value}
 use Rattle.headers.proofs.Rows.{and-left, and-right, and-no, refuted, every-left, every-right, every-append, every-also}
-use Rattle.headers.proofs.Coding.{encode-long, encode-append}
+use Rattle.headers.proofs.Coding.{decode-clear, decode-off, encode-long, encode-append}
 use Rattle.headers.proofs.Blocks.{length-record}
 
 -- refused: the buffer is as before
@@ -183,6 +185,24 @@ module _ (s : Style) (k : ℕ) (xs : List ℕ) where
       can s (divided k xs) some n (every-right (writable s Value) (take k xs) (drop k xs) whole) (omega (arith, divided-long))
 
 -- ---- one record
+
+-- a name and a value without a backslash: their record is the one without escapes
+module _ (s : Style) (name value : List ℕ) (n : every not-back name ≡ true) (v : every not-back value ≡ true) where
+  clear-entry : decoded-entry unescaped name value ≡ decoded-entry s name value
+  clear-entry =
+      ap₂ entry-of (decode-off unescaped refl name ∙ sym (decode-clear s name n)) (decode-off unescaped refl value ∙ sym (decode-clear s value v))
+
+  pub clear-record : written-record unescaped name value ≡ written-record s name value
+  clear-record = ap entry-record clear-entry
+
+  pub clear-answer : (room : ℕ) → decoded-answer unescaped room name value ≡ decoded-answer s room name value
+  unfolding decoded-answer
+  clear-answer room =
+      ap
+      (λ e. settle
+      (record { fails = ltb room (length (entry-record e)); number = 21 } ∷ record { fails = ltb line-max (line-length e); number = 23 } ∷ [])
+      (length (entry-record e) ∷ []))
+      clear-entry
 
 module _ (s : Style) (name value : List ℕ) where
   pub record-long : length (written-record s name value) ≡ 6 + length (decode s name) + length (decode s value)

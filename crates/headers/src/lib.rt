@@ -1,5 +1,6 @@
 // Header text and escapes, decimal numbers, and the header block: the lowest layer.
 pub mod octets; // rows of octets
+pub mod plain; // stretches of plain octets
 pub mod text; // raw header text, decoded and encoded
 pub mod decimal; // decimal numbers
 pub mod block; // the header block
@@ -28,8 +29,12 @@ pub use line::write_encoded;
 pub use line::write_line;
 pub use octets::copy;
 pub use octets::equal;
+pub use plain::Stops;
+pub use plain::plain_span;
+pub use plain::stretch;
 pub use record::RecordWritten;
 pub use record::write_decoded;
+pub use record::write_plain;
 pub use record::write_record;
 pub use text::Field;
 pub use text::Style;

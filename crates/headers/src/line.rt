@@ -5,10 +5,12 @@ ghost use lib.ListN.{length, take, drop};
 ghost use lib.Dec.{leb};
 ghost use Rattle.headers.specs.Rows.{every};
 ghost use Rattle.headers.specs.Escapes.{writable, encode};
+ghost use Rattle.headers.specs.Stretches.{plain-line};
 ghost use Rattle.headers.specs.Lines.{entry-of, written-line};
 ghost use Rattle.headers.specs.declared.text.Field.the-variants.{Name};
 ghost use Rattle.headers.specs.Answers.{left-in, Puts, writable-answer, length-answer, length-says, encoded-answer, line-answer, line-says};
 use crate::octets::both_fit;
+use crate::octets::copy;
 use crate::text::Field;
 use crate::text::Style;
 use crate::text::can_write;
@@ -130,6 +132,21 @@ fn put_line(d: &mut [u8], name: &[u8], value: &[u8], style: Style) -> usize
     end + 1
 }
 
+// The same of an entry of which no octet is escaped: name and value are copied as they are.
+fn put_plain_line(d: &mut [u8], name: &[u8], value: &[u8]) -> usize
+    requires { ⌜ length (now name) + length (now value) + 2 ≤ length (now d) ⌝ }
+    ensures { λ r. ⌜ Puts (plain-line (now (name .entry)) (now (value .entry))) r (now (d .entry)) (now (d .exit)) ⌝ }
+{
+    let n = name.len();
+    copy(d, 0, name);
+    d[n] = 58;
+    let from = n + 1;
+    copy(d, from, value);
+    let end = from + value.len();
+    d[end] = 10;
+    end + 1
+}
+
 // Whether name and value have at most that many octets encoded. Encoded text is at most twice as long, so it is measured only
 // where twice the text is too long.
 fn encoded_fit(name: &[u8], value: &[u8], style: Style, most: usize) -> bool
@@ -159,7 +176,10 @@ pub fn write_encoded(d: &mut [u8], name: &[u8], value: &[u8], style: Style) -> L
     if !encoded_fit(name, value, style, d.len() - 2) {
         return LineWritten::TooShort;
     }
-    LineWritten::Length(put_line(d, name, value, style))
+    if style.escapes {
+        return LineWritten::Length(put_line(d, name, value, style));
+    }
+    LineWritten::Length(put_plain_line(d, name, value))
 }
 
 // The same of an entry that can be written, or that it cannot be (53), or has no room (56).

@@ -70,6 +70,16 @@ fn put_16(d: &mut [u8], at: usize, s: &[u8], i: usize)
     put_octets(d, at + i, &block);
 }
 
+fn put_8(d: &mut [u8], at: usize, s: &[u8], i: usize)
+    requires { ⌜ (i + 8 ≤ length (now s)) × (at + length (now s) ≤ length (now d)) ⌝ }
+    ensures { λ _. ⌜ now (d .exit) ≡ paste (now (d .entry)) (at + i) (drop i (now (s .entry))) 8 ⌝ }
+{
+    let e = i + 8;
+    let mut block = [0u8; 8];
+    put_octets(&mut block, 0, &s[i..e]);
+    put_octets(d, at + i, &block);
+}
+
 fn put_4(d: &mut [u8], at: usize, s: &[u8], i: usize)
     requires { ⌜ (i + 4 ≤ length (now s)) × (at + length (now s) ≤ length (now d)) ⌝ }
     ensures { λ _. ⌜ now (d .exit) ≡ paste (now (d .entry)) (at + i) (drop i (now (s .entry))) 4 ⌝ }
@@ -118,6 +128,18 @@ fn put_blocks_16(d: &mut [u8], at: usize, s: &[u8])
     put_16(d, at, s, s.len() - 16);
 }
 
+fn put_blocks_8(d: &mut [u8], at: usize, s: &[u8])
+    requires { ⌜ (8 ≤ length (now s)) × (at + length (now s) ≤ length (now d)) ⌝ }
+    ensures { λ _. ⌜ now (d .exit) ≡ paste (now (d .entry)) at (now (s .entry)) (length (now (s .entry))) ⌝ }
+{
+    let mut i = 0usize;
+    while 8 <= s.len() - i {
+        put_8(d, at, s, i);
+        i += 8;
+    }
+    put_8(d, at, s, s.len() - 8);
+}
+
 fn put_blocks_4(d: &mut [u8], at: usize, s: &[u8])
     requires { ⌜ (4 ≤ length (now s)) × (at + length (now s) ≤ length (now d)) ⌝ }
     ensures { λ _. ⌜ now (d .exit) ≡ paste (now (d .entry)) at (now (s .entry)) (length (now (s .entry))) ⌝ }
@@ -141,6 +163,10 @@ fn put_all(d: &mut [u8], at: usize, s: &[u8])
     }
     if 16 <= s.len() {
         put_blocks_16(d, at, s);
+        return;
+    }
+    if 8 <= s.len() {
+        put_blocks_8(d, at, s);
         return;
     }
     if 4 <= s.len() {

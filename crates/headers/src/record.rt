@@ -5,9 +5,12 @@ ghost use Prim.Native.Nat.{_+_, _≤_};
 ghost use lib.ListN.{length, drop};
 ghost use lib.Dec.{leb};
 ghost use Rattle.headers.specs.Escapes.{decode};
-ghost use Rattle.headers.specs.Block.{record-head};
+ghost use Rattle.headers.specs.Stretches.{unescaped};
+ghost use Rattle.headers.specs.Block.{record-head, entry-record};
+ghost use Rattle.headers.specs.Lines.{entry-of};
 ghost use Rattle.headers.specs.Answers.{left-in, Puts, written-record, decoded-answer, record-answer, record-says};
 use crate::octets::both_fit;
+use crate::octets::copy;
 use crate::text::Field;
 use crate::text::Style;
 use crate::text::decoded_length;
@@ -48,6 +51,18 @@ fn put_record(d: &mut [u8], name: &[u8], value: &[u8], style: Style) -> usize
     e + v
 }
 
+// The record of a name and a value as they are, at the front of d; its length.
+fn put_plain(d: &mut [u8], name: &[u8], value: &[u8]) -> usize
+    requires { ⌜ 6 + length (now name) + length (now value) ≤ length (now d) ⌝ }
+    ensures { λ r. ⌜ Puts (entry-record (entry-of (now (name .entry)) (now (value .entry)))) r (now (d .entry)) (now (d .exit)) ⌝ }
+{
+    put_head(d, name.len(), value.len());
+    copy(d, 6, name);
+    let e = 6 + name.len();
+    copy(d, e, value);
+    e + value.len()
+}
+
 // Whether name and value have at most that many octets decoded. Decoded text is never longer than raw, so it is measured only
 // where the raw text is too long.
 fn decoded_fit(name: &[u8], value: &[u8], style: Style, most: usize) -> bool
@@ -82,7 +97,26 @@ pub fn write_decoded(d: &mut [u8], name: &[u8], value: &[u8], style: Style) -> R
     RecordWritten::Length(put_record(d, name, value, style))
 }
 
-// The same of raw text, or the first of its refusals.
+// The same of octets that stand for themselves: name and value are copied as they are.
+pub fn write_plain(d: &mut [u8], name: &[u8], value: &[u8]) -> RecordWritten
+    ensures { λ r. ⌜
+        (record-says r ≡ decoded-answer unescaped (length (now (d .entry))) (now (name .entry)) (now (value .entry)))
+        × (now (d .exit) ≡ left-in (decoded-answer unescaped (length (now (d .entry))) (now (name .entry)) (now (value .entry))) (written-record unescaped (now (name .entry)) (now (value .entry))) (now (d .entry)))
+        ⌝ }
+{
+    if d.len() < 6 {
+        return RecordWritten::TooShort;
+    }
+    if !both_fit(name.len(), value.len(), d.len() - 6) {
+        return RecordWritten::TooShort;
+    }
+    if !both_fit(name.len(), value.len(), crate::line::TEXT_MAX) {
+        return RecordWritten::TooLong;
+    }
+    RecordWritten::Length(put_plain(d, name, value))
+}
+
+// The record of raw text, decoded, or the first of its refusals.
 pub fn write_record(d: &mut [u8], name: &[u8], value: &[u8], style: Style) -> RecordWritten
     ensures { λ r. ⌜
         (record-says r ≡ record-answer style (length (now (d .entry))) (now (name .entry)) (now (value .entry)))

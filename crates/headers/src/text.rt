@@ -7,6 +7,8 @@ ghost use Rattle.headers.specs.Rows.{every};
 ghost use Rattle.headers.specs.Text.{divides, stops, opens, is-letter, is-text};
 ghost use Rattle.headers.specs.Escapes.{at-escape, width, octet-at, meaning, letter-of, escaped, writable, decode, encode-octet, encode};
 ghost use Rattle.headers.specs.Answers.{Puts};
+use crate::octets::copy;
+use crate::plain::stretch;
 
 // What a command makes of header text.
 pub struct Style {
@@ -51,20 +53,13 @@ pub fn is_open(style: Style, x: u8) -> bool
     style.escapes & (x == 92)
 }
 
-// The octet that a letter stands for.
+// The octet that a letter stands for: without branches, which would often be mispredicted.
 fn meaning_of(style: Style, x: u8) -> u8
     ensures { λ r. ⌜ r ≡ meaning style x ⌝ }
 {
-    if x == 114 {
-        return 13;
-    }
-    if x == 110 {
-        return 10;
-    }
-    if x == 99 {
-        return 58;
-    }
-    x
+    let colon: u8 = if x == 99 { 58 } else { x };
+    let newline: u8 = if x == 110 { 10 } else { colon };
+    if x == 114 { 13 } else { newline }
 }
 
 // Whether the octet is written as an escape, by one comparison: bits 2 and 4 tell 10, 13, 58 and 92 apart, and say where in a word
@@ -76,7 +71,7 @@ fn is_escaped(style: Style, x: u8) -> bool
     style.escapes & (n == (0x5c3a00000d0a >> (2 * (n & 20))) & 255)
 }
 
-// The letter of an octet that is written as an escape: without branches, which would often be mispredicted.
+// The letter of an octet that is written as an escape: without branches too.
 fn letter_for(style: Style, x: u8) -> u8
     ensures { λ r. ⌜ r ≡ letter-of style x ⌝ }
 {
@@ -159,25 +154,25 @@ pub fn decoded_length(raw: &[u8], style: Style) -> usize
     n
 }
 
-// The raw text, decoded, at the front of d; its length decoded.
+// The raw text, decoded, at the front of d; its length decoded. Stretches without a backslash are copied at once; what is at the
+// backslash that ends one is decoded by itself.
 pub(crate) fn put_decoded(d: &mut [u8], raw: &[u8], style: Style) -> usize
     requires { ⌜ length (decode style (now raw)) ≤ length (now d) ⌝ }
     ensures { λ r. ⌜ Puts (decode style (now (raw .entry))) r (now (d .entry)) (now (d .exit)) ⌝ }
 {
     let mut n = 0usize;
     let mut i = 0usize;
-    while i < raw.len() {
-        let x = raw[i];
-        if is_open(style, x) {
-            d[n] = decoded_at(raw, style, i);
-            i += width_at(raw, style, i);
-        } else {
-            d[n] = x;
-            i += 1;
+    loop {
+        let e = i + stretch(&raw[i..]);
+        copy(d, n, &raw[i..e]);
+        n += e - i;
+        if raw.len() <= e {
+            return n;
         }
+        d[n] = decoded_at(raw, style, e);
+        i = e + width_at(raw, style, e);
         n += 1;
     }
-    n
 }
 
 // How many octets an octet has encoded. By comparisons and in a narrow number, so that a loop takes many octets at a time.

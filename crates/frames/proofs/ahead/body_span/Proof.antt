@@ -4,7 +4,7 @@ use native.Mathlib.Omega.{arith}
 use lib.ListN.{length}
 use mathlib.Core.Path.{_≡_, sym, _∙_}
 use Rattle.frames.specs.Scanning.{not-zero}
-use Rattle.frames.proofs.Gliding.{span-tail}
+use Rattle.headers.proofs.Stretches.{span-tail}
 use borrow.Author.Needs.{needs}
 use Rattle.frames.proofs.ahead.body_span.Statement.{statement}
 use Rattle.frames.proofs.ahead.body_span.Tie as tie

@@ -1,6 +1,7 @@
 -- `ahead::clear_blocks` meets its contract: the blocks passed are within the span.
-use Rattle.frames.specs.Scanning.{span, not-zero}
-use Rattle.frames.proofs.Gliding.{span-block}
+use Rattle.headers.specs.Stretches.{span}
+use Rattle.frames.specs.Scanning.{not-zero}
+use Rattle.headers.proofs.Stretches.{span-block}
 use borrow.Author.Needs.{needs}
 use Prim.Native.Nat.{_≤_, _-_, _+_}
 use native.Mathlib.Omega.{arith}

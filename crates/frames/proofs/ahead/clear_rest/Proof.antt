@@ -1,6 +1,7 @@
 -- `ahead::clear_rest` meets its contract: what is passed, and the span of what is left, are the span.
-use Rattle.frames.specs.Scanning.{span, not-zero}
-use Rattle.frames.proofs.Gliding.{span-more, span-stop, span-end}
+use Rattle.headers.specs.Stretches.{span}
+use Rattle.frames.specs.Scanning.{not-zero}
+use Rattle.headers.proofs.Stretches.{span-more, span-stop, span-end}
 use borrow.Author.Needs.{needs}
 use Prim.Native.Nat.{_≤_, _-_, _+_}
 use native.Mathlib.Omega.{arith}

@@ -2,7 +2,7 @@
 use mathlib.Core.Bool.{_&&_}
 use Rattle.headers.specs.Rows.{every}
 use Rattle.frames.specs.Scanning.{not-zero}
-use Rattle.frames.proofs.Gliding.{every-more, every-done}
+use Rattle.headers.proofs.Stretches.{every-more, every-done}
 use borrow.Author.Needs.{needs}
 use Prim.Native.Nat.{_-_}
 use lib.ListN.{length, drop}

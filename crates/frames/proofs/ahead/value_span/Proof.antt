@@ -1,5 +1,6 @@
 -- `ahead::value_span` meets its contract: a plain stretch, then escapes with a plain stretch after each.
-use Rattle.frames.proofs.Gliding.{line-short, Takes, takes-first, takes-more, span-part}
+use Rattle.headers.proofs.Stretches.{span-part}
+use Rattle.frames.proofs.Gliding.{line-short, Takes, takes-first, takes-more}
 use borrow.Author.Needs.{needs}
 use borrow.Author.Tests.{not-false}
 use Prim.Native.Nat.{_≤_, _-_, _+_}

@@ -3,11 +3,12 @@ use borrow.Author.Needs.{needs}
 use Prim.Native.Nat.{ℕ, _≤_, _-_, _+_}
 use native.Mathlib.Omega.{arith}
 use lib.ListN.{length, take, drop}
-use mathlib.Core.Path.{_≡_, refl, _∙_, ap}
-use mathlib.Core.Bool.{false}
+use mathlib.Core.Path.{_≡_, refl, sym, subst, _∙_, ap}
+use mathlib.Core.Bool.{true, false}
 use mathlib.Core.List.{_++_}
 use mathlib.Core.Logic.{_⊎_, ⊎-elim}
-use Rattle.headers.specs.Rows.{any}
+use Rattle.headers.specs.Rows.{any, every}
+use Rattle.headers.specs.Stretches.{not-back}
 use Rattle.headers.specs.Block.{image}
 use Rattle.headers.proofs.Put.{put-whole-done}
 use Rattle.frames.specs.Layout.{front-lines}
@@ -38,52 +39,55 @@ loop-holds c =
 line-at-requires : tie.Need-line-at-requires Inv-loop μ-loop
 line-at-requires c κs = search needs
 
-sub-write-decoded : tie.Need-sub-write-decoded Inv-loop μ-loop
-sub-write-decoded c = search needs
+sub-write-line-record : tie.Need-sub-write-line-record Inv-loop μ-loop
+sub-write-line-record c = search needs
 
-part-write-decoded-start : tie.Need-part-write-decoded-start Inv-loop μ-loop
-part-write-decoded-start c = search needs
+part-write-line-record-start : tie.Need-part-write-line-record-start Inv-loop μ-loop
+part-write-line-record-start c = search needs
 
-part-write-decoded-end : tie.Need-part-write-decoded-end Inv-loop μ-loop
-part-write-decoded-end c = search needs
+part-write-line-record-end : tie.Need-part-write-line-record-end Inv-loop μ-loop
+part-write-line-record-end c = search needs
 
-sub-write-decoded-2 : tie.Need-sub-write-decoded-2 Inv-loop μ-loop
-sub-write-decoded-2 c = search needs
+sub-write-line-record-2 : tie.Need-sub-write-line-record-2 Inv-loop μ-loop
+sub-write-line-record-2 c = search needs
 
-part-write-decoded-start-2 : tie.Need-part-write-decoded-start-2 Inv-loop μ-loop
-part-write-decoded-start-2 c = search needs
+part-write-line-record-start-2 : tie.Need-part-write-line-record-start-2 Inv-loop μ-loop
+part-write-line-record-start-2 c = search needs
 
-part-write-decoded-end-2 : tie.Need-part-write-decoded-end-2 Inv-loop μ-loop
-part-write-decoded-end-2 c = search needs
+part-write-line-record-end-2 : tie.Need-part-write-line-record-end-2 Inv-loop μ-loop
+part-write-line-record-end-2 c = search needs
 
-sub-write-decoded-3 : tie.Need-sub-write-decoded-3 Inv-loop μ-loop
-sub-write-decoded-3 c = search needs
+sub-write-line-record-3 : tie.Need-sub-write-line-record-3 Inv-loop μ-loop
+sub-write-line-record-3 c = search needs
 
-part-write-decoded-start-3 : tie.Need-part-write-decoded-start-3 Inv-loop μ-loop
-part-write-decoded-start-3 c = search needs
+part-write-line-record-start-3 : tie.Need-part-write-line-record-start-3 Inv-loop μ-loop
+part-write-line-record-start-3 c = search needs
 
-part-write-decoded-end-3 : tie.Need-part-write-decoded-end-3 Inv-loop μ-loop
-part-write-decoded-end-3 c = search needs
+part-write-line-record-end-3 : tie.Need-part-write-line-record-end-3 Inv-loop μ-loop
+part-write-line-record-end-3 c = search needs
 
-write-decoded-requires : tie.Need-write-decoded-requires Inv-loop μ-loop
-write-decoded-requires c κs = search needs
+write-line-record-requires : tie.Need-write-line-record-requires Inv-loop μ-loop
+write-line-record-requires c κs plain =
+    let l = c .before .before .before .line-at in
+    let both = l .ensures .4 plain in
+    (subst (λ z. every not-back z ≡ true) (sym (l .ensures .1)) (both .0), subst (λ z. every not-back z ≡ true) (sym (l .ensures .2)) (both .1))
 
 enum-known-k : tie.Need-enum-known-k Inv-loop μ-loop
 enum-known-k c = search needs
 
 -- there is room for what is left, so its next record is accepted
-turn : (c : tie.After-write-decoded Inv-loop μ-loop) →
+turn : (c : tie.After-write-line-record Inv-loop μ-loop) →
     let l = c .before .before .before .before in
     let h = l .before .before .loop in
     let a = l .before .before .before .before .before .args in
-    Asked (a .style) (a .s .now) (a .n) (h .i) (h .at) (l .line-at .result .next) (h .block) (c .write-decoded .last .0) (h .used) (c .write-decoded .result)
+    Asked (a .style) (a .s .now) (a .n) (h .i) (h .at) (l .line-at .result .next) (h .block) (c .write-line-record .last .0) (h .used) (c .write-line-record .result)
 turn c =
     let l = c .before .before .before .before in
     let h = l .before .before .loop in
     let s = l .before .before .before .before .before in
     let a = s .args in
-    asked (a .style) (a .s .now) (a .n) (h .i) (h .at) (l .line-at .result) (l .before .loop-test .taken) (l .line-at .ensures) (h .block) (c .write-decoded .last .0) (h .used) (c .write-decoded .result)
-    (h .inv .3) (omega (arith, h .inv, s .pre .1)) (c .write-decoded .ensures .0) (c .write-decoded .ensures .1)
+    asked (a .style) (a .s .now) (a .n) (h .i) (h .at) (l .line-at .result) (l .before .loop-test .taken) (l .line-at .ensures) (h .block) (c .write-line-record .last .0) (h .used) (c .write-line-record .result)
+    (h .inv .3) (omega (arith, h .inv, s .pre .1)) (c .write-line-record .ensures .0) (c .write-line-record .ensures .1)
 
 refuted : (c : tie.At-match-keys2 Inv-loop μ-loop) → ⊥
 refuted c =
@@ -136,16 +140,16 @@ put-records-spec =
     μ-loop
     loop-holds
     line-at-requires
-    sub-write-decoded
-    part-write-decoded-start
-    part-write-decoded-end
-    sub-write-decoded-2
-    part-write-decoded-start-2
-    part-write-decoded-end-2
-    sub-write-decoded-3
-    part-write-decoded-start-3
-    part-write-decoded-end-3
-    write-decoded-requires
+    sub-write-line-record
+    part-write-line-record-start
+    part-write-line-record-end
+    sub-write-line-record-2
+    part-write-line-record-start-2
+    part-write-line-record-end-2
+    sub-write-line-record-3
+    part-write-line-record-start-3
+    part-write-line-record-end-3
+    write-line-record-requires
     enum-known-k
     same-length
     returns

@@ -1,21 +1,24 @@
 -- `text::meaning_of` meets its contract: each test that led there picks the escape.
-use mathlib.Core.Path.{sym}
+use mathlib.Core.Path.{sym, _∙_}
+use mathlib.Core.Logic.{⊎-elim}
 use borrow.Author.Tests.{eq-eqb, ne-eqb}
 use Rattle.headers.proofs.Rows.{cond-same}
 use Rattle.headers.proofs.text.meaning_of.Statement.{statement}
 use Rattle.headers.proofs.text.meaning_of.Tie as tie
 
 returns : tie.Need-returns
-returns c = simp (eq-eqb _ _ (c .if1 .taken))
+returns c = simp (eq-eqb _ _ (c .if3 .taken))
 
 returns-2 : tie.Need-returns-2
-returns-2 c = simp (ne-eqb _ _ (c .before .if1 .left), eq-eqb _ _ (c .if2 .taken))
-
-returns-3 : tie.Need-returns-3
-returns-3 c = simp (ne-eqb _ _ (c .before .before .if1 .left), ne-eqb _ _ (c .before .if2 .left), eq-eqb _ _ (c .if3 .taken))
-
-returns-4 : tie.Need-returns-4
-returns-4 c = simp (ne-eqb _ _ (c .before .before .if1 .left), ne-eqb _ _ (c .before .if2 .left), ne-eqb _ _ (c .if3 .left)) (sym (cond-same _ 92))
+returns-2 c =
+    let no = ne-eqb _ _ (c .if3 .left) in
+    ⊎-elim
+    (λ w. simp (no, eq-eqb _ _ (w .0 .taken)) (w .1))
+    (λ w. ⊎-elim
+    (λ v. simp (no, ne-eqb _ _ (w .0 .left), eq-eqb _ _ (v .0 .taken)) (w .1 ∙ v .1))
+    (λ v. simp (no, ne-eqb _ _ (w .0 .left), ne-eqb _ _ (v .0 .left)) (w .1 ∙ v .1 ∙ sym (cond-same _ 92)))
+    (c .before .before .if1 .came))
+    (c .before .if2 .came)
 
 pub meaning-of-spec : {M : Type 1} → statement M
-meaning-of-spec = tie.close (tie.spec returns returns-2 returns-3 returns-4)
+meaning-of-spec = tie.close (tie.spec returns returns-2)

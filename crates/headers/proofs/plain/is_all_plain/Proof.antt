@@ -1,14 +1,14 @@
--- `ahead::is_all_plain` meets its contract: the test goes on from the flag.
+-- `plain::is_all_plain` meets its contract: the test goes on from the flag.
 use mathlib.Core.Bool.{_&&_}
 use Rattle.headers.specs.Rows.{every}
-use Rattle.frames.specs.Scanning.{plain-in}
-use Rattle.frames.proofs.Gliding.{every-more, every-done}
+use Rattle.headers.specs.Stretches.{plain-in}
+use Rattle.headers.proofs.Stretches.{every-more, every-done}
 use borrow.Author.Needs.{needs}
 use Prim.Native.Nat.{_-_}
 use lib.ListN.{length, drop}
 use mathlib.Core.Path.{_≡_, sym, _∙_}
-use Rattle.frames.proofs.ahead.is_all_plain.Statement.{statement}
-use Rattle.frames.proofs.ahead.is_all_plain.Tie as tie
+use Rattle.headers.proofs.plain.is_all_plain.Statement.{statement}
+use Rattle.headers.proofs.plain.is_all_plain.Tie as tie
 
 abbrev Inv-loop : tie.InvT-loop
 Inv-loop s escapes ok₀ i₀ ok i = ok && every (plain-in escapes) (drop i s) ≡ every (plain-in escapes) s

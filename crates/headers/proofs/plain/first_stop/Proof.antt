@@ -1,14 +1,14 @@
--- `ahead::first_stop` meets its contract: the lowest place so far at which an octet stops is kept.
-use Rattle.frames.specs.Scanning.{plain-in}
-use Rattle.frames.proofs.Gliding.{FirstStop, first-on, first-here, first-end}
+-- `plain::first_stop` meets its contract: the lowest place so far at which an octet stops is kept.
+use Rattle.headers.specs.Stretches.{plain-in}
+use Rattle.headers.proofs.Stretches.{FirstStop, first-on, first-here, first-end}
 use borrow.Author.Needs.{needs}
 use Prim.Native.Nat.{_-_, min}
 use native.Mathlib.Omega.{arith}
 use lib.ListN.{length}
 use mathlib.Core.Path.{_≡_, sym, _∙_}
 use mathlib.Core.Logic.{⊎-elim, inr}
-use Rattle.frames.proofs.ahead.first_stop.Statement.{statement}
-use Rattle.frames.proofs.ahead.first_stop.Tie as tie
+use Rattle.headers.proofs.plain.first_stop.Statement.{statement}
+use Rattle.headers.proofs.plain.first_stop.Tie as tie
 
 abbrev Inv-loop : tie.InvT-loop
 Inv-loop s escapes k₀ i₀ k i = FirstStop (plain-in escapes) s k i
