@@ -3,22 +3,30 @@
 --     sum-start, sum-line, sum-none              at the first, and from one entry to the next
 --     sum-end, sum-full                          at the end, and where 33 are counted
 --     sums-..                                    what the sums say of the lines
-use mathlib.Core.Path.{_≡_, refl, ap}
+--     sums-plain                                 where they say that no octet is escaped
+use mathlib.Core.Path.{_≡_, refl, sym, _∙_, ap, ap₂}
 use mathlib.Core.Bool.{Bool, true, false, cond, _&&_, not}
-use mathlib.Core.List.{List, [], _∷_}
+use mathlib.Core.Option.{some}
+use mathlib.Core.List.{List, [], _∷_, _++_}
 use Prim.Native.Nat.{ℕ, suc, _+_, _*_, _≤_, _<_}
 use native.Mathlib.Omega.{arith}
-use lib.ListN.{length, length-append}
+use lib.ListN.{length, length-append, length-drop}
 use lib.Dec.{eqb, leb}
 use borrow.Author.Tests.{leb-true, leb-false, eqb-true, eqb-false}
 use Rattle.headers.specs.Rows.{empty, every}
-use Rattle.headers.specs.Block.{Entry}
+use Rattle.headers.specs.Block.{Entry, image, entries, listed, record-length, front-entry, behind}
+use Rattle.headers.specs.Stretches.{unescaped, plain-line}
+use Rattle.headers.specs.Answers.{is-block}
 use Rattle.headers.specs.Lines.{raw-line, written-line, can-write}
-use Rattle.headers.specs.Escapes.{writable}
+use Rattle.headers.specs.Escapes.{encode, writable}
 use Rattle.headers.specs.declared.text.Style.{Style}
 use Rattle.headers.specs.declared.text.Field.the-variants.{Name as in-name, Value as in-value}
 use Rattle.headers.proofs.Rows.{and-right}
-use Rattle.headers.proofs.Settling.{written-long}
+use Rattle.headers.proofs.Settling.{written-long, line-long}
+use Rattle.headers.proofs.Coding.{encode-long, encode-same, encode-off}
+use Rattle.headers.proofs.Blocks.{at-whole, front-name, front-value, length-image}
+use Rattle.headers.proofs.LaidOut.{entries-parts}
+use Rattle.frames.proofs.Writing.{entries-listed}
 use Rattle.frames.specs.Encoding.{written-lines, first-unwritable}
 use Rattle.frames.specs.Writing.{Sums}
 use Rattle.frames.specs.declared.encode.Totals.{Totals}
@@ -141,3 +149,44 @@ module _ (s : Style) (es : List Entry) (r : Totals) (w : Sums s es r) where
 
     pub sums-writable : r .count ≤ r .good → every (can-write s) es ≡ true
     sums-writable h = writable-all s es (omega (arith, w .counted few, w .writable few))
+
+-- ---- Lines of which no octet is escaped
+
+-- a record is at most four octets longer than its line
+lines-least : (s : Style) (es : List Entry) → length (image es) ≤ length (written-lines s es) + 4 * length es
+lines-least s [] = omega arith
+lines-least s (e ∷ es) =
+    omega (arith, length-image e es, length-append (written-line s e) (written-lines s es), line-long s e, encode-long s (e .name), encode-long s (e .value), lines-least s es)
+
+-- where it is so of all, the lines are those without escapes
+lines-same : (s : Style) (es : List Entry) → length (written-lines s es) + 4 * length es ≡ length (image es) → written-lines s es ≡ written-lines unescaped es
+lines-same s [] h = refl
+lines-same s (e ∷ es) h =
+    let long = line-long s e in
+    let more = length-append (written-line s e) (written-lines s es) in
+    let records = length-image e es in
+    let name-long = encode-long s (e .name) in
+    let value-long = encode-long s (e .value) in
+    let least = lines-least s es in
+    let name : encode s (e .name) ≡ encode unescaped (e .name) =
+    encode-same s (e .name) (omega (arith, h, long, more, records, name-long, value-long, least)) ∙ sym (encode-off unescaped refl (e .name)) in
+    let value : encode s (e .value) ≡ encode unescaped (e .value) =
+    encode-same s (e .value) (omega (arith, h, long, more, records, name-long, value-long, least)) ∙ sym (encode-off unescaped refl (e .value)) in
+    ap₂ _++_ (ap₂ plain-line name value) (lines-same s es (omega (arith, h, long, more, records, name-long, value-long, least)))
+
+-- a block is as long as the records of its entries
+records-long : (xs : List ℕ) (es : List Entry) → entries xs ≡ some es → length (image es) ≡ length xs
+records-long xs [] h = ap length (sym (entries-parts xs [] h))
+records-long xs (e ∷ es) h =
+    let (t, f, r) = entries-parts xs (e ∷ es) h in
+    let w = at-whole xs t in
+    let name : length (front-entry xs .name) ≡ length (e .name) = ap (λ d. length (d .name)) f in
+    let value : length (front-entry xs .value) ≡ length (e .value) = ap (λ d. length (d .value)) f in
+    omega (arith, length-image e es, records-long (behind xs) es r, name, value, front-name xs w, front-value xs w, w .fits, length-drop (record-length xs) xs)
+
+-- what the sums of a block's entries say of it
+pub sums-plain : (s : Style) (es : List Entry) (r : Totals) → Sums s es r → length es ≤ 32 → (block : List ℕ) → is-block block ≡ true → es ≡ listed (entries block)
+    → r .count ≤ r .good → eqb (r .total + 4 * r .count) (length block) ≡ true → written-lines s es ≡ written-lines unescaped es
+sums-plain s es r w few block b is all e =
+    let laid : length (image es) ≡ length block = ap (λ z. length (image z)) is ∙ records-long block (listed (entries block)) (entries-listed block b) in
+    lines-same s es (omega (arith, w .counted few, w .summed few all, eqb-true (r .total + 4 * r .count) (length block) e, laid))

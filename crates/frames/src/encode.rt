@@ -1,14 +1,16 @@
 // Encoding: the octets of a frame, from a command, a header block and a body.
 ghost use mathlib.Core.Path.{_≡_};
 ghost use mathlib.Core.Bool.{true, _&&_, not};
-ghost use Prim.Native.Nat.{_+_, _≤_, _<_};
+ghost use Prim.Native.Nat.{_+_, _*_, _≤_, _<_};
 ghost use lib.Dec.{eqb};
 ghost use lib.ListN.{length};
 ghost use Rattle.headers.specs.Numbers.{decimal, is-amount};
 ghost use Rattle.headers.specs.Block.{entries, listed};
+ghost use Rattle.headers.specs.Stretches.{unescaped};
 ghost use Rattle.headers.specs.Answers.{is-block, left-in};
 ghost use Rattle.frames.specs.Grammar.{v1-2};
-ghost use Rattle.frames.specs.Encoding.{encode-answer, encode-image, encode-index, indexed};
+ghost use Rattle.frames.specs.Encoding.{written-lines, encode-answer, encode-image, encode-index, indexed};
+ghost use Rattle.frames.specs.Scanning.{style-of};
 ghost use Rattle.frames.specs.Writing.{Told, Sums, lengths-of};
 ghost use Rattle.frames.specs.Answers.{encoded-says};
 use headers::DecimalRead;
@@ -64,6 +66,12 @@ pub(crate) struct Totals {
     pub count: usize,
     pub good: usize,
     pub total: usize,
+}
+
+// The answer of a call, and whether no octet of the block is escaped in its lines.
+pub(crate) struct Settled {
+    pub answer: Encoded,
+    pub plain: bool,
 }
 
 fn declared_length(block: &[u8]) -> Declared
@@ -148,43 +156,80 @@ fn image_length(command: u32, lines: usize, adds: bool, body: usize) -> usize
     plain
 }
 
-// The answer: every refusal in its order, or the image's length.
-fn settle(command: u32, block: &[u8], declared: Declared, body: &[u8], room: usize) -> Encoded
+// Whether the lines that were summed are as long as the text of a block of so many octets: a record has four octets more than a line
+// of which no octet is escaped.
+fn is_plain(sums: Totals, block: usize) -> bool
+    requires { ⌜ (sums .count ≤ 33) × (sums .total ≤ 16929) ⌝ }
+    ensures { λ r. ⌜ r ≡ eqb (sums .total + 4 * sums .count) block ⌝ }
+{
+    sums.total + 4 * sums.count == block
+}
+
+// The answer: every refusal in its order, or the image's length; and how the lines are to be written.
+fn settle(command: u32, block: &[u8], declared: Declared, body: &[u8], room: usize) -> Settled
     requires { ⌜ Told (now block) declared ⌝ }
-    ensures { λ r. ⌜ encoded-says r ≡ indexed
+    ensures { λ r. ⌜
+        (encoded-says (r .answer) ≡ indexed
         (encode-answer v1-2 (record { command = command; block = now (block .entry); body = now (body .entry) }) room)
-        (encode-index v1-2 (record { command = command; block = now (block .entry); body = now (body .entry) })) ⌝ }
+        (encode-index v1-2 (record { command = command; block = now (block .entry); body = now (body .entry) })))
+        × (r .plain ≡ true
+        → written-lines (style-of command) (listed (entries (now (block .entry)))) ≡ written-lines unescaped (listed (entries (now (block .entry)))))
+        ⌝ }
 {
     if (command == 0) | (15 < command) {
-        return Encoded::UnknownCommand;
+        return Settled {
+            answer: Encoded::UnknownCommand,
+            plain: false,
+        };
     }
     if !declared.valid {
-        return Encoded::Malformed;
+        return Settled {
+            answer: Encoded::Malformed,
+            plain: false,
+        };
     }
     let s = sum(block, crate::word::style_of(command));
     let adds = adds_length(declared, body.len());
     let lines = if adds { s.count + 1 } else { s.count };
     if crate::limits::LINES < lines {
-        return Encoded::TooManyLines;
+        return Settled {
+            answer: Encoded::TooManyLines,
+            plain: false,
+        };
     }
     if s.good < s.count {
-        return Encoded::Unwritable(s.good);
+        return Settled {
+            answer: Encoded::Unwritable(s.good),
+            plain: false,
+        };
     }
     if crate::word::most_of(command) < body.len() {
-        return Encoded::BadBody;
+        return Settled {
+            answer: Encoded::BadBody,
+            plain: false,
+        };
     }
     let start = declared.start;
     let end = declared.end;
     if declared.present {
         if !says_length(&block[start..end], body.len()) {
-            return Encoded::WrongLength;
+            return Settled {
+                answer: Encoded::WrongLength,
+                plain: false,
+            };
         }
     }
     let total = image_length(command, s.total, adds, body.len());
     if room < total {
-        return Encoded::TooShort;
+        return Settled {
+            answer: Encoded::TooShort,
+            plain: false,
+        };
     }
-    Encoded::Length(total)
+    Settled {
+        answer: Encoded::Length(total),
+        plain: is_plain(s, block.len()),
+    }
 }
 
 // The octets of a frame at the front of the target. Every refusal is settled before the first octet is written.
@@ -200,7 +245,8 @@ pub fn encode(command: u32, block: &[u8], body: &[u8], target: &mut [u8]) -> Enc
         ⌝ }
 {
     let declared = declared_length(block);
-    let answer = settle(command, block, declared, body, target.len());
+    let settled = settle(command, block, declared, body, target.len());
+    let answer = settled.answer;
     if let Encoded::Length(n) = answer {
         crate::put::put_frame(
             target,
@@ -208,6 +254,7 @@ pub fn encode(command: u32, block: &[u8], body: &[u8], target: &mut [u8]) -> Enc
             block,
             adds_length(declared, body.len()),
             body,
+            settled.plain,
         );
     }
     answer

@@ -1,12 +1,13 @@
 // The octets of a frame, written part by part: each part at the front of what is left of the target.
 ghost use mathlib.Core.Path.{_≡_};
-ghost use mathlib.Core.Bool.{true};
+ghost use mathlib.Core.Bool.{true, cond};
 ghost use mathlib.Core.List.{[], _∷_, _++_};
 ghost use Prim.Native.Nat.{_+_, _≤_, _<_};
 ghost use lib.ListN.{length, drop};
 ghost use Rattle.headers.specs.Block.{entries, listed};
 ghost use Rattle.headers.specs.Answers.{is-block, Puts};
-ghost use Rattle.frames.specs.Scanning.{word-of};
+ghost use Rattle.headers.specs.Stretches.{unescaped};
+ghost use Rattle.frames.specs.Scanning.{word-of, style-of};
 ghost use Rattle.frames.specs.Encoding.{written-lines};
 ghost use Rattle.frames.specs.Writing.{length-octets, added-octets, image-of};
 use headers::DecimalWritten;
@@ -91,27 +92,43 @@ fn put_body(d: &mut [u8], body: &[u8])
     requires { ⌜ length (now body) < length (now d) ⌝ }
     ensures { λ _. ⌜ now (d .exit) ≡ (now (body .entry) ++ (0 ∷ [])) ++ drop (length (now (body .entry)) + 1) (now (d .entry)) ⌝ }
 {
-    let mut i = 0usize;
-    while i < body.len() {
-        d[i] = body[i];
-        i += 1;
-    }
-    d[i] = 0;
+    let n = body.len();
+    headers::copy(d, 0, body);
+    d[n] = 0;
 }
 
-// A whole frame.
-pub(crate) fn put_frame(d: &mut [u8], command: u32, block: &[u8], adds: bool, body: &[u8])
+// The style that lines are written in: where no octet is escaped, that without escapes, so that they are copied.
+fn line_style(style: Style, plain: bool) -> Style
+    ensures { λ r. ⌜ r ≡ cond plain unescaped style ⌝ }
+{
+    if plain {
+        return Style { escapes: false };
+    }
+    style
+}
+
+// A whole frame. Where plain is true, no octet of the block is escaped in its lines.
+pub(crate) fn put_frame(
+    d: &mut [u8],
+    command: u32,
+    block: &[u8],
+    adds: bool,
+    body: &[u8],
+    plain: bool,
+)
     requires { ⌜
         (command ≤ 15)
         × (is-block (now block) ≡ true)
         × (length (image-of command (listed (entries (now block))) adds (now body)) ≤ length (now d))
+        × (plain ≡ true → written-lines (style-of command) (listed (entries (now block))) ≡ written-lines unescaped (listed (entries (now block))))
         ⌝ }
     ensures { λ _. ⌜ now (d .exit) ≡ image-of command (listed (entries (now (block .entry)))) adds (now (body .entry))
         ++ drop (length (image-of command (listed (entries (now (block .entry)))) adds (now (body .entry)))) (now (d .entry)) ⌝ }
 {
     let style = crate::word::style_of(command);
+    let lines = line_style(style, plain);
     let mut at = put_word(d, command);
-    at += put_lines(&mut d[at..], block, style);
+    at += put_lines(&mut d[at..], block, lines);
     at += put_added(&mut d[at..], adds, body.len(), style);
     d[at] = 10;
     let next = at + 1;

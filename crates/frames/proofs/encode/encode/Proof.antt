@@ -38,8 +38,8 @@ call c = let a = c .before .before .before .before .before .args in record { com
 abbrev room : tie.After-settle → ℕ
 room c = length (c .before .before .before .before .before .args .target .now)
 
-settled : (c : tie.After-settle) (n : ℕ) → c .settle .result ≡ Encoded.Length n → Writes (call c) (room c) n
-settled c n e = writes (call c) (room c) n (ap encoded-says (sym e) ∙ c .settle .ensures)
+settled : (c : tie.After-settle) (n : ℕ) → c .settle .result .answer ≡ Encoded.Length n → Writes (call c) (room c) n
+settled c n e = writes (call c) (room c) n (ap encoded-says (sym e) ∙ c .settle .ensures .0)
 
 -- the flag that the code has is that of the definition
 flag : (c : tie.After-adds-length) → let k = call (c .before .before .before .before .before) in c .adds-length .result ≡ adds-length (listed (entries (k .block))) (k .body)
@@ -58,7 +58,7 @@ image-told c =
 put-frame-requires : tie.Need-put-frame-requires
 put-frame-requires c κs =
     let w = settled (c .before .before .before .before .before) _ (c .before .before .before .answer .given .1) in
-    (w .known, w .block-read, omega (arith, ap length (image-told c), w .long, w .fits))
+    (w .known, w .block-read, omega (arith, ap length (image-told c), w .long, w .fits), c .before .before .before .before .before .settle .ensures .1)
 
 same-length : tie.Need-same-length
 same-length c = search needs
@@ -71,7 +71,7 @@ returns c =
     let k = call s in
     let target = s .before .before .before .before .before .args .target .now in
     let put = c .before .before .put-frame .ensures ∙ ap (λ z. z ++ drop (length z) target) (image-told p) in
-    (ap encoded-says (sym (p .before .before .before .answer .given .1)) ∙ s .settle .ensures, acceptance _ _ (encode-image v1-2 k) target _ (w .answer) put .1)
+    (ap encoded-says (sym (p .before .before .before .answer .given .1)) ∙ s .settle .ensures .0, acceptance _ _ (encode-image v1-2 k) target _ (w .answer) put .1)
 
 -- the tags of the other answers
 no-length : OneOf (1 ∷ 2 ∷ 3 ∷ 4 ∷ 5 ∷ 6 ∷ 7 ∷ []) 0 → ⊥
@@ -82,8 +82,8 @@ returns-2 : tie.Need-returns-2
 returns-2 c =
     let s = c .before in
     let k = call s in (
-      s .settle .ensures,
-      sym (stays (s .settle .result) (encode-answer v1-2 k (room s)) (encode-index v1-2 k) (s .settle .ensures) (λ n e. no-length (rw e at (c .match .keys2)))
+      s .settle .ensures .0,
+      sym (stays (s .settle .result .answer) (encode-answer v1-2 k (room s)) (encode-index v1-2 k) (s .settle .ensures .0) (λ n e. no-length (rw e at (c .match .keys2)))
           (encode-image v1-2 k) (s .before .before .before .before .before .args .target .now)),
     )
 

@@ -1,7 +1,7 @@
 -- `encode::settle` meets its contract: each refusal in its order, from what the parts give.
 use borrow.Author.Needs.{needs}
 use borrow.Author.Tests.{not-true, not-false, ltb-false}
-use mathlib.Core.Path.{_≡_, sym, _∙_, ap, subst}
+use mathlib.Core.Path.{_≡_, refl, sym, _∙_, ap, subst}
 use mathlib.Core.Logic.{⊎-elim}
 use mathlib.Core.Bool.{Bool, true, false, cond}
 use mathlib.Core.Option.{none, some}
@@ -21,7 +21,7 @@ use Rattle.frames.specs.Writing.{value-at, Sums, lengths-of}
 use Rattle.frames.specs.declared.encode.Totals.{Totals}
 use Rattle.frames.proofs.Validity.{most-small}
 use Rattle.frames.proofs.Writing.{entries-listed, entries-not, adds-told, says-told, total-of}
-use Rattle.frames.proofs.Sums.{sums-many, sums-few, sums-unwritable, sums-writable}
+use Rattle.frames.proofs.Sums.{sums-many, sums-few, sums-unwritable, sums-writable, sums-plain}
 use Rattle.frames.proofs.Settled.{unknown-command, known-command, settle-of, says-of, no-command, no-block, settles, refuses-52, refuses-53, refuses-54, refuses-55, refuses-56, accepts}
 use Rattle.frames.proofs.encode.settle.Statement.{statement}
 use Rattle.frames.proofs.encode.settle.Tie as tie
@@ -33,14 +33,18 @@ call-of c = record { command = c .args .command; block = c .args .block .now; bo
 
 returns : tie.Need-returns
 returns c =
-    let b = c .before .before .before in
-    sym (no-command (call-of b) (b .args .room) (unknown-command (b .args .command) (c .if1 .taken)))
+    let b = c .before .before .before in (
+      sym (no-command (call-of b) (b .args .room) (unknown-command (b .args .command) (c .if1 .taken))),
+      λ h. absurd (let z : _≡_ {A = ℕ} 0 1 = cc in omega arith),
+    )
 
 returns-2 : tie.Need-returns-2
 returns-2 c =
     let b = c .before .before .before .before .before in
-    let (d, n, q) = known-command (b .args .command) (c .before .before .if1 .left) in
-    sym (no-block (call-of b) (b .args .room) d q (entries-not (b .args .block .now) (sym (b .pre .validity) ∙ not-true (b .args .declared .valid) (c .if2 .taken))))
+    let (d, n, q) = known-command (b .args .command) (c .before .before .if1 .left) in (
+      sym (no-block (call-of b) (b .args .room) d q (entries-not (b .args .block .now) (sym (b .pre .validity) ∙ not-true (b .args .declared .valid) (c .if2 .taken)))),
+      λ h. absurd (let z : _≡_ {A = ℕ} 0 1 = cc in omega arith),
+    )
 
 -- from here on both are known
 abbrev start : tie.Else2 → tie.Start
@@ -106,8 +110,10 @@ lines-at c =
 
 returns-3 : tie.Need-returns-3
 returns-3 c =
-    let a = c .before .before in
-    answered a (refused 52) (refuses-52 _ _ _ _ _ (sums-many _ _ _ (sums a) (cond (adds a) 1 0) (omega (arith, lines-at (c .before)))))
+    let a = c .before .before in (
+      answered a (refused 52) (refuses-52 _ _ _ _ _ (sums-many _ _ _ (sums a) (cond (adds a) 1 0) (omega (arith, lines-at (c .before))))),
+      λ h. absurd (let z : _≡_ {A = ℕ} 0 1 = cc in omega arith),
+    )
 
 -- they are few
 abbrev at-4 : tie.Else4 → tie.After-adds-length
@@ -121,9 +127,11 @@ all-few c = omega (arith, few-at c)
 
 returns-4 : tie.Need-returns-4
 returns-4 c =
-    let e = c .before .before in
-    ap (refusal 53) (sums (at-4 e) .writable (all-few e))
-    ∙ answered (at-4 e) (refused 53) (refuses-53 _ _ _ _ _ (few-at e) (sums-unwritable _ _ _ (sums (at-4 e)) (all-few e) (c .if5 .taken)))
+    let e = c .before .before in (
+      ap (refusal 53) (sums (at-4 e) .writable (all-few e))
+          ∙ answered (at-4 e) (refused 53) (refuses-53 _ _ _ _ _ (few-at e) (sums-unwritable _ _ _ (sums (at-4 e)) (all-few e) (c .if5 .taken))),
+      λ h. absurd (let z : _≡_ {A = ℕ} 0 1 = cc in omega arith),
+    )
 
 -- each can be written
 abbrev at-5 : tie.Else5 → tie.Else4
@@ -139,8 +147,10 @@ most-of-requires c κs = search needs
 
 returns-5 : tie.Need-returns-5
 returns-5 c =
-    let e = c .before .before in
-    answered (at-4 (at-5 e)) (refused 54) (refuses-54 _ _ _ _ _ (few-at (at-5 e)) (each-at e) (omega (arith, c .if6 .taken, c .before .most-of .ensures)))
+    let e = c .before .before in (
+      answered (at-4 (at-5 e)) (refused 54) (refuses-54 _ _ _ _ _ (few-at (at-5 e)) (each-at e) (omega (arith, c .if6 .taken, c .before .most-of .ensures))),
+      λ h. absurd (let z : _≡_ {A = ℕ} 0 1 = cc in omega arith),
+    )
 
 -- it is not too long
 abbrev at-6 : tie.Else6 → tie.Else5
@@ -180,10 +190,12 @@ said c = let b = start (at (from-6 c)) in says-told (b .args .block .now) (b .ar
 
 returns-6 : tie.Need-returns-6
 returns-6 c =
-    let e = c .before .before .before .before in
-    answered (from-6 e) (refused 55)
-    (refuses-55 _ _ _ _ _ (few-at (at-5 (at-6 e))) (each-at (at-6 e)) (fits-at e)
-    (said e true (c .before .before .before .if7 .taken) ∙ sym (c .before .says-length .ensures) ∙ not-true (c .before .says-length .result) (c .if8 .taken)))
+    let e = c .before .before .before .before in (
+      answered (from-6 e) (refused 55)
+          (refuses-55 _ _ _ _ _ (few-at (at-5 (at-6 e))) (each-at (at-6 e)) (fits-at e)
+          (said e true (c .before .before .before .if7 .taken) ∙ sym (c .before .says-length .ensures) ∙ not-true (c .before .says-length .result) (c .if8 .taken))),
+      λ h. absurd (let z : _≡_ {A = ℕ} 0 1 = cc in omega arith),
+    )
 
 says-at : (c : tie.Joined7) → says-length (length (body-at (c .before))) (first-length (entries-at (at (from-6 (c .before))))) ≡ true
 says-at c =
@@ -210,16 +222,24 @@ long-at c =
 
 returns-7 : tie.Need-returns-7
 returns-7 c =
-    let e = c .before .before .before in
-    answered (from-6 e) (refused 56)
-    (refuses-56 _ _ _ _ _ (few-at (at-5 (at-6 e))) (each-at (at-6 e)) (fits-at e) (says-at (c .before .before)) (omega (arith, long-at (c .before), c .if9 .taken)))
+    let e = c .before .before .before in (
+      answered (from-6 e) (refused 56)
+          (refuses-56 _ _ _ _ _ (few-at (at-5 (at-6 e))) (each-at (at-6 e)) (fits-at e) (says-at (c .before .before)) (omega (arith, long-at (c .before), c .if9 .taken))),
+      λ h. absurd (let z : _≡_ {A = ℕ} 0 1 = cc in omega arith),
+    )
+
+is-plain-requires : tie.Need-is-plain-requires
+is-plain-requires c κs = let a = from-6 (c .before .before .before) in (sums a .few, sums a .small)
 
 returns-8 : tie.Need-returns-8
 returns-8 c =
-    let e = c .before .before .before in
-    ap image-length (long-at (c .before))
-    ∙ answered (from-6 e) (accepted (image-at e ∷ []))
-    (accepts _ _ _ _ _ (few-at (at-5 (at-6 e))) (each-at (at-6 e)) (fits-at e) (says-at (c .before .before)) (omega (arith, long-at (c .before), c .if9 .left)))
+    let e = c .before .before .before .before in
+    let a = from-6 e in (
+      ap image-length (long-at (c .before .before))
+          ∙ answered a (accepted (image-at e ∷ []))
+          (accepts _ _ _ _ _ (few-at (at-5 (at-6 e))) (each-at (at-6 e)) (fits-at e) (says-at (c .before .before .before)) (omega (arith, long-at (c .before .before), c .before .if9 .left))),
+      λ h. sums-plain _ _ _ (sums a) (all-few (at-5 (at-6 e))) (start (at a) .args .block .now) (block-is (at a)) refl (at-6 e .if5 .left) (sym (c .is-plain .ensures) ∙ h),
+    )
 
 pub settle-spec : {M : Type 1} → statement M
 settle-spec =
@@ -242,4 +262,5 @@ settle-spec =
     returns-6
     image-length-requires
     returns-7
+    is-plain-requires
     returns-8)

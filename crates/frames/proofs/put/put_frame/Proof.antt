@@ -6,8 +6,11 @@ use Prim.Native.Nat.{ℕ, _+_, _-_}
 use native.Mathlib.Omega.{arith}
 use lib.ListN.{length, drop, set, length-append}
 use borrow.Rule.Slice.PartMut.{midOf, putMid}
-use Rattle.headers.specs.Block.{entries, listed}
-use Rattle.frames.specs.Scanning.{word-of}
+use mathlib.Core.Bool.{Bool, true, false, cond}
+use Rattle.headers.specs.Block.{Entry, entries, listed}
+use Rattle.headers.specs.Stretches.{unescaped}
+use Rattle.headers.specs.declared.text.Style.{Style}
+use Rattle.frames.specs.Scanning.{word-of, style-of}
 use Rattle.frames.specs.Encoding.{written-lines}
 use Rattle.frames.specs.Writing.{added-octets, image-of}
 use Rattle.headers.proofs.Put.{Partly, partly-first, partly-inside, partly-done, partly-fits, partly-put, partly-here, partly-store}
@@ -45,9 +48,20 @@ whole-is c =
     let a = c .before .before .before .before .args in
     ap (λ s. word-of (a .command) ++ (10 ∷ (written-lines s (listed (entries (a .block .now))) ++ (added-octets s (a .adds) (length (a .body .now)) ++ (10 ∷ body-part c))))) (c .style-of .ensures)
 
+-- the lines are the same in the style that they are written in
+lines-are : (p : Bool) (s t : Style) (es : List Entry) → s ≡ t → (p ≡ true → written-lines t es ≡ written-lines unescaped es) → written-lines (cond p unescaped s) es ≡ written-lines s es
+lines-are true s t es e h = sym (h refl) ∙ ap (λ z. written-lines z es) (sym e)
+lines-are false s t es e h = refl
+
+styled : (c : tie.After-line-style) → written-lines (c .line-style .result) (listed (entries (c .before .before .before .before .before .args .block .now))) ≡ lines-part (c .before)
+styled c =
+    let b = c .before .before .before .before .before in
+    let es = listed (entries (b .args .block .now)) in
+    ap (λ s. written-lines s es) (c .line-style .ensures) ∙ lines-are (b .args .plain) (c .before .style-of .result) (style-of (b .args .command)) es (c .before .style-of .ensures) (b .pre .3)
+
 -- what was known before the word, from each call on
 abbrev at-word : tie.After-put-word → tie.After-style-of
-at-word c = c .before .before
+at-word c = c .before .before .before
 
 abbrev at-lines : tie.After-put-lines → tie.After-style-of
 at-lines c = at-word (c .before .before .before .before)
@@ -77,8 +91,13 @@ abbrev lines-in : tie.After-put-lines → List ℕ
 lines-in c = let p = c .before .before .before .before .put-word in putMid (p .result) (length (p .last .0) - p .result) (p .last .0) (c .put-lines .last .0)
 
 lined : (c : tie.After-put-lines) → Partly (whole (at-lines c)) (behind-lines (at-lines c)) (target (at-lines c)) (lines-in c) (lines-end c)
-lined c = let q = c .put-lines in
-    partly-put (worded (c .before .before .before .before)) (lines-part (at-lines c)) (behind-lines (at-lines c)) refl (q .result) (q .last .0) (q .ensures .0) (q .ensures .1)
+lined c =
+    let q = c .put-lines in
+    let w = c .before .before .before .before in
+    let same = styled (w .before .before) in
+    let p = w .put-word in
+    partly-put (worded w) (lines-part (at-lines c)) (behind-lines (at-lines c)) refl (q .result) (q .last .0) (q .ensures .0 ∙ ap length same)
+    (q .ensures .1 ∙ ap (λ z. z ++ drop (length z) (midOf (p .result) (length (p .last .0) - p .result) (p .last .0))) same)
 
 abbrev added-end : tie.After-put-added → ℕ
 added-end c = lines-end (c .before .before .before .before) + c .put-added .result
@@ -109,8 +128,11 @@ framed c =
 style-of-requires : tie.Need-style-of-requires
 style-of-requires c κs = search needs
 
+line-style-requires : tie.Need-line-style-requires
+line-style-requires c κs = search needs
+
 put-word-requires : tie.Need-put-word-requires
-put-word-requires c κs = let s = c .before in
+put-word-requires c κs = let s = c .before .before in
     (s .before .before .before .before .pre .0, omega (arith, s .before .before .before .before .pre .2, ap length (whole-is s), length-append (word-of (s .before .before .before .before .args .command)) (10 ∷ behind-word s)))
 
 sub-put-lines : tie.Need-sub-put-lines
@@ -124,7 +146,7 @@ part-put-lines-end c = search needs
 
 put-lines-requires : tie.Need-put-lines-requires
 put-lines-requires c κs = let s = at-word (c .before .before .before) in
-    (s .before .before .before .before .pre .1, partly-fits (worded (c .before .before .before)) (lines-part s) (behind-lines s) refl)
+    (s .before .before .before .before .pre .1, omega (arith, partly-fits (worded (c .before .before .before)) (lines-part s) (behind-lines s) refl, ap length (styled (c .before .before .before .before .before))))
 
 add-at : tie.Need-add-at
 add-at c = omega (arith, partly-inside (lined (c .before .before)), lined (c .before .before) .as-long)
@@ -176,6 +198,7 @@ put-frame-spec =
     tie.close
     (tie.spec
     style-of-requires
+    line-style-requires
     put-word-requires
     sub-put-lines
     part-put-lines-start
