@@ -46,7 +46,7 @@ static void fail(const char *what, const uint8_t *octets, size_t length)
 {
     fflush(stdout);
     fprintf(stderr, "bench: %s\n", what);
-    for (size_t p = 0; p < PARSERS; p++)
+    for (size_t p = 0; p < COMPARED; p++)
         show_answer(names[p], parsers[p](octets, length));
     show_octets("the input", octets, length);
     exit(1);
@@ -57,7 +57,7 @@ static uint64_t agreed(const uint8_t *octets, size_t length)
 {
     const uint8_t *copy = at_end(guard, octets, length);
     uint64_t answer = parsers[BASELINE](copy, length);
-    for (size_t p = 0; p < PARSERS; p++)
+    for (size_t p = 0; p < COMPARED; p++)
         if (parsers[p](copy, length) != answer)
             fail("the answers differ", octets, length);
     return answer;
@@ -245,7 +245,7 @@ static void check_stream(const struct stream *st, uint64_t *seed)
         const uint8_t *item = st->octets + at;
         uint64_t answer = parsers[BASELINE](item, st->length - at);
         size_t length = stomp_parse_used(answer);
-        for (size_t p = 0; p < PARSERS; p++)
+        for (size_t p = 0; p < COMPARED; p++)
             if (parsers[p](item, st->length - at) != answer)
                 fail("the answers differ in a stream", item, st->length - at);
         if (stomp_parse_kind(answer) != STOMP_FRAME)

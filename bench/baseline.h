@@ -17,9 +17,16 @@ uint64_t baseline_parse_memchr(const uint8_t *octets, size_t length);
 /* Parses as baseline_parse does, goes over the lines once to measure and once to write. */
 uint64_t baseline_decode(const uint8_t *frame, size_t length, uint8_t *block, size_t block_length);
 
+/* The same with memchr and memcpy, as one who wants speed would write it. */
+uint64_t baseline_decode_memchr(const uint8_t *frame, size_t length, uint8_t *block, size_t block_length);
+
 /* Goes over the block once for its records, once to measure and once to write. */
 uint64_t baseline_encode(uint32_t command, const uint8_t *block, size_t block_length, const uint8_t *body,
                          size_t body_length, uint8_t *target, size_t target_length);
+
+/* The same, but texts without an octet that is escaped are copied by memcpy. */
+uint64_t baseline_encode_memcpy(uint32_t command, const uint8_t *block, size_t block_length, const uint8_t *body,
+                                size_t body_length, uint8_t *target, size_t target_length);
 
 /* Goes over the block once. */
 uint64_t baseline_find(const uint8_t *block, size_t block_length, const uint8_t *name, size_t name_length);

@@ -66,7 +66,7 @@ void fail_call(const char *what, const struct call *c)
     fflush(stdout);
     fprintf(stderr, "bench: %s: %s\n", c->encodes ? "encode" : "decode", what);
     lay_out(c);
-    for (size_t who = 0; who < PAIR; who++) {
+    for (size_t who = 0; who < COMPARED; who++) {
         uint64_t answer = run(who, c, buffer, sizeof buffer);
         fprintf(stderr, "  %-16s length %zu, code %u, index %zu\n", names[who], stomp_length(answer),
                 stomp_code(answer), stomp_index(answer));
@@ -96,12 +96,12 @@ static bool is_kept(const struct call *c, const uint8_t *buffer, size_t length, 
            memcmp(body_end - c->body_length, c->body, c->body_length) == 0;
 }
 
-/* The answer of both, with a buffer of this length. */
+/* The answer of all, with a buffer of this length. */
 static uint64_t agreed(const struct call *c, size_t length)
 {
     uint64_t answer = 0;
     filled = fill + cases[c->encodes] % FILLS;
-    for (size_t who = 0; who < PAIR; who++) {
+    for (size_t who = 0; who < COMPARED; who++) {
         uint8_t *buffer = fresh_buffer(length);
         uint64_t given = run(who, c, buffer, length);
         if (!is_kept(c, buffer, length, given))

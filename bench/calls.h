@@ -12,13 +12,14 @@ typedef uint64_t encoder(uint32_t command, const uint8_t *block, size_t block_le
 
 typedef uint64_t finder(const uint8_t *block, size_t block_length, const uint8_t *name, size_t name_length);
 
-/* Ours: whatever is linked under the names of include/stomp.h. Only parse has the third. */
-enum { OURS, BASELINE, PAIR, BASELINE_MEMCHR = PAIR, PARSERS };
+/* Ours: whatever is linked under the names of include/stomp.h. The third is C with memchr and memcpy; find
+ * has none. The fourth is the code before, where it is linked. */
+enum { OURS, BASELINE, PAIR, FAST = PAIR, COMPARED, BEFORE = COMPARED, VARIANTS };
 
-extern parser *const parsers[PARSERS];
-extern decoder *const decoders[PAIR];
-extern encoder *const encoders[PAIR];
+extern parser *const parsers[VARIANTS];
+extern decoder *const decoders[VARIANTS];
+extern encoder *const encoders[VARIANTS];
 extern finder *const finders[PAIR];
-extern const char *const names[PARSERS];
+extern const char *const names[VARIANTS];
 
 #endif

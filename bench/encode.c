@@ -1,9 +1,14 @@
-/* Encoding by hand: a frame's octets from a command, a header block and a body. */
+/* Encoding by hand: a frame's octets from a command, a header block and a body. Built in two variants: texts
+ * octet by octet, and by memcpy where none of their octets is escaped. */
 #include "baseline.h"
 
 #include <string.h>
 
 #include "rules.h"
+
+#ifdef WITH_MEMCPY
+#define baseline_encode baseline_encode_memcpy
+#endif
 
 /* The letter that stands for an octet behind a backslash, or 0. */
 static const uint8_t letters[256] = {[LF] = 'n', [CR] = 'r', [COLON] = 'c', [BACKSLASH] = BACKSLASH};
@@ -48,6 +53,15 @@ static bool read_block(const uint8_t *block, size_t length, struct entries *e)
     return true;
 }
 
+/* How many octets of a text are escaped. */
+static inline size_t escapes_in(const uint8_t *text, size_t length)
+{
+    size_t special = 0;
+    for (size_t i = 0; i < length; i++)
+        special += letters[text[i]] != 0;
+    return special;
+}
+
 /* The length of the raw line of an entry, or 0 where it cannot be written. */
 static inline size_t line_length(const uint8_t *text, size_t name, size_t value, bool escapes)
 {
@@ -56,8 +70,7 @@ static inline size_t line_length(const uint8_t *text, size_t name, size_t value,
         return 0;
     size_t special = 0;
     if (escapes) {
-        for (size_t i = 0; i < name + value; i++)
-            special += letters[text[i]] != 0;
+        special = escapes_in(text, name + value);
         length += special;
         return length <= STOMP_MAX_LINE ? length : 0;
     }
@@ -96,6 +109,12 @@ static uint8_t *put(uint8_t *to, const char *text, size_t length)
 
 static inline uint8_t *put_text(uint8_t *to, const uint8_t *text, size_t length, bool escapes)
 {
+#ifdef WITH_MEMCPY
+    if (!escapes) {
+        memcpy(to, text, length);
+        return to + length;
+    }
+#endif
     for (size_t i = 0; i < length; i++) {
         uint8_t x = text[i];
         if (escapes && letters[x]) {
@@ -132,6 +151,8 @@ uint64_t baseline_encode(uint32_t command, const uint8_t *block, size_t block_le
     size_t word = strlen(command_words[command]);
     /* The word, the empty line and octet 0. */
     size_t needed = word + 3;
+    /* The entries that are written octet by octet with escapes. */
+    bool some[STOMP_MAX_LINES];
     const uint8_t *at = block;
     for (size_t i = 0; i < e.count; i++) {
         size_t name = number_at(at + 2);
@@ -139,6 +160,11 @@ uint64_t baseline_encode(uint32_t command, const uint8_t *block, size_t block_le
         size_t line = line_length(at + HEAD, name, value, escapes);
         if (line == 0)
             return refused(STOMP_ENCODE_ENTRY, i);
+#ifdef WITH_MEMCPY
+        some[i] = line > name + 1 + value;
+#else
+        some[i] = escapes;
+#endif
         needed += line + 1;
         at += HEAD + name + value;
     }
@@ -158,9 +184,9 @@ uint64_t baseline_encode(uint32_t command, const uint8_t *block, size_t block_le
     for (size_t i = 0; i < e.count; i++) {
         size_t name = number_at(at + 2);
         size_t value = number_at(at + 4);
-        to = put_text(to, at + HEAD, name, escapes);
+        to = put_text(to, at + HEAD, name, some[i]);
         *to++ = COLON;
-        to = put_text(to, at + HEAD + name, value, escapes);
+        to = put_text(to, at + HEAD + name, value, some[i]);
         *to++ = LF;
         at += HEAD + name + value;
     }

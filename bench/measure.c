@@ -17,8 +17,8 @@
 /* Rounds of parse, and of decode and encode, which take longer. */
 enum { PARSE_ROUNDS = 40, BUFFER_ROUNDS = 20 };
 
-/* The stream whose bodies memchr searches. */
-enum { TEXT_BODIES = 4 };
+/* Streams of which something is asked by itself. */
+enum { SHORT_FRAMES = 0, LONG_HEADERS = 1, ESCAPES = 2, TEXT_BODIES = 4, SHORT_HEADERS = 5 };
 
 /* The least time of one measurement, in seconds. */
 static const double least_time = 0.004;
@@ -26,13 +26,32 @@ static const double least_time = 0.004;
 /* What --check asks of the ratios. */
 static const double least_ratio = 0.9;
 static const double least_memchr_ratio = 0.3;
-static const double least_buffer_ratio = 0.7;
+static const double least_decode_ratio = 0.7;
+static const double least_encode_ratio = 1.0;
+static const double least_fast_decode = 0.9;
+static const double least_fast_encode = 0.85;
 
-parser *const parsers[PARSERS] = {stomp_parse, baseline_parse, baseline_parse_memchr};
-decoder *const decoders[PAIR] = {stomp_decode, baseline_decode};
-encoder *const encoders[PAIR] = {stomp_encode, baseline_encode};
+/* Of decode against the code before; 0 where nothing is asked. */
+static const double least_before[STREAMS] = {
+    [LONG_HEADERS] = 2.0, [ESCAPES] = 0.95, [SHORT_HEADERS] = 1.2};
+
+#ifdef WITH_BEFORE
+parser before_parse;
+decoder before_decode;
+encoder before_encode;
+static const size_t measured = VARIANTS;
+#else
+#define before_parse NULL
+#define before_decode NULL
+#define before_encode NULL
+static const size_t measured = COMPARED;
+#endif
+
+parser *const parsers[VARIANTS] = {stomp_parse, baseline_parse, baseline_parse_memchr, before_parse};
+decoder *const decoders[VARIANTS] = {stomp_decode, baseline_decode, baseline_decode_memchr, before_decode};
+encoder *const encoders[VARIANTS] = {stomp_encode, baseline_encode, baseline_encode_memcpy, before_encode};
 finder *const finders[PAIR] = {stomp_find, baseline_find};
-const char *const names[PARSERS] = {"ours", "baseline", "memchr"};
+const char *const names[VARIANTS] = {"ours", "baseline", "memchr", "before"};
 
 /* The names that are looked up: some that frames have, and one that none has. */
 static const char *const looked_up[] = {"destination", "message-id", "content-length", "receipt"};
@@ -194,9 +213,9 @@ static double time_of(pass *run, size_t who, const struct work *w, size_t passes
 /* The best time of each on each stream. They take turns, each round in another order, and the
  * rounds of one stream are spread over the whole run. */
 static void measure(pass *run, size_t count, size_t rounds, const struct work works[STREAMS],
-                    double best[STREAMS][PARSERS])
+                    double best[STREAMS][VARIANTS])
 {
-    size_t passes[STREAMS][PARSERS];
+    size_t passes[STREAMS][VARIANTS];
     for (size_t s = 0; s < STREAMS; s++) {
         for (size_t who = 0; who < count; who++) {
             best[s][who] = time_of(run, who, &works[s], 2);
@@ -215,37 +234,37 @@ static void measure(pass *run, size_t count, size_t rounds, const struct work wo
     }
 }
 
-/* Prints one row of a table. */
-static void print_row(const struct stream *st, const double best[PARSERS], bool with_memchr)
+/* Prints one row of a table: ours and the baseline, then so many others. */
+static void print_row(const struct stream *st, const double best[VARIANTS], size_t count)
 {
     double per_octet = 1e9 / (double)st->length;
-    printf("%-21s %9zu %7zu %9.4f %9.4f %9.2f", st->name, st->length, st->items,
-           best[OURS] * per_octet, best[BASELINE] * per_octet, best[BASELINE] / best[OURS]);
-    if (with_memchr)
-        printf(" %9.4f %9.2f", best[BASELINE_MEMCHR] * per_octet, best[BASELINE_MEMCHR] / best[OURS]);
+    printf("%-21s %9zu %7zu %9.4f", st->name, st->length, st->items, best[OURS] * per_octet);
+    for (size_t who = BASELINE; who < count; who++)
+        printf(" %9.4f %9.2f", best[who] * per_octet, best[who] / best[OURS]);
     printf("\n");
 }
 
-static void print_head(bool with_memchr)
+static void print_head(size_t count)
 {
-    printf("%-21s %9s %7s %9s %9s %9s", "stream", "octets", "items", "ours", "baseline", "ratio");
-    if (with_memchr)
-        printf(" %9s %9s", "memchr", "ratio");
+    printf("%-21s %9s %7s %9s", "stream", "octets", "items", names[OURS]);
+    for (size_t who = BASELINE; who < count; who++)
+        printf(" %9s %9s", names[who], "ratio");
     printf("\n");
 }
 
 /* Whether a ratio is as large as asked; says so where it is not. */
-static bool is_enough(const char *call, const struct stream *st, size_t against, const double best[PARSERS],
+static bool is_enough(const char *call, const struct stream *st, size_t against, const double best[VARIANTS],
                       double least)
 {
     double ratio = best[against] / best[OURS];
     if (ratio < least)
-        fprintf(stderr, "bench: %s, stream %s: the ratio to %s is %.3f, under %.1f\n", call, st->name,
+        fprintf(stderr, "bench: %s, stream %s: the ratio to %s is %.3f, under %.2f\n", call, st->name,
                 names[against], ratio, least);
     return ratio >= least;
 }
 
-static bool are_enough(const char *call, const struct work works[STREAMS], double best[STREAMS][PARSERS],
+/* The same of all streams. */
+static bool are_enough(const char *call, const struct work works[STREAMS], double best[STREAMS][VARIANTS],
                        double least)
 {
     bool good = true;
@@ -254,26 +273,36 @@ static bool are_enough(const char *call, const struct work works[STREAMS], doubl
     return good;
 }
 
-/* Measures parse and prints its table. */
-static void measure_parse(const struct work works[STREAMS], double best[STREAMS][PARSERS])
+static bool is_plain(size_t s)
 {
-    measure(parse_pass, PARSERS, PARSE_ROUNDS, works, best);
-    printf("ns per octet; a ratio is the time of C divided by that of ours\n");
-    print_head(true);
-    for (size_t s = 0; s < STREAMS; s++)
-        print_row(works[s].stream, best[s], s == TEXT_BODIES);
-    fflush(stdout);
+    return s == SHORT_FRAMES || s == LONG_HEADERS || s == SHORT_HEADERS;
 }
 
-/* Measures decode, encode or find and prints its table. */
-static void measure_buffers(const char *call, pass *run, const struct work works[STREAMS],
-                            double best[STREAMS][PARSERS])
+/* What is asked of decode and encode beside that. */
+static bool are_quick(const struct work works[STREAMS], double decode[STREAMS][VARIANTS],
+                      double encode[STREAMS][VARIANTS])
 {
-    measure(run, PAIR, BUFFER_ROUNDS, works, best);
+    bool good = true;
+    for (size_t s = 0; s < STREAMS; s++) {
+        const struct stream *st = works[s].stream;
+        if (is_plain(s))
+            good &= is_enough("decode", st, FAST, decode[s], least_fast_decode);
+        good &= is_enough("encode", st, FAST, encode[s], least_fast_encode);
+        if (measured > BEFORE)
+            good &= is_enough("decode", st, BEFORE, decode[s], least_before[s]);
+    }
+    return good;
+}
+
+/* Measures a call and prints its table. */
+static void measure_call(const char *call, pass *run, size_t count, size_t rounds, const struct work works[STREAMS],
+                         double best[STREAMS][VARIANTS])
+{
+    measure(run, count, rounds, works, best);
     printf("\n%s\n", call);
-    print_head(false);
+    print_head(count);
     for (size_t s = 0; s < STREAMS; s++)
-        print_row(works[s].stream, best[s], false);
+        print_row(works[s].stream, best[s], count);
     fflush(stdout);
 }
 
@@ -281,8 +310,8 @@ int main(int argc, char **argv)
 {
     struct stream streams[STREAMS];
     struct work works[STREAMS];
-    double parse[STREAMS][PARSERS], decode[STREAMS][PARSERS], encode[STREAMS][PARSERS];
-    double find[STREAMS][PARSERS];
+    double parse[STREAMS][VARIANTS], decode[STREAMS][VARIANTS], encode[STREAMS][VARIANTS];
+    double find[STREAMS][VARIANTS];
     bool good = true;
     bool check = argc > 1 && strcmp(argv[1], "--check") == 0;
     int first = check ? 2 : 1;
@@ -296,17 +325,19 @@ int main(int argc, char **argv)
         make_work(&works[s], &streams[s]);
         check_finds(&works[s]);
     }
-    measure_parse(works, parse);
-    measure_buffers("decode", decode_pass, works, decode);
-    measure_buffers("encode", encode_pass, works, encode);
-    measure_buffers("find", find_pass, works, find);
+    printf("ns per octet; a ratio is the time of C, or of the code before, divided by that of ours\n");
+    measure_call("parse", parse_pass, measured, PARSE_ROUNDS, works, parse);
+    measure_call("decode", decode_pass, measured, BUFFER_ROUNDS, works, decode);
+    measure_call("encode", encode_pass, measured, BUFFER_ROUNDS, works, encode);
+    measure_call("find", find_pass, PAIR, BUFFER_ROUNDS, works, find);
     good &= measure_feed(streams, argv + first, argc - first, check);
     if (check) {
         good &= are_enough("parse", works, parse, least_ratio);
-        good &= is_enough("parse", &streams[TEXT_BODIES], BASELINE_MEMCHR, parse[TEXT_BODIES],
+        good &= is_enough("parse", &streams[TEXT_BODIES], FAST, parse[TEXT_BODIES],
                           least_memchr_ratio);
-        good &= are_enough("decode", works, decode, least_buffer_ratio);
-        good &= are_enough("encode", works, encode, least_buffer_ratio);
+        good &= are_enough("decode", works, decode, least_decode_ratio);
+        good &= are_enough("encode", works, encode, least_encode_ratio);
+        good &= are_quick(works, decode, encode);
     }
     return good ? 0 : 1;
 }

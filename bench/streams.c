@@ -1,4 +1,4 @@
-/* Makes the five streams. */
+/* Makes the streams. */
 #include "streams.h"
 
 #include <stdio.h>
@@ -116,18 +116,51 @@ static void put_long_headers(struct maker *m)
     put_octet(m, 0);
 }
 
+static void put_escape(struct maker *m)
+{
+    static const char *const escapes[] = {"\\r", "\\n", "\\c", "\\\\"};
+    put(m, escapes[between(m, 0, 3)]);
+}
+
 /* Ten lines whose values have an escape after each one to six octets. */
 static void put_escapes(struct maker *m)
 {
-    static const char *const escapes[] = {"\\r", "\\n", "\\c", "\\\\"};
     put_command(m);
     for (size_t i = 0; i < 10; i++) {
         put_plain(m, between(m, 5, 25));
         put_octet(m, ':');
         for (size_t left = between(m, 10, 50); left > 0; left--) {
             put_plain(m, between(m, 1, 6));
-            put(m, escapes[between(m, 0, 3)]);
+            put_escape(m);
         }
+        put_octet(m, '\n');
+    }
+    put_octet(m, '\n');
+    put_octet(m, 0);
+}
+
+/* Ten lines as short as most are, no body. */
+static void put_short_headers(struct maker *m)
+{
+    put_command(m);
+    for (size_t i = 0; i < 10; i++)
+        put_short_header(m);
+    put_octet(m, '\n');
+    put_octet(m, 0);
+}
+
+/* Ten lines with one escape in each value. */
+static void put_single_escapes(struct maker *m)
+{
+    put_command(m);
+    for (size_t i = 0; i < 10; i++) {
+        size_t value = between(m, 10, 100);
+        size_t before = between(m, 0, value);
+        put_plain(m, between(m, 5, 25));
+        put_octet(m, ':');
+        put_plain(m, before);
+        put_escape(m);
+        put_plain(m, value - before);
         put_octet(m, '\n');
     }
     put_octet(m, '\n');
@@ -183,4 +216,6 @@ void make_streams(struct stream streams[STREAMS])
     make_stream(&streams[2], "3 escapes", put_escapes, 3);
     make_stream(&streams[3], "4 bodies with length", put_large_body, 4);
     make_stream(&streams[4], "5 text bodies", put_text_body, 5);
+    make_stream(&streams[5], "6 short headers", put_short_headers, 6);
+    make_stream(&streams[6], "7 single escapes", put_single_escapes, 7);
 }

@@ -1,11 +1,11 @@
-/* The five streams that are measured, and the random numbers they are made from. */
+/* The streams that are measured, and the random numbers they are made from. */
 #ifndef STREAMS_H
 #define STREAMS_H
 
 #include <stddef.h>
 #include <stdint.h>
 
-enum { STREAMS = 5 };
+enum { STREAMS = 7 };
 
 struct stream {
     const char *name;
