@@ -161,7 +161,8 @@ Parted xs i l =
     × (take (l .colon - i) (drop i xs) ≡ front-name (drop i xs))
     × (take (l .end - l .value) (drop (l .value) xs) ≡ front-value (drop i xs))
     × (drop (l .next) xs ≡ behind-line (drop i xs))
-    × (l .plain ≡ true → (every not-back (front-name (drop i xs)) ≡ true) × (every not-back (front-value (drop i xs)) ≡ true))
+    × (every not-back (take (l .known .name) (front-name (drop i xs))) ≡ true)
+    × (every not-back (take (l .known .value) (front-value (drop i xs))) ≡ true)
 
 module _ (style : Style) (xs : List ℕ) (n : ℕ) where
   -- their entries, where i of n lines are passed and the next is at a place

@@ -3,7 +3,7 @@ ghost use mathlib.Core.Path.{_≡_};
 ghost use mathlib.Core.Bool.{true, false};
 ghost use Prim.Native.Nat.{_+_, _≤_};
 ghost use lib.Dec.{ltb};
-ghost use lib.ListN.{length, drop};
+ghost use lib.ListN.{length, take, drop};
 ghost use Rattle.headers.specs.Rows.{any, every};
 ghost use Rattle.headers.specs.Stretches.{not-back};
 ghost use Rattle.headers.specs.Block.{image};
@@ -14,6 +14,7 @@ ghost use Rattle.frames.specs.Layout.{front-lines};
 ghost use Rattle.frames.specs.Decoding.{line-entries, too-long, Decodes};
 ghost use Rattle.frames.specs.Answers.{decoded-says};
 use crate::parse::Parsed;
+use headers::Known;
 use headers::RecordWritten;
 use headers::Style;
 
@@ -78,25 +79,22 @@ fn measure(s: &[u8], from: usize, n: usize, style: Style) -> Measured
     Measured { total, long }
 }
 
-// The record of a line at the front of d, as write_decoded puts it: by copying where the line is known to have no backslash.
+// The record of a line at the front of d, as write_decoded puts it: so many octets are known to have no backslash.
 fn write_line_record(
     d: &mut [u8],
     name: &[u8],
     value: &[u8],
-    plain: bool,
+    known: Known,
     style: Style,
 ) -> RecordWritten
-    requires { ⌜ (plain ≡ true → (every not-back (now name) ≡ true) × (every not-back (now value) ≡ true)) ⌝ }
+    requires { ⌜ (every not-back (take (known .name) (now name)) ≡ true) × (every not-back (take (known .value) (now value)) ≡ true) ⌝ }
     ensures { λ r. ⌜
         (record-says r ≡ decoded-answer style (length (now (d .entry))) (now (name .entry)) (now (value .entry)))
         × (now (d .exit) ≡ left-in (decoded-answer style (length (now (d .entry))) (now (name .entry)) (now (value .entry)))
         (written-record style (now (name .entry)) (now (value .entry))) (now (d .entry)))
         ⌝ }
 {
-    if plain {
-        return headers::write_plain(d, name, value);
-    }
-    headers::write_decoded(d, name, value, style)
+    headers::write_known(d, name, value, known, style)
 }
 
 // Those records at the front of the block: their octets. Each is written by a call that is given the part of the block that is left.
@@ -122,7 +120,7 @@ fn put_records(s: &[u8], from: usize, n: usize, style: Style, block: &mut [u8]) 
             &mut block[used..],
             &s[at..colon],
             &s[value..end],
-            l.plain,
+            l.known,
             style,
         ) else {
             return used;

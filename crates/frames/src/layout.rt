@@ -6,22 +6,23 @@ ghost use lib.ListN.{length, take, drop};
 ghost use Rattle.headers.specs.Rows.{every};
 ghost use Rattle.headers.specs.Stretches.{not-back};
 ghost use Rattle.frames.specs.Layout.{stop-span, behind-end, front-name, front-value, behind-line, behind-word};
+use headers::Known;
 use headers::Stops;
 
 // The parts of a header line: its name from the line's start up to colon, its value from value up to end; next is after its line end.
-// Where plain is true, neither has a backslash.
+// So many octets of both are known to have no backslash.
 pub struct LineAt {
     pub colon: usize,
     pub value: usize,
     pub end: usize,
     pub next: usize,
-    pub plain: bool,
+    pub known: Known,
 }
 
-// Where a name or a value ends. Where plain is true, it has no backslash.
+// Where a name or a value ends, and how many octets at its front are known to have no backslash.
 pub struct TextEnd {
     pub at: usize,
-    pub plain: bool,
+    pub known: usize,
 }
 
 // k places on, or n where that is less.
@@ -40,32 +41,28 @@ fn stop_at(s: &[u8], i: usize, colon: u8) -> usize
     i + headers::plain_span(&s[i..], Stops { colon, back: 10 })
 }
 
-// The same, and whether a backslash is before it: one search finds the end of a text without one, and a text that has one is searched on.
+// The same, and how far the text goes to a backslash: one search finds the end of a text without one, and a text that has one is searched on.
 fn text_end(s: &[u8], i: usize, colon: u8) -> TextEnd
     requires { ⌜ i ≤ length (now s) ⌝ }
     ensures { λ r. ⌜
         (r .at ≡ i + stop-span colon (drop i (now (s .entry))))
         × (r .at ≤ length (now (s .entry)))
-        × (r .plain ≡ true → every not-back (take (stop-span colon (drop i (now (s .entry)))) (drop i (now (s .entry)))) ≡ true)
+        × (i + r .known ≤ r .at)
+        × (every not-back (take (r .known) (drop i (now (s .entry)))) ≡ true)
         ⌝ }
 {
-    let stop = i + headers::plain_span(&s[i..], Stops { colon, back: 92 });
+    let known = headers::plain_span(&s[i..], Stops { colon, back: 92 });
+    let stop = i + known;
     if s.len() <= stop {
-        return TextEnd {
-            at: stop,
-            plain: true,
-        };
+        return TextEnd { at: stop, known };
     }
     if s[stop] == 92 {
         return TextEnd {
             at: stop_at(s, stop, colon),
-            plain: false,
+            known,
         };
     }
-    TextEnd {
-        at: stop,
-        plain: true,
-    }
+    TextEnd { at: stop, known }
 }
 
 // The place behind the line end at i.
@@ -96,8 +93,8 @@ pub(crate) fn line_at(s: &[u8], i: usize) -> LineAt
         × (take (r .colon - i) (drop i (now (s .entry))) ≡ front-name (drop i (now (s .entry))))
         × (take (r .end - r .value) (drop (r .value) (now (s .entry))) ≡ front-value (drop i (now (s .entry))))
         × (drop (r .next) (now (s .entry)) ≡ behind-line (drop i (now (s .entry))))
-        × (r .plain ≡ true
-        → (every not-back (front-name (drop i (now (s .entry)))) ≡ true) × (every not-back (front-value (drop i (now (s .entry)))) ≡ true))
+        × (every not-back (take (r .known .name) (front-name (drop i (now (s .entry))))) ≡ true)
+        × (every not-back (take (r .known .value) (front-value (drop i (now (s .entry))))) ≡ true)
         ⌝ }
 {
     let name = text_end(s, i, 58);
@@ -108,6 +105,9 @@ pub(crate) fn line_at(s: &[u8], i: usize) -> LineAt
         value,
         end: text.at,
         next: behind_end(s, text.at),
-        plain: name.plain & text.plain,
+        known: Known {
+            name: name.known,
+            value: text.known,
+        },
     }
 }

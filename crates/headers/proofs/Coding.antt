@@ -6,6 +6,7 @@
 --     encode-long, encode-twice      encoded text is never shorter, and at most twice as long
 --     encode-append                  two texts are encoded one after the other
 --     decode-front, decode-stretch   octets without a backslash are decoded as themselves
+--     kept-..                        the same where so many octets are known to have none
 --     decode-off, encode-off         without escapes text is itself
 --     encode-same                    so is text that is as long encoded
 --     encode-text                    what can be written is raw text when encoded
@@ -22,7 +23,7 @@ use lib.Seq.{drop-cons, drop-drop, getD-drop, take-all, length-take-le}
 use lib.Dec.{eqb, leb}
 use borrow.Author.Tests.{eqb-true, not-true, leb-true, le-leb}
 use Rattle.headers.specs.Rows.{every}
-use Rattle.headers.specs.Stretches.{not-back, Stretch}
+use Rattle.headers.specs.Stretches.{not-back, Stretch, kept}
 use Rattle.headers.specs.Text.{divides, stops, escape-table, is-letter, opens, plain, Character, itself, escape, Text, none, more}
 use Rattle.headers.specs.Escapes.{meaning, letter-of, means, at-escape, width, octet-at, decode, escaped, encode-octet, encode, writable}
 use Rattle.headers.specs.Lines.{content-length}
@@ -226,10 +227,6 @@ decode-front s (x ∷ xs) ys h =
     let shut : opens s x ≡ false = rw (not-true (eqb x 92) (and-left (not-back x) (every not-back xs) h)) (and-no (s .escapes)) in
     decode-itself s x (xs ++ ys) shut ∙ ap (x ∷_) (decode-front s xs ys (and-right (not-back x) (every not-back xs) h))
 
-pub decode-clear : (s : Style) (xs : List ℕ) → every not-back xs ≡ true → decode s xs ≡ xs
-unfolding decode
-decode-clear s xs h = ap (decode s) (sym (append-nil xs)) ∙ decode-front s xs [] h ∙ append-nil xs
-
 -- the stretch of n octets at place i
 pub decode-stretch : (s : Style) (xs : List ℕ) (i n : ℕ) → every not-back (take n (drop i xs)) ≡ true
     → decode s (drop i xs) ≡ take n (drop i xs) ++ decode s (drop (i + n) xs)
@@ -249,6 +246,21 @@ decode-on s xs i n h so =
       length-take-le (i + n - i) (drop i xs) (omega (arith, fits, length-drop i xs)),
       decode-stretch s xs i n (at .clear) ∙ ap (λ k. take k (drop i xs) ++ decode s (drop (i + n) xs)) wide,
     )
+
+-- texts whose first k octets are taken as they are
+module _ (s : Style) (k : ℕ) (xs : List ℕ) where
+  pub kept-clear : every not-back (take k xs) ≡ true → kept k s xs ≡ decode s xs
+  kept-clear h = sym (decode-front s (take k xs) (drop k xs) h) ∙ ap (decode s) (take-append-drop k xs)
+
+  pub kept-all : length xs ≤ k → kept k s xs ≡ xs
+  unfolding decode
+  kept-all h = ap₂ (λ x y. x ++ decode s y) (take-all k xs h) (drop-of-length-le xs {i = k} h) ∙ append-nil xs
+
+  pub kept-long : length (kept k s xs) ≡ length (take k xs) + length (decode s (drop k xs))
+  kept-long = length-append (take k xs) (decode s (drop k xs))
+
+  pub kept-short : length (kept k s xs) ≤ length xs
+  kept-short = omega (arith, kept-long, decode-short s (drop k xs), ap length (take-append-drop k xs), length-append (take k xs) (drop k xs))
 
 -- where there are no escapes, text is itself
 pub decode-off : (s : Style) → s .escapes ≡ false → (xs : List ℕ) → decode s xs ≡ xs

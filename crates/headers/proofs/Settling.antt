@@ -1,6 +1,6 @@
 -- Answers settled by checks in order: laws. Assumes nothing.
 --     refusal, acceptance     what a buffer call owes at its end, from the answer alone
---     clear-..                a record without a backslash, by the answer without escapes
+--     kept-..                 a record of which octets are taken as they are
 --     decoded-.., record-.., length-.., encoded-.., line-.., decimal-..   which answer the checks of a call settle on
 use mathlib.Core.Path.{_≡_, refl, sym, ap, ap₂, _∙_}
 use mathlib.Core.Bool.{Bool, true, false, _&&_, _||_, not}
@@ -16,14 +16,14 @@ use Rattle.headers.specs.Text.{divides, stops, is-text}
 use Rattle.headers.specs.Escapes.{decode, encode, escaped, writable}
 use Rattle.headers.specs.Numbers.{shortest}
 use Rattle.headers.specs.Block.{Entry, entry-record}
-use Rattle.headers.specs.Stretches.{not-back, unescaped}
+use Rattle.headers.specs.Stretches.{not-back, kept, unescaped}
 use Rattle.headers.specs.Lines.{line-max, entry-of, decoded-entry, line-length, are-text, raw-line, written-line, can-write}
 use Rattle.headers.specs.Answers.{Answer, accepted, refused, settle, left-in, written-record, decoded-answer, record-answer, writable-answer, length-answer, encoded-answer, line-answer, decimal-answer}
 use Rattle.headers.specs.declared.text.Style.{Style}
 use Rattle.headers.specs.declared.text.Field.{Field}
 use Rattle.headers.specs.declared.text.Field.the-variants.{Name, Value}
 use Rattle.headers.proofs.Rows.{and-left, and-right, and-no, refuted, every-left, every-right, every-append, every-also}
-use Rattle.headers.proofs.Coding.{decode-clear, decode-off, encode-long, encode-append}
+use Rattle.headers.proofs.Coding.{kept-clear, decode-off, encode-long, encode-append}
 use Rattle.headers.proofs.Blocks.{length-record}
 
 -- refused: the buffer is as before
@@ -186,23 +186,22 @@ module _ (s : Style) (k : ℕ) (xs : List ℕ) where
 
 -- ---- one record
 
--- a name and a value without a backslash: their record is the one without escapes
-module _ (s : Style) (name value : List ℕ) (n : every not-back name ≡ true) (v : every not-back value ≡ true) where
-  clear-entry : decoded-entry unescaped name value ≡ decoded-entry s name value
-  clear-entry =
-      ap₂ entry-of (decode-off unescaped refl name ∙ sym (decode-clear s name n)) (decode-off unescaped refl value ∙ sym (decode-clear s value v))
+-- a name and a value of which octets without a backslash are taken as they are: their record is that of the decoded text
+module _ (s : Style) (i j : ℕ) (name value : List ℕ) (n : every not-back (take i name) ≡ true) (v : every not-back (take j value) ≡ true) where
+  kept-entry : decoded-entry unescaped (kept i s name) (kept j s value) ≡ decoded-entry s name value
+  kept-entry = ap₂ entry-of (decode-off unescaped refl (kept i s name) ∙ kept-clear s i name n) (decode-off unescaped refl (kept j s value) ∙ kept-clear s j value v)
 
-  pub clear-record : written-record unescaped name value ≡ written-record s name value
-  clear-record = ap entry-record clear-entry
+  pub kept-record : written-record unescaped (kept i s name) (kept j s value) ≡ written-record s name value
+  kept-record = ap entry-record kept-entry
 
-  pub clear-answer : (room : ℕ) → decoded-answer unescaped room name value ≡ decoded-answer s room name value
+  pub kept-answer : (room : ℕ) → decoded-answer unescaped room (kept i s name) (kept j s value) ≡ decoded-answer s room name value
   unfolding decoded-answer
-  clear-answer room =
+  kept-answer room =
       ap
       (λ e. settle
       (record { fails = ltb room (length (entry-record e)); number = 21 } ∷ record { fails = ltb line-max (line-length e); number = 23 } ∷ [])
       (length (entry-record e) ∷ []))
-      clear-entry
+      kept-entry
 
 module _ (s : Style) (name value : List ℕ) where
   pub record-long : length (written-record s name value) ≡ 6 + length (decode s name) + length (decode s value)

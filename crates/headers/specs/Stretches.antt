@@ -4,9 +4,10 @@ use mathlib.Core.Bool.{Bool, true, false, cond, _||_, not}
 use mathlib.Core.List.{List, [], _∷_, _++_}
 use mathlib.Core.Logic.{_⊎_}
 use Prim.Native.Nat.{ℕ, _+_, _≤_}
-use lib.ListN.{length, take, getD}
+use lib.ListN.{length, take, drop, getD}
 use lib.Dec.{eqb}
 use Rattle.headers.specs.Rows.{every}
+use Rattle.headers.specs.Escapes.{decode}
 use Rattle.headers.specs.declared.plain.Stops.{Stops}
 use Rattle.headers.specs.declared.text.Style.{Style}
 
@@ -37,3 +38,7 @@ unescaped = record { escapes = false }
 -- the raw line, with its line end, of an entry of which no octet is escaped
 abbrev pub plain-line : List ℕ → List ℕ → List ℕ
 plain-line name value = name ++ (58 ∷ (value ++ (10 ∷ [])))
+
+-- a text of which the first k octets are taken as they are, and the others decoded: where those have no backslash, it is the decoded text
+abbrev pub kept : ℕ → Style → List ℕ → List ℕ
+kept k s xs = take k xs ++ decode s (drop k xs)

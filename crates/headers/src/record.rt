@@ -4,8 +4,7 @@ ghost use mathlib.Core.List.{_++_};
 ghost use Prim.Native.Nat.{_+_, _≤_};
 ghost use lib.ListN.{length, drop};
 ghost use lib.Dec.{leb};
-ghost use Rattle.headers.specs.Escapes.{decode};
-ghost use Rattle.headers.specs.Stretches.{unescaped};
+ghost use Rattle.headers.specs.Stretches.{kept, unescaped};
 ghost use Rattle.headers.specs.Block.{record-head, entry-record};
 ghost use Rattle.headers.specs.Lines.{entry-of};
 ghost use Rattle.headers.specs.Answers.{left-in, Puts, written-record, decoded-answer, record-answer, record-says};
@@ -39,14 +38,46 @@ fn put_head(d: &mut [u8], name: usize, value: usize)
     d[5] = (value % 256) as u8;
 }
 
-// The record of a header line at the front of d, from the line's raw name and value; its length.
-fn put_record(d: &mut [u8], name: &[u8], value: &[u8], style: Style) -> usize
-    requires { ⌜ 6 + length (decode style (now name)) + length (decode style (now value)) ≤ length (now d) ⌝ }
-    ensures { λ r. ⌜ Puts (written-record style (now (name .entry)) (now (value .entry))) r (now (d .entry)) (now (d .exit)) ⌝ }
+// How many octets at the front of a name and of a value are known to have no backslash.
+pub struct Known {
+    pub name: usize,
+    pub value: usize,
+}
+
+// How many octets a text has where so many at its front are taken as they are, and the others decoded.
+fn known_length(raw: &[u8], known: usize, style: Style) -> usize
+    ensures { λ r. ⌜ r ≡ length (kept known style (now (raw .entry))) ⌝ }
 {
-    let n = put_decoded(&mut d[6..], name, style);
+    if raw.len() <= known {
+        return raw.len();
+    }
+    known + decoded_length(&raw[known..], style)
+}
+
+// That text at the front of d; its length. What is known is one stretch, and copied as such.
+fn put_known(d: &mut [u8], raw: &[u8], known: usize, style: Style) -> usize
+    requires { ⌜ length (kept known style (now raw)) ≤ length (now d) ⌝ }
+    ensures { λ r. ⌜ Puts (kept known style (now (raw .entry))) r (now (d .entry)) (now (d .exit)) ⌝ }
+{
+    if raw.len() <= known {
+        copy(d, 0, raw);
+        return raw.len();
+    }
+    copy(d, 0, &raw[0..known]);
+    known + put_decoded(&mut d[known..], &raw[known..], style)
+}
+
+// The record of such a name and value at the front of d; its length.
+fn put_record(d: &mut [u8], name: &[u8], value: &[u8], known: Known, style: Style) -> usize
+    requires { ⌜ 6 + length (kept (known .name) style (now name)) + length (kept (known .value) style (now value)) ≤ length (now d) ⌝ }
+    ensures { λ r. ⌜
+        Puts (entry-record (entry-of (kept (known .name) style (now (name .entry))) (kept (known .value) style (now (value .entry))))) r
+        (now (d .entry)) (now (d .exit))
+        ⌝ }
+{
+    let n = put_known(&mut d[6..], name, known.name, style);
     let e = 6 + n;
-    let v = put_decoded(&mut d[e..], value, style);
+    let v = put_known(&mut d[e..], value, known.value, style);
     put_head(d, n, v);
     e + v
 }
@@ -63,19 +94,49 @@ fn put_plain(d: &mut [u8], name: &[u8], value: &[u8]) -> usize
     e + value.len()
 }
 
-// Whether name and value have at most that many octets decoded. Decoded text is never longer than raw, so it is measured only
-// where the raw text is too long.
-fn decoded_fit(name: &[u8], value: &[u8], style: Style, most: usize) -> bool
-    ensures { λ r. ⌜ r ≡ leb (length (decode style (now (name .entry))) + length (decode style (now (value .entry)))) most ⌝ }
+// Whether such a name and value have at most that many octets. Decoded text is never longer than raw, so it is measured only where the
+// raw text is too long.
+fn known_fit(name: &[u8], value: &[u8], known: Known, style: Style, most: usize) -> bool
+    ensures { λ r. ⌜ r ≡ leb (length (kept (known .name) style (now (name .entry))) + length (kept (known .value) style (now (value .entry)))) most ⌝ }
 {
     if both_fit(name.len(), value.len(), most) {
         return true;
     }
     both_fit(
-        decoded_length(name, style),
-        decoded_length(value, style),
+        known_length(name, known.name, style),
+        known_length(value, known.value, style),
         most,
     )
+}
+
+// The record of any octets at the front of d, those that are known to have no backslash as they are, the others decoded; or that it has
+// no room (21) or its line is over 512 (23).
+pub fn write_known(
+    d: &mut [u8],
+    name: &[u8],
+    value: &[u8],
+    known: Known,
+    style: Style,
+) -> RecordWritten
+    ensures { λ r. ⌜
+        (record-says r ≡ decoded-answer unescaped (length (now (d .entry))) (kept (known .name) style (now (name .entry))) (kept (known .value) style (now (value .entry))))
+        × (now (d .exit) ≡ left-in (decoded-answer unescaped (length (now (d .entry))) (kept (known .name) style (now (name .entry))) (kept (known .value) style (now (value .entry))))
+        (written-record unescaped (kept (known .name) style (now (name .entry))) (kept (known .value) style (now (value .entry)))) (now (d .entry)))
+        ⌝ }
+{
+    if d.len() < 6 {
+        return RecordWritten::TooShort;
+    }
+    if !known_fit(name, value, known, style, d.len() - 6) {
+        return RecordWritten::TooShort;
+    }
+    if !known_fit(name, value, known, style, crate::line::TEXT_MAX) {
+        return RecordWritten::TooLong;
+    }
+    if (name.len() <= known.name) & (value.len() <= known.value) {
+        return RecordWritten::Length(put_plain(d, name, value));
+    }
+    RecordWritten::Length(put_record(d, name, value, known, style))
 }
 
 // The record of any octets, decoded, at the front of d; or that it has no room (21) or its decoded line is over 512 (23).
@@ -85,38 +146,10 @@ pub fn write_decoded(d: &mut [u8], name: &[u8], value: &[u8], style: Style) -> R
         × (now (d .exit) ≡ left-in (decoded-answer style (length (now (d .entry))) (now (name .entry)) (now (value .entry))) (written-record style (now (name .entry)) (now (value .entry))) (now (d .entry)))
         ⌝ }
 {
-    if d.len() < 6 {
-        return RecordWritten::TooShort;
-    }
-    if !decoded_fit(name, value, style, d.len() - 6) {
-        return RecordWritten::TooShort;
-    }
-    if !decoded_fit(name, value, style, crate::line::TEXT_MAX) {
-        return RecordWritten::TooLong;
-    }
-    RecordWritten::Length(put_record(d, name, value, style))
+    write_known(d, name, value, Known { name: 0, value: 0 }, style)
 }
 
-// The same of octets that stand for themselves: name and value are copied as they are.
-pub fn write_plain(d: &mut [u8], name: &[u8], value: &[u8]) -> RecordWritten
-    ensures { λ r. ⌜
-        (record-says r ≡ decoded-answer unescaped (length (now (d .entry))) (now (name .entry)) (now (value .entry)))
-        × (now (d .exit) ≡ left-in (decoded-answer unescaped (length (now (d .entry))) (now (name .entry)) (now (value .entry))) (written-record unescaped (now (name .entry)) (now (value .entry))) (now (d .entry)))
-        ⌝ }
-{
-    if d.len() < 6 {
-        return RecordWritten::TooShort;
-    }
-    if !both_fit(name.len(), value.len(), d.len() - 6) {
-        return RecordWritten::TooShort;
-    }
-    if !both_fit(name.len(), value.len(), crate::line::TEXT_MAX) {
-        return RecordWritten::TooLong;
-    }
-    RecordWritten::Length(put_plain(d, name, value))
-}
-
-// The record of raw text, decoded, or the first of its refusals.
+// The same of raw text, or the first of its refusals.
 pub fn write_record(d: &mut [u8], name: &[u8], value: &[u8], style: Style) -> RecordWritten
     ensures { λ r. ⌜
         (record-says r ≡ record-answer style (length (now (d .entry))) (now (name .entry)) (now (value .entry)))

@@ -67,10 +67,10 @@ part-write-line-record-end-3 : tie.Need-part-write-line-record-end-3 Inv-loop μ
 part-write-line-record-end-3 c = search needs
 
 write-line-record-requires : tie.Need-write-line-record-requires Inv-loop μ-loop
-write-line-record-requires c κs plain =
+write-line-record-requires c κs =
     let l = c .before .before .before .line-at in
-    let both = l .ensures .4 plain in
-    (subst (λ z. every not-back z ≡ true) (sym (l .ensures .1)) (both .0), subst (λ z. every not-back z ≡ true) (sym (l .ensures .2)) (both .1))
+    let k = l .result .known in
+    (subst (λ z. every not-back (take (k .name) z) ≡ true) (sym (l .ensures .1)) (l .ensures .4), subst (λ z. every not-back (take (k .value) z) ≡ true) (sym (l .ensures .2)) (l .ensures .5))
 
 enum-known-k : tie.Need-enum-known-k Inv-loop μ-loop
 enum-known-k c = search needs

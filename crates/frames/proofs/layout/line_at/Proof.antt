@@ -1,12 +1,14 @@
 -- `layout::line_at` meets its contract: each part is found behind the one before it.
 use Rattle.frames.proofs.Decoding.{on-drop, line-cut}
 use native.Mathlib.Omega.{arith}
-use mathlib.Core.Path.{_≡_, subst}
+use mathlib.Core.Path.{_≡_, sym, subst}
+use mathlib.Core.List.{List}
+use Prim.Native.Nat.{ℕ, _≤_}
 use mathlib.Core.Bool.{true}
-use lib.ListN.{take}
+use lib.ListN.{take, drop}
+use lib.Seq.{take-take}
 use Rattle.headers.specs.Rows.{every}
 use Rattle.headers.specs.Stretches.{not-back}
-use Rattle.headers.proofs.Rows.{and-left, and-right}
 use Rattle.frames.specs.Layout.{stop-span}
 use borrow.Author.Needs.{needs}
 use Rattle.frames.proofs.layout.line_at.Statement.{statement}
@@ -24,14 +26,18 @@ text-end-requires-2 c κs = search needs
 behind-end-requires : tie.Need-behind-end-requires
 behind-end-requires c κs = search needs
 
+-- octets without a backslash, in a text that goes further
+inside : (xs : List ℕ) (n k : ℕ) → k ≤ n → every not-back (take k xs) ≡ true → every not-back (take k (take n xs)) ≡ true
+inside xs n k h e = subst (λ z. every not-back z ≡ true) (sym (take-take k n xs h)) e
+
 returns : tie.Need-returns
 returns c =
-    let a = c .before .before .before .before .before .before .before .args in
+    let a = c .before .before .before .before .before .args in
     let s = a .s .now in
-    let colon = c .before .before .before .before .before .text-end in
-    let value = c .before .before .before .before .on in
-    let end = c .before .before .before .text-end2 in
-    let next = c .before .before .behind-end in
+    let colon = c .before .before .before .text-end in
+    let value = c .before .before .on in
+    let end = c .before .text-end2 in
+    let next = c .behind-end in
     let cut =
     line-cut s (a .i) (colon .result .at) (value .result) (end .result .at) (next .result) (colon .ensures .0) (on-drop s (colon .result .at) 1 _ (value .ensures .2) (value .ensures .3)) (end .ensures .0)
     (next .ensures .2) in (
@@ -39,7 +45,9 @@ returns c =
       cut .0,
       cut .1,
       cut .2,
-      λ both. (colon .ensures .2 (and-left (colon .result .plain) (end .result .plain) both), subst (λ z. every not-back (take (stop-span 10 z) z) ≡ true) (cut .3) (end .ensures .2 (and-right (colon .result .plain) (end .result .plain) both))),
+      inside (drop (a .i) s) (stop-span 58 (drop (a .i) s)) (colon .result .known) (omega (arith, colon .ensures .0, colon .ensures .2)) (colon .ensures .3),
+      subst (λ z. every not-back (take (end .result .known) (take (stop-span 10 z) z)) ≡ true) (cut .3)
+          (inside (drop (value .result) s) (stop-span 10 (drop (value .result) s)) (end .result .known) (omega (arith, end .ensures .0, end .ensures .2)) (end .ensures .3)),
     )
 
 pub line-at-spec : {M : Type 1} → statement M

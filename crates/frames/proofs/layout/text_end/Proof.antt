@@ -1,13 +1,11 @@
 -- `layout::text_end` meets its contract: the first stop of the search is the end, or a backslash, from which the search goes on.
 use borrow.Author.Needs.{needs}
-use Prim.Native.Nat.{ℕ, _+_}
 use native.Mathlib.Omega.{arith}
 use lib.ListN.{take, drop}
-use mathlib.Core.Path.{_≡_, subst, _∙_}
+use mathlib.Core.Path.{_≡_, _∙_}
 use mathlib.Core.Bool.{true}
 use Rattle.headers.specs.Rows.{every}
 use Rattle.headers.specs.Stretches.{not-back}
-use Rattle.frames.specs.Layout.{stop-span}
 use Rattle.frames.proofs.Decoding.{back-inside, back-clear, back-more, back-past, back-none}
 use Rattle.frames.proofs.layout.text_end.Statement.{statement}
 use Rattle.frames.proofs.layout.text_end.Tie as tie
@@ -27,16 +25,9 @@ plain-span-requires c κs = search needs
 add-stop : tie.Need-add-stop
 add-stop c = let b = c .before .before .before in omega (arith, back-inside (b .args .colon) (b .args .s .now) (b .args .i) _ (b .pre) (c .plain-span .ensures))
 
--- a text that ends where the search does has no backslash
-clear : (c : tie.After-plain-span)
-    → let a = c .before .before .before .args in
-    a .i + c .plain-span .result ≡ a .i + stop-span (a .colon) (drop (a .i) (a .s .now))
-    → every not-back (take (stop-span (a .colon) (drop (a .i) (a .s .now))) (drop (a .i) (a .s .now))) ≡ true
-clear c e =
-    let b = c .before .before .before in
-    let a = b .args in
-    let n : c .plain-span .result ≡ stop-span (a .colon) (drop (a .i) (a .s .now)) = omega (arith, e) in
-    subst (λ k. every not-back (take k (drop (a .i) (a .s .now))) ≡ true) n (back-clear (a .colon) (a .s .now) (a .i) _ (b .pre) (c .plain-span .ensures))
+-- what is passed has no backslash
+clear : (c : tie.After-plain-span) → let a = c .before .before .before .args in every not-back (take (c .plain-span .result) (drop (a .i) (a .s .now))) ≡ true
+clear c = let b = c .before .before .before in back-clear (b .args .colon) (b .args .s .now) (b .args .i) _ (b .pre) (c .plain-span .ensures)
 
 returns : tie.Need-returns
 returns c =
@@ -44,7 +35,7 @@ returns c =
     let b = p .before .before .before in
     let a = b .args in
     let e = back-past (a .colon) (a .s .now) (a .i) _ (b .pre) (p .plain-span .ensures) (c .if1 .taken) in
-    (e, back-inside (a .colon) (a .s .now) (a .i) _ (b .pre) (p .plain-span .ensures), λ h. clear p e)
+    (e, back-inside (a .colon) (a .s .now) (a .i) _ (b .pre) (p .plain-span .ensures), omega arith, clear p)
 
 shared-slice-read-if2 : tie.Need-shared-slice-read-if2
 shared-slice-read-if2 c = search needs
@@ -57,7 +48,7 @@ returns-2 c =
     let p = c .before .before .before .before in
     let b = p .before .before .before in
     let a = b .args in
-    (c .stop-at .ensures .0 ∙ back-more (a .colon) (a .s .now) (a .i) _ (b .pre) (p .plain-span .ensures), c .stop-at .ensures .1, λ h. absurd (let z : _≡_ {A = ℕ} 0 1 = cc in omega arith))
+    (c .stop-at .ensures .0 ∙ back-more (a .colon) (a .s .now) (a .i) _ (b .pre) (p .plain-span .ensures), c .stop-at .ensures .1, omega (arith, c .stop-at .ensures .0), clear p)
 
 returns-3 : tie.Need-returns-3
 returns-3 c =
@@ -65,7 +56,7 @@ returns-3 c =
     let b = p .before .before .before in
     let a = b .args in
     let e = back-none (a .colon) (a .s .now) (a .i) _ (b .pre) (p .plain-span .ensures) (c .before .before .if1 .left) (c .if2 .left) in
-    (e, back-inside (a .colon) (a .s .now) (a .i) _ (b .pre) (p .plain-span .ensures), λ h. clear p e)
+    (e, back-inside (a .colon) (a .s .now) (a .i) _ (b .pre) (p .plain-span .ensures), omega arith, clear p)
 
 pub text-end-spec : {M : Type 1} → statement M
 text-end-spec =

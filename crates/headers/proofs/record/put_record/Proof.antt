@@ -6,39 +6,40 @@ use Prim.Native.Nat.{_+_}
 use native.Mathlib.Omega.{arith}
 use lib.ListN.{length, take, drop, length-append, take-append-drop}
 use lib.Seq.{length-take-le}
-use Rattle.headers.specs.Escapes.{decode}
+use Rattle.headers.specs.Stretches.{kept}
+use Rattle.headers.specs.Lines.{entry-of}
 use Rattle.headers.specs.Block.{record-head}
 use Rattle.headers.proofs.Put.{put-grow, put-front}
-use Rattle.headers.proofs.Settling.{record-long}
+use Rattle.headers.proofs.Blocks.{length-record}
 use Rattle.headers.proofs.record.put_record.Statement.{statement}
 use Rattle.headers.proofs.record.put_record.Tie as tie
 
-sub-put-decoded : tie.Need-sub-put-decoded
-sub-put-decoded c = search needs
+sub-put-known : tie.Need-sub-put-known
+sub-put-known c = search needs
 
-part-put-decoded-start : tie.Need-part-put-decoded-start
-part-put-decoded-start c = search needs
+part-put-known-start : tie.Need-part-put-known-start
+part-put-known-start c = search needs
 
-part-put-decoded-end : tie.Need-part-put-decoded-end
-part-put-decoded-end c = search needs
+part-put-known-end : tie.Need-part-put-known-end
+part-put-known-end c = search needs
 
-put-decoded-requires : tie.Need-put-decoded-requires
-put-decoded-requires c κs = search needs
+put-known-requires : tie.Need-put-known-requires
+put-known-requires c κs = search needs
 
 add-e : tie.Need-add-e
 add-e c = search needs
 
-sub-put-decoded-2 : tie.Need-sub-put-decoded-2
-sub-put-decoded-2 c = search needs
+sub-put-known-2 : tie.Need-sub-put-known-2
+sub-put-known-2 c = search needs
 
-part-put-decoded-start-2 : tie.Need-part-put-decoded-start-2
-part-put-decoded-start-2 c = search needs
+part-put-known-start-2 : tie.Need-part-put-known-start-2
+part-put-known-start-2 c = search needs
 
-part-put-decoded-end-2 : tie.Need-part-put-decoded-end-2
-part-put-decoded-end-2 c = search needs
+part-put-known-end-2 : tie.Need-part-put-known-end-2
+part-put-known-end-2 c = search needs
 
-put-decoded-requires-2 : tie.Need-put-decoded-requires-2
-put-decoded-requires-2 c κs = search needs
+put-known-requires-2 : tie.Need-put-known-requires-2
+put-known-requires-2 c κs = search needs
 
 put-head-requires : tie.Need-put-head-requires
 put-head-requires c κs = search needs
@@ -52,17 +53,17 @@ same-length c = search needs
 returns : tie.Need-returns
 returns c = let a = c .before .before .before .before .before .before .before .before .before .before .before .before .before .before .before .args in
     let d = a .d .now in
-    let N = decode (a .style) (a .name .now) in
-    let W = decode (a .style) (a .value .now) in
-    let p = c .before .before .before .before .before .before .before .before .before .before .put-decoded in
-    let q = c .before .before .before .before .before .before .put-decoded2 in
+    let N = kept (a .known .name) (a .style) (a .name .now) in
+    let W = kept (a .known .value) (a .style) (a .value .now) in
+    let p = c .before .before .before .before .before .before .before .before .before .before .put-known in
+    let q = c .before .before .before .before .before .before .put-known2 in
     let F = take 6 d in
     let front : length F ≡ 6 = length-take-le 6 d (omega (arith, c .before .before .before .before .before .before .before .before .before .before .before .before .before .before .before .pre)) in
-    let long = record-long (a .style) (a .name .now) (a .value .now) in
+    let long = length-record (entry-of N W) in
     let g₁ = put-grow d d F N _ 6 (length N) (sym (take-append-drop 6 d)) front refl (omega arith) (p .ensures .1) in
     let g₂ =
     put-grow d _ (F ++ N) W _ (6 + p .result) (length W) (g₁ ∙ ap (λ z. (F ++ N) ++ drop (6 + z) d) (sym (p .ensures .0)))
-    (simp length-append (omega (arith, p .ensures .0))) refl (omega arith) (q .ensures .1) in
+    (omega (arith, front, length-append F N, p .ensures .0)) refl (omega arith) (q .ensures .1) in
     let placed =
     put-front d _ F (N ++ W) (record-head (p .result) (q .result)) _ 6 (6 + p .result + length W)
     (g₂ ∙ ap (_++ drop (6 + p .result + length W) d) (append-assoc F N W)) front (c .before .before .put-head .ensures) in (
@@ -76,15 +77,15 @@ pub put-record-spec : {M : Type 1} → statement M
 put-record-spec =
     tie.close
     (tie.spec
-    sub-put-decoded
-    part-put-decoded-start
-    part-put-decoded-end
-    put-decoded-requires
+    sub-put-known
+    part-put-known-start
+    part-put-known-end
+    put-known-requires
     add-e
-    sub-put-decoded-2
-    part-put-decoded-start-2
-    part-put-decoded-end-2
-    put-decoded-requires-2
+    sub-put-known-2
+    part-put-known-start-2
+    part-put-known-end-2
+    put-known-requires-2
     put-head-requires
     add-result
     same-length
