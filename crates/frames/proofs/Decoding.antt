@@ -8,16 +8,16 @@
 --     decodes-none, Settled, settled               what decode replies, and what it leaves in the block
 use mathlib.Core.Path.{_≡_, refl, sym, _∙_, ap, ap₂, subst}
 use mathlib.Core.Bool.{Bool, true, false, _||_, not}
-use mathlib.Core.Logic.{⊎-elim}
+use mathlib.Core.Logic.{_⊎_, inl, inr, ⊎-elim}
 use mathlib.Core.Option.{Option, none, some}
 use mathlib.Core.List.{List, [], _∷_, _++_}
 use Prim.Native.Nat.{ℕ, suc, _+_, _-_, _≤_, _<_}
 use native.Mathlib.Omega.{arith}
 use native.Mathlib.Nat.{add-zero}
 use lib.ListN.{length, take, drop, getD, length-append, length-take, length-drop, drop-of-length-le, List·getD-eq-default}
-use lib.Seq.{take-all, drop-drop, getD-drop}
+use lib.Seq.{take-take, drop-drop, getD-drop, getD-take, length-take-le}
 use lib.Dec.{eqb, leb, ltb}
-use borrow.Author.Tests.{not-true, not-false, eqb-true, leb-true, leb-false, ltb-false, lt-ltb, le-ltb, eq-eqb, ne-eqb}
+use borrow.Author.Tests.{not-true, not-false, eqb-true, leb-true, leb-false, ltb-true, ltb-false, lt-ltb, le-ltb, eq-eqb, ne-eqb}
 use borrow.Rule.Slice.PartMut.{midOf, putMid}
 use Rattle.headers.specs.Rows.{any, every}
 use Rattle.headers.specs.Escapes.{decode}
@@ -39,9 +39,9 @@ use Rattle.frames.specs.Grammar.{Version, v1-2, frame}
 use Rattle.frames.specs.Layout.{stop-span, end-width, behind-end, front-name, behind-colon, front-value, at-end, behind-line, front-lines, behind-word}
 use Rattle.frames.specs.Decoding.{line-entries, too-long, decode-answer, head-entries, Decodes}
 use Rattle.frames.specs.Answers.{parsed-says}
-use Rattle.headers.specs.Stretches.{span, plain-in, not-back}
+use Rattle.headers.specs.Stretches.{span, plain-in, not-back, Stretch}
 use Rattle.frames.specs.Scanning.{style-of}
-use Rattle.headers.proofs.Stretches.{span-rest, span-inside, span-clear, span-ends, span-stop, span-end}
+use Rattle.headers.proofs.Stretches.{span-le, span-rest, span-inside, span-clear, span-ends, span-stop, span-end}
 use Rattle.frames.proofs.Heads.{frame-lines, block-long, none-too-long}
 use Rattle.frames.proofs.Readings.{Other, OneFrame, NoFrame}
 
@@ -61,6 +61,21 @@ on-drop xs i k r f g = by (leb (i + k) (length xs)) refl ∙ sym (drop-drop k i 
 pub stop-place : (colon : ℕ) (xs : List ℕ) (i k : ℕ) → i ≤ length xs → k ≡ stop-span colon (take (length xs - i) (drop i xs))
     → (i + k ≡ i + stop-span colon (drop i xs)) × (i + k ≤ length xs)
 stop-place colon xs i k h e = span-rest (plain-in (record { colon = colon; back = 10 })) xs i h e
+
+-- the stretch of a text of n octets at the front of a row
+text-stretch : (xs : List ℕ) (n k : ℕ) → k ≤ n → n ≤ length xs → every not-back (take k xs) ≡ true → (k ≡ n) ⊎ (getD xs k 0 ≡ 92) → Stretch (take n xs) k
+text-stretch xs n k kn nl clear ends =
+    let long : length (take n xs) ≡ n = length-take-le n xs nl in
+    record {
+      within = omega (arith, long);
+      clear = subst (λ z. every not-back z ≡ true) (sym (take-take k n xs kn)) clear;
+      ends = by (ltb k n) refl ends;
+    }
+  where
+    by : (t : Bool) → ltb k n ≡ t → (k ≡ n) ⊎ (getD xs k 0 ≡ 92) → (k ≡ length (take n xs)) ⊎ (getD (take n xs) k 0 ≡ 92)
+    by false l w = inl (omega (arith, ltb-false k n l, length-take-le n xs nl))
+    by true l (inl e) = absurd (omega (arith, ltb-true k n l, e))
+    by true l (inr e) = inr (getD-take n xs k 0 (ltb-true k n l) ∙ e)
 
 -- the octets before a backslash too
 module _ (colon : ℕ) where
@@ -116,6 +131,15 @@ module _ (colon : ℕ) where
         ⊎-elim (λ w. absurd (omega (arith, w, is, length-drop i xs, l))) (λ w. ap strict (sym at) ∙ w) (span-ends strict (drop i xs)) in
         span-stop loose xs (i + k) l (loose-end (getD xs (i + k) 0) ends n) ∙ back-more
 
+    text-inside : k ≤ stop-span colon (drop i xs)
+    text-inside = omega (arith, back-more)
+
+    -- what is passed is the stretch of the text
+    pub back-stretch : (i + k ≡ i + stop-span colon (drop i xs)) ⊎ (getD xs (i + k) 0 ≡ 92) → Stretch (take (stop-span colon (drop i xs)) (drop i xs)) k
+    back-stretch w =
+        text-stretch (drop i xs) (stop-span colon (drop i xs)) k text-inside (span-le loose (drop i xs)) back-clear
+        (⊎-elim (λ e. inl (omega (arith, e))) (λ e. inr (getD-drop i xs k 0 ∙ e)) w)
+
 -- behind the line end at i, which has two octets where it begins with 13
 module _ (xs : List ℕ) (i : ℕ) where
   at-front : getD (drop i xs) 0 0 ≡ getD xs i 0
@@ -161,8 +185,8 @@ Parted xs i l =
     × (take (l .colon - i) (drop i xs) ≡ front-name (drop i xs))
     × (take (l .end - l .value) (drop (l .value) xs) ≡ front-value (drop i xs))
     × (drop (l .next) xs ≡ behind-line (drop i xs))
-    × (every not-back (take (l .known .name) (front-name (drop i xs))) ≡ true)
-    × (every not-back (take (l .known .value) (front-value (drop i xs))) ≡ true)
+    × Stretch (front-name (drop i xs)) (l .known .name)
+    × Stretch (front-value (drop i xs)) (l .known .value)
 
 module _ (style : Style) (xs : List ℕ) (n : ℕ) where
   -- their entries, where i of n lines are passed and the next is at a place

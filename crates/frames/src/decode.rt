@@ -1,11 +1,11 @@
 // Decoding: the entries of a frame, as a header block.
 ghost use mathlib.Core.Path.{_≡_};
-ghost use mathlib.Core.Bool.{true, false};
+ghost use mathlib.Core.Bool.{false};
 ghost use Prim.Native.Nat.{_+_, _≤_};
 ghost use lib.Dec.{ltb};
-ghost use lib.ListN.{length, take, drop};
-ghost use Rattle.headers.specs.Rows.{any, every};
-ghost use Rattle.headers.specs.Stretches.{not-back};
+ghost use lib.ListN.{length, drop};
+ghost use Rattle.headers.specs.Rows.{any};
+ghost use Rattle.headers.specs.Stretches.{Stretch};
 ghost use Rattle.headers.specs.Block.{image};
 ghost use Rattle.headers.specs.Lines.{line-max};
 ghost use Rattle.headers.specs.Answers.{left-in, Puts, written-record, decoded-answer, record-says};
@@ -79,7 +79,7 @@ fn measure(s: &[u8], from: usize, n: usize, style: Style) -> Measured
     Measured { total, long }
 }
 
-// The record of a line at the front of d, as write_decoded puts it: so many octets are known to have no backslash.
+// The record of a line at the front of d, as write_decoded puts it: the stretch without a backslash at the front of each text is known.
 fn write_line_record(
     d: &mut [u8],
     name: &[u8],
@@ -87,7 +87,7 @@ fn write_line_record(
     known: Known,
     style: Style,
 ) -> RecordWritten
-    requires { ⌜ (every not-back (take (known .name) (now name)) ≡ true) × (every not-back (take (known .value) (now value)) ≡ true) ⌝ }
+    requires { ⌜ Stretch (now name) (known .name) × Stretch (now value) (known .value) ⌝ }
     ensures { λ r. ⌜
         (record-says r ≡ decoded-answer style (length (now (d .entry))) (now (name .entry)) (now (value .entry)))
         × (now (d .exit) ≡ left-in (decoded-answer style (length (now (d .entry))) (now (name .entry)) (now (value .entry)))

@@ -1,16 +1,14 @@
 // Where the parts of a frame's head stand, read off its octets.
 ghost use mathlib.Core.Path.{_≡_};
-ghost use mathlib.Core.Bool.{true};
 ghost use Prim.Native.Nat.{_+_, _-_, _≤_, _<_};
 ghost use lib.ListN.{length, take, drop};
-ghost use Rattle.headers.specs.Rows.{every};
-ghost use Rattle.headers.specs.Stretches.{not-back};
+ghost use Rattle.headers.specs.Stretches.{Stretch};
 ghost use Rattle.frames.specs.Layout.{stop-span, behind-end, front-name, front-value, behind-line, behind-word};
 use headers::Known;
 use headers::Stops;
 
 // The parts of a header line: its name from the line's start up to colon, its value from value up to end; next is after its line end.
-// So many octets of both are known to have no backslash.
+// The stretch without a backslash at the front of each is known.
 pub struct LineAt {
     pub colon: usize,
     pub value: usize,
@@ -19,7 +17,7 @@ pub struct LineAt {
     pub known: Known,
 }
 
-// Where a name or a value ends, and how many octets at its front are known to have no backslash.
+// Where a name or a value ends, and how far the stretch without a backslash at its front goes.
 pub struct TextEnd {
     pub at: usize,
     pub known: usize,
@@ -41,14 +39,13 @@ fn stop_at(s: &[u8], i: usize, colon: u8) -> usize
     i + headers::plain_span(&s[i..], Stops { colon, back: 10 })
 }
 
-// The same, and how far the text goes to a backslash: one search finds the end of a text without one, and a text that has one is searched on.
+// The same, and how far the text goes without a backslash: one search finds the end of a text without one, and a text that has one is searched on.
 fn text_end(s: &[u8], i: usize, colon: u8) -> TextEnd
     requires { ⌜ i ≤ length (now s) ⌝ }
     ensures { λ r. ⌜
         (r .at ≡ i + stop-span colon (drop i (now (s .entry))))
         × (r .at ≤ length (now (s .entry)))
-        × (i + r .known ≤ r .at)
-        × (every not-back (take (r .known) (drop i (now (s .entry)))) ≡ true)
+        × Stretch (take (stop-span colon (drop i (now (s .entry)))) (drop i (now (s .entry)))) (r .known)
         ⌝ }
 {
     let known = headers::plain_span(&s[i..], Stops { colon, back: 92 });
@@ -93,8 +90,8 @@ pub(crate) fn line_at(s: &[u8], i: usize) -> LineAt
         × (take (r .colon - i) (drop i (now (s .entry))) ≡ front-name (drop i (now (s .entry))))
         × (take (r .end - r .value) (drop (r .value) (now (s .entry))) ≡ front-value (drop i (now (s .entry))))
         × (drop (r .next) (now (s .entry)) ≡ behind-line (drop i (now (s .entry))))
-        × (every not-back (take (r .known .name) (front-name (drop i (now (s .entry))))) ≡ true)
-        × (every not-back (take (r .known .value) (front-value (drop i (now (s .entry))))) ≡ true)
+        × Stretch (front-name (drop i (now (s .entry)))) (r .known .name)
+        × Stretch (front-value (drop i (now (s .entry)))) (r .known .value)
         ⌝ }
 {
     let name = text_end(s, i, 58);

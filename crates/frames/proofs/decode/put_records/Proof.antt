@@ -4,11 +4,11 @@ use Prim.Native.Nat.{ℕ, _≤_, _-_, _+_}
 use native.Mathlib.Omega.{arith}
 use lib.ListN.{length, take, drop}
 use mathlib.Core.Path.{_≡_, refl, sym, subst, _∙_, ap}
-use mathlib.Core.Bool.{true, false}
+use mathlib.Core.Bool.{false}
 use mathlib.Core.List.{_++_}
 use mathlib.Core.Logic.{_⊎_, ⊎-elim}
-use Rattle.headers.specs.Rows.{any, every}
-use Rattle.headers.specs.Stretches.{not-back}
+use Rattle.headers.specs.Rows.{any}
+use Rattle.headers.specs.Stretches.{Stretch}
 use Rattle.headers.specs.Block.{image}
 use Rattle.headers.proofs.Put.{put-whole-done}
 use Rattle.frames.specs.Layout.{front-lines}
@@ -70,7 +70,7 @@ write-line-record-requires : tie.Need-write-line-record-requires Inv-loop μ-loo
 write-line-record-requires c κs =
     let l = c .before .before .before .line-at in
     let k = l .result .known in
-    (subst (λ z. every not-back (take (k .name) z) ≡ true) (sym (l .ensures .1)) (l .ensures .4), subst (λ z. every not-back (take (k .value) z) ≡ true) (sym (l .ensures .2)) (l .ensures .5))
+    (subst (λ z. Stretch z (k .name)) (sym (l .ensures .1)) (l .ensures .4), subst (λ z. Stretch z (k .value)) (sym (l .ensures .2)) (l .ensures .5))
 
 enum-known-k : tie.Need-enum-known-k Inv-loop μ-loop
 enum-known-k c = search needs

@@ -18,8 +18,8 @@ returns c =
     let s = c .before .before .before .before .before .before .before in
     let a = s .args in
     let w = c .before .before .write-known .ensures in
-    let answer = kept-answer (a .style) (a .known .name) (a .known .value) (a .name .now) (a .value .now) (s .pre .0) (s .pre .1) (length (a .d .now)) in
-    (w .0 ∙ answer, w .1 ∙ ap₂ (λ x y. left-in x y (a .d .now)) answer (kept-record (a .style) (a .known .name) (a .known .value) (a .name .now) (a .value .now) (s .pre .0) (s .pre .1)))
+    let answer = kept-answer (a .style) (a .known .name) (a .known .value) (a .name .now) (a .value .now) (s .pre .0 .clear) (s .pre .1 .clear) (length (a .d .now)) in
+    (w .0 ∙ answer, w .1 ∙ ap₂ (λ x y. left-in x y (a .d .now)) answer (kept-record (a .style) (a .known .name) (a .known .value) (a .name .now) (a .value .now) (s .pre .0 .clear) (s .pre .1 .clear)))
 
 pub write-line-record-spec : {M : Type 1} → statement M
 write-line-record-spec = tie.close (tie.spec write-known-requires same-length returns)

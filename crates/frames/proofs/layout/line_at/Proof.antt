@@ -1,14 +1,9 @@
 -- `layout::line_at` meets its contract: each part is found behind the one before it.
 use Rattle.frames.proofs.Decoding.{on-drop, line-cut}
 use native.Mathlib.Omega.{arith}
-use mathlib.Core.Path.{_≡_, sym, subst}
-use mathlib.Core.List.{List}
-use Prim.Native.Nat.{ℕ, _≤_}
-use mathlib.Core.Bool.{true}
-use lib.ListN.{take, drop}
-use lib.Seq.{take-take}
-use Rattle.headers.specs.Rows.{every}
-use Rattle.headers.specs.Stretches.{not-back}
+use mathlib.Core.Path.{subst}
+use lib.ListN.{take}
+use Rattle.headers.specs.Stretches.{Stretch}
 use Rattle.frames.specs.Layout.{stop-span}
 use borrow.Author.Needs.{needs}
 use Rattle.frames.proofs.layout.line_at.Statement.{statement}
@@ -26,10 +21,6 @@ text-end-requires-2 c κs = search needs
 behind-end-requires : tie.Need-behind-end-requires
 behind-end-requires c κs = search needs
 
--- octets without a backslash, in a text that goes further
-inside : (xs : List ℕ) (n k : ℕ) → k ≤ n → every not-back (take k xs) ≡ true → every not-back (take k (take n xs)) ≡ true
-inside xs n k h e = subst (λ z. every not-back z ≡ true) (sym (take-take k n xs h)) e
-
 returns : tie.Need-returns
 returns c =
     let a = c .before .before .before .before .before .args in
@@ -45,9 +36,8 @@ returns c =
       cut .0,
       cut .1,
       cut .2,
-      inside (drop (a .i) s) (stop-span 58 (drop (a .i) s)) (colon .result .known) (omega (arith, colon .ensures .0, colon .ensures .2)) (colon .ensures .3),
-      subst (λ z. every not-back (take (end .result .known) (take (stop-span 10 z) z)) ≡ true) (cut .3)
-          (inside (drop (value .result) s) (stop-span 10 (drop (value .result) s)) (end .result .known) (omega (arith, end .ensures .0, end .ensures .2)) (end .ensures .3)),
+      colon .ensures .2,
+      subst (λ z. Stretch (take (stop-span 10 z) z) (end .result .known)) (cut .3) (end .ensures .2),
     )
 
 pub line-at-spec : {M : Type 1} → statement M

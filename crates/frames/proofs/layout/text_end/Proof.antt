@@ -1,12 +1,13 @@
 -- `layout::text_end` meets its contract: the first stop of the search is the end, or a backslash, from which the search goes on.
 use borrow.Author.Needs.{needs}
 use native.Mathlib.Omega.{arith}
-use lib.ListN.{take, drop}
+use lib.ListN.{take, drop, getD}
 use mathlib.Core.Path.{_≡_, _∙_}
-use mathlib.Core.Bool.{true}
-use Rattle.headers.specs.Rows.{every}
-use Rattle.headers.specs.Stretches.{not-back}
-use Rattle.frames.proofs.Decoding.{back-inside, back-clear, back-more, back-past, back-none}
+use mathlib.Core.Logic.{_⊎_, inl, inr}
+use Prim.Native.Nat.{_+_}
+use Rattle.headers.specs.Stretches.{Stretch}
+use Rattle.frames.specs.Layout.{stop-span}
+use Rattle.frames.proofs.Decoding.{back-inside, back-stretch, back-more, back-past, back-none}
 use Rattle.frames.proofs.layout.text_end.Statement.{statement}
 use Rattle.frames.proofs.layout.text_end.Tie as tie
 
@@ -25,9 +26,13 @@ plain-span-requires c κs = search needs
 add-stop : tie.Need-add-stop
 add-stop c = let b = c .before .before .before in omega (arith, back-inside (b .args .colon) (b .args .s .now) (b .args .i) _ (b .pre) (c .plain-span .ensures))
 
--- what is passed has no backslash
-clear : (c : tie.After-plain-span) → let a = c .before .before .before .args in every not-back (take (c .plain-span .result) (drop (a .i) (a .s .now))) ≡ true
-clear c = let b = c .before .before .before in back-clear (b .args .colon) (b .args .s .now) (b .args .i) _ (b .pre) (c .plain-span .ensures)
+-- what is passed is the stretch of the text
+passed : (c : tie.After-plain-span)
+    → let a = c .before .before .before .args in
+    let xs = drop (a .i) (a .s .now) in
+    let n = a .i + c .plain-span .result in
+    (n ≡ a .i + stop-span (a .colon) xs) ⊎ (getD (a .s .now) n 0 ≡ 92) → Stretch (take (stop-span (a .colon) xs) xs) (c .plain-span .result)
+passed c = let b = c .before .before .before in back-stretch (b .args .colon) (b .args .s .now) (b .args .i) _ (b .pre) (c .plain-span .ensures)
 
 returns : tie.Need-returns
 returns c =
@@ -35,7 +40,7 @@ returns c =
     let b = p .before .before .before in
     let a = b .args in
     let e = back-past (a .colon) (a .s .now) (a .i) _ (b .pre) (p .plain-span .ensures) (c .if1 .taken) in
-    (e, back-inside (a .colon) (a .s .now) (a .i) _ (b .pre) (p .plain-span .ensures), omega arith, clear p)
+    (e, back-inside (a .colon) (a .s .now) (a .i) _ (b .pre) (p .plain-span .ensures), passed p (inl e))
 
 shared-slice-read-if2 : tie.Need-shared-slice-read-if2
 shared-slice-read-if2 c = search needs
@@ -48,7 +53,7 @@ returns-2 c =
     let p = c .before .before .before .before in
     let b = p .before .before .before in
     let a = b .args in
-    (c .stop-at .ensures .0 ∙ back-more (a .colon) (a .s .now) (a .i) _ (b .pre) (p .plain-span .ensures), c .stop-at .ensures .1, omega (arith, c .stop-at .ensures .0), clear p)
+    (c .stop-at .ensures .0 ∙ back-more (a .colon) (a .s .now) (a .i) _ (b .pre) (p .plain-span .ensures), c .stop-at .ensures .1, passed p (inr (c .before .if2 .taken)))
 
 returns-3 : tie.Need-returns-3
 returns-3 c =
@@ -56,7 +61,7 @@ returns-3 c =
     let b = p .before .before .before in
     let a = b .args in
     let e = back-none (a .colon) (a .s .now) (a .i) _ (b .pre) (p .plain-span .ensures) (c .before .before .if1 .left) (c .if2 .left) in
-    (e, back-inside (a .colon) (a .s .now) (a .i) _ (b .pre) (p .plain-span .ensures), omega arith, clear p)
+    (e, back-inside (a .colon) (a .s .now) (a .i) _ (b .pre) (p .plain-span .ensures), passed p (inl e))
 
 pub text-end-spec : {M : Type 1} → statement M
 text-end-spec =
