@@ -1,25 +1,23 @@
--- Plain stretches at a go: the front of a row that passes a test, and the states that pass it unchanged but for their counts.
+-- Plain stretches at a go: the states that pass octets unchanged but for their counts.
 -- Assumes nothing.
 use mathlib.Core.Path.{_≡_, refl, sym, _∙_, ap, subst}
-use mathlib.Core.Bool.{Bool, true, false, cond, _&&_, _||_, not, and-assoc, and-true, and-comm}
-use mathlib.Core.List.{List, [], _∷_, _++_, append-nil}
-use mathlib.Core.Logic.{_⊎_, inl, inr}
-use Prim.Native.Nat.{ℕ, _+_, _-_, _≤_, _<_, min}
+use mathlib.Core.Bool.{Bool, true, false, cond, _&&_, _||_, not, and-comm}
+use mathlib.Core.List.{List, [], _∷_, _++_}
+use Prim.Native.Nat.{ℕ, _+_, _-_, _≤_, _<_}
 use native.Mathlib.Numerals.{add-one, one-add}
 use native.Mathlib.Nat.{add-zero, add-assoc}
 use native.Mathlib.Omega.{arith}
 use lib.Dec.{eqb}
-use lib.ListN.{length, take, drop, getD, drop-of-length-le, take-append-drop, length-take, length-drop}
-use lib.Seq.{drop-cons, drop-append-le, drop-drop, take-all}
+use lib.ListN.{length, take, drop, getD, take-append-drop}
+use lib.Seq.{drop-cons, drop-append-le, drop-drop}
 use borrow.Author.Tests.{le-leb, lt-ltb, not-true, eqb-true}
-use Rattle.headers.specs.Rows.{every}
 use Rattle.headers.specs.Text.{divides, fresh, into, reads, plain, stops, opens, is-letter}
 use Rattle.headers.specs.Lines.{line-max}
 use Rattle.headers.specs.declared.text.Style.{Style}
 use Rattle.headers.specs.declared.text.Field.{Field}
 use Rattle.headers.specs.declared.text.Field.the-variants.{Name as in-name, Value as in-value}
-use Rattle.headers.proofs.Stretches.{part-long, span-le, span-part}
-use Rattle.headers.proofs.Rows.{cond-case, and-left, and-right, and-no, and-yes, or-false-left, or-false-right, every-step, every-end}
+use Rattle.headers.proofs.Stretches.{part-long, span-le}
+use Rattle.headers.proofs.Rows.{cond-case, and-right, and-no, and-yes, or-false-left, or-false-right}
 use Rattle.frames.specs.declared.state.Scan.{Scan}
 use Rattle.headers.specs.declared.plain.Stops.{Stops}
 use Rattle.headers.specs.Stretches.{span, plain-in}

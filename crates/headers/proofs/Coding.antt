@@ -16,10 +16,9 @@ use mathlib.Core.Bool.{Bool, true, false, cond, _&&_, not}
 use mathlib.Core.List.{List, [], _∷_, _++_, append-assoc, append-nil}
 use Prim.Native.Nat.{ℕ, suc, _+_, _-_, _*_, _/_, _≤_, _<_}
 use native.Mathlib.Omega.{arith}
-use native.Mathlib.Nat.{add-zero}
 use native.Mathlib.Numerals.{add-one}
 use lib.ListN.{length, take, drop, getD, length-append, length-drop, drop-of-length-le, take-append-drop}
-use lib.Seq.{drop-cons, drop-drop, getD-drop, take-all, length-take-le}
+use lib.Seq.{drop-cons, drop-drop, take-all, length-take-le}
 use lib.Dec.{eqb, leb}
 use borrow.Author.Tests.{eqb-true, not-true, leb-true, le-leb}
 use Rattle.headers.specs.Rows.{every}
@@ -95,13 +94,6 @@ no-escape s x (y ∷ ys) h = rw h
 module _ (s : Style) (xs : List ℕ) (i : ℕ) (h : i < length xs) where
   pub escape-shut : opens s (getD xs i 0) ≡ false → at-escape s (drop i xs) ≡ false
   escape-shut k = rw (drop-cons xs i 0) (no-escape s (getD xs i 0) (drop (suc i) xs) k)
-
-  -- there, one octet is decoded as itself
-  pub plain-octet : opens s (getD xs i 0) ≡ false → octet-at s (drop i xs) ≡ getD xs i 0
-  plain-octet k = simp (escape-shut k, getD-drop, add-zero)
-
-  pub plain-width : opens s (getD xs i 0) ≡ false → width s (drop i xs) ≡ 1
-  plain-width k = rw (escape-shut k)
 
   pub escape-cut : length xs ≤ i + 1 → at-escape s (drop i xs) ≡ false
   escape-cut k = rw (drop-cons xs i 0, drop-of-length-le xs {i = suc i} (omega arith))
@@ -284,11 +276,8 @@ encode-same s (x ∷ xs) h =
     (λ e k. absurd (omega (arith, k, encode-long s xs)))
     (λ e k. ap (x ∷_) (encode-same s xs (omega (arith, k)))) h
 
--- two texts that fit raw fit decoded, and that fit a half fit encoded
+-- two texts that fit a half fit encoded
 module _ (s : Style) (xs ys : List ℕ) (most : ℕ) where
-  pub decode-fits : leb (length xs + length ys) most ≡ true → leb (length (decode s xs) + length (decode s ys)) most ≡ true
-  decode-fits h = le-leb (length (decode s xs) + length (decode s ys)) most (omega (arith, leb-true, decode-short s xs, decode-short s ys))
-
   pub encode-fits : leb (length xs + length ys) (most / 2) ≡ true → leb (length (encode s xs) + length (encode s ys)) most ≡ true
   encode-fits h = le-leb (length (encode s xs) + length (encode s ys)) most (omega (arith, leb-true, encode-twice s xs, encode-twice s ys))
 

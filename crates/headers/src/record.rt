@@ -119,8 +119,10 @@ pub fn write_known(
     style: Style,
 ) -> RecordWritten
     ensures { λ r. ⌜
-        (record-says r ≡ decoded-answer unescaped (length (now (d .entry))) (kept (known .name) style (now (name .entry))) (kept (known .value) style (now (value .entry))))
-        × (now (d .exit) ≡ left-in (decoded-answer unescaped (length (now (d .entry))) (kept (known .name) style (now (name .entry))) (kept (known .value) style (now (value .entry))))
+        (record-says r ≡ decoded-answer unescaped (length (now (d .entry)))
+        (kept (known .name) style (now (name .entry))) (kept (known .value) style (now (value .entry))))
+        × (now (d .exit) ≡ left-in (decoded-answer unescaped (length (now (d .entry)))
+        (kept (known .name) style (now (name .entry))) (kept (known .value) style (now (value .entry))))
         (written-record unescaped (kept (known .name) style (now (name .entry))) (kept (known .value) style (now (value .entry)))) (now (d .entry)))
         ⌝ }
 {

@@ -6,7 +6,7 @@ use Prim.Native.Nat.{ℕ, _+_, _≤_}
 use native.Mathlib.Omega.{arith}
 use lib.ListN.{length, set, length-append}
 use Rattle.headers.specs.Stretches.{plain-line}
-use Rattle.headers.proofs.Put.{Partly, partly-inside, partly-done, partly-here, partly-store}
+use Rattle.headers.proofs.Put.{Partly, partly-done, partly-here, partly-store}
 use Rattle.headers.proofs.Copying.{partly-copy, partly-copied}
 use Rattle.headers.proofs.line.put_plain_line.Statement.{statement}
 use Rattle.headers.proofs.line.put_plain_line.Tie as tie

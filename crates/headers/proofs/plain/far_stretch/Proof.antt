@@ -4,15 +4,12 @@ use mathlib.Core.Bool.{not}
 use borrow.Author.Tests.{ne-eqb}
 use Rattle.headers.specs.Stretches.{span, not-back}
 use Rattle.headers.proofs.Stretches.{back-on, span-more, span-stop, span-end}
-use Prim.Native.Nat.{ℕ, _≤_, _<_, _-_, _+_, _*_}
+use Prim.Native.Nat.{_≤_, _-_, _+_}
 use native.Mathlib.Omega.{arith}
 use lib.ListN.{length, drop}
-use mathlib.Core.Path.{_≡_, sym, ap, _∙_}
+use mathlib.Core.Path.{_≡_, ap, _∙_}
 use Rattle.headers.proofs.plain.far_stretch.Statement.{statement}
 use Rattle.headers.proofs.plain.far_stretch.Tie as tie
-use Rattle.headers.proofs.plain.far_stretch.Reads as reads
-use Rattle.headers.proofs.plain.far_stretch.Lts as lts
-use Rattle.headers.proofs.plain.plain_span.Reads as plain-span-reads
 
 abbrev Inv-loop : tie.InvT-loop
 Inv-loop s i₀ i = (i ≤ length s) × (i + span not-back (drop i s) ≡ span not-back s)
@@ -20,23 +17,18 @@ Inv-loop s i₀ i = (i ≤ length s) × (i + span not-back (drop i s) ≡ span n
 abbrev μ-loop : tie.MeasureT-loop
 μ-loop s i₀ i = length s - i
 
--- src/plain.rt:96:5
 loop-holds : tie.Need-loop-holds Inv-loop μ-loop
 loop-holds c = search needs
 
--- src/plain.rt:98:13
 sub-plain-span : tie.Need-sub-plain-span Inv-loop μ-loop
 sub-plain-span c = search needs
 
--- src/plain.rt:98:13
 part-plain-span-start : tie.Need-part-plain-span-start Inv-loop μ-loop
 part-plain-span-start c = search needs
 
--- src/plain.rt:98:13
 part-plain-span-end : tie.Need-part-plain-span-end Inv-loop μ-loop
 part-plain-span-end c = search needs
 
--- src/plain.rt:97:14
 plain-span-requires : tie.Need-plain-span-requires Inv-loop μ-loop
 plain-span-requires c κs = search needs
 
@@ -50,37 +42,29 @@ passed c =
     let on = back-on (c .before .before .before .before .before .args .s .now) (l .i) (l .inv .0) (c .plain-span .ensures) in
     (on .0, on .1 ∙ l .inv .1)
 
--- src/plain.rt:97:9
 add-i : tie.Need-add-i Inv-loop μ-loop
 add-i c = omega (arith, passed c .0)
 
--- src/plain.rt:105:13
 returns : tie.Need-returns Inv-loop μ-loop
 returns c = span-end not-back (c .before .before .before .before .before .before .args .s .now) _ (c .if1 .taken) ∙ passed (c .before) .1
 
--- src/plain.rt:107:12
 shared-slice-read-if2 : tie.Need-shared-slice-read-if2 Inv-loop μ-loop
 shared-slice-read-if2 c = search needs
 
--- src/plain.rt:108:13
 returns-2 : tie.Need-returns-2 Inv-loop μ-loop
 returns-2 c = span-stop not-back (c .before .before .before .before .before .before .before .before .args .s .now) _ (c .before .before .if1 .left) (ap not-back (c .if2 .taken)) ∙ passed (c .before .before .before) .1
 
--- src/plain.rt:110:9
 add-i-2 : tie.Need-add-i-2 Inv-loop μ-loop
 add-i-2 c = search needs
 
--- src/plain.rt:96:5
 loop-less : tie.Need-loop-less Inv-loop μ-loop
 loop-less c = search needs
 
--- src/plain.rt:96:5
 loop-again : tie.Need-loop-again Inv-loop μ-loop
 loop-again c =
     let s = c .before .before .before .before .before .before .before .before .args .s .now in
     (omega (arith, c .before .before .if1 .left), span-more not-back s _ (c .before .before .if1 .left) (ap not (ne-eqb _ 92 (c .if2 .left))) ∙ passed (c .before .before .before) .1)
 
--- src/plain.rt:92:1
 returns-3 : tie.Need-returns-3 Inv-loop μ-loop
 returns-3 c = span-end not-back (c .before .before .before .args .s .now) _ (c .loop-test .left) ∙ c .before .loop .inv .1
 

@@ -11,9 +11,6 @@ use lib.ListN.{length, drop}
 use mathlib.Core.Path.{_≡_, ap, _∙_}
 use Rattle.headers.proofs.plain.stretch.Statement.{statement}
 use Rattle.headers.proofs.plain.stretch.Tie as tie
-use Rattle.headers.proofs.plain.stretch.Reads as reads
-use Rattle.headers.proofs.plain.stretch.Lts as lts
-use Rattle.headers.proofs.plain.far_stretch.Reads as far-stretch-reads
 
 abbrev Inv-loop : tie.InvT-loop
 Inv-loop s e i₀ i = (i ≤ length s) × (i + span not-back (drop i s) ≡ span not-back s)
@@ -25,30 +22,24 @@ abbrev μ-loop : tie.MeasureT-loop
 near : (c : tie.Joined1 Inv-loop μ-loop) → c .if1 .e ≤ length (c .before .before .args .s .now)
 near c = ⊎-elim (λ w. omega (arith, w)) (λ w. omega (arith, w)) (c .if1 .came)
 
--- src/plain.rt:122:5
 loop-holds : tie.Need-loop-holds Inv-loop μ-loop
 loop-holds c = search needs
 
--- src/plain.rt:123:12
 shared-slice-read-if2 : tie.Need-shared-slice-read-if2 Inv-loop μ-loop
 shared-slice-read-if2 c = omega (arith, near (c .before .before .before))
 
--- src/plain.rt:124:13
 returns : tie.Need-returns Inv-loop μ-loop
 returns c =
     let l = c .before .before .before .loop in
     let s = c .before .before .before .before .before .before .args .s .now in
     stretch-at s (l .i) (span-stop not-back s (l .i) (omega (arith, near (c .before .before .before .before), c .before .before .loop-test .taken)) (ap not-back (c .if2 .taken)) ∙ l .inv .1)
 
--- src/plain.rt:126:9
 add-i : tie.Need-add-i Inv-loop μ-loop
 add-i c = search needs
 
--- src/plain.rt:122:5
 loop-less : tie.Need-loop-less Inv-loop μ-loop
 loop-less c = search needs
 
--- src/plain.rt:122:5
 loop-again : tie.Need-loop-again Inv-loop μ-loop
 loop-again c =
     let l = c .before .before .before .loop in
@@ -56,19 +47,15 @@ loop-again c =
     let h : l .i < length s = omega (arith, near (c .before .before .before .before), c .before .before .loop-test .taken) in
     (omega (arith, h), span-more not-back s (l .i) h (ap not (ne-eqb _ 92 (c .if2 .left))) ∙ l .inv .1)
 
--- src/plain.rt:128:21
 sub-far-stretch : tie.Need-sub-far-stretch Inv-loop μ-loop
 sub-far-stretch c = search needs
 
--- src/plain.rt:128:21
 part-far-stretch-start : tie.Need-part-far-stretch-start Inv-loop μ-loop
 part-far-stretch-start c = search needs
 
--- src/plain.rt:128:21
 part-far-stretch-end : tie.Need-part-far-stretch-end Inv-loop μ-loop
 part-far-stretch-end c = search needs
 
--- src/plain.rt:128:9
 far-stretch-requires : tie.Need-far-stretch-requires Inv-loop μ-loop
 far-stretch-requires c κs = search needs
 
@@ -79,11 +66,9 @@ far : (c : tie.After-far-stretch Inv-loop μ-loop)
     (i + c .far-stretch .result ≡ i + span not-back (drop i s)) × (i + c .far-stretch .result ≤ length s)
 far c = span-rest not-back (c .before .before .before .before .before .before .args .s .now) (c .before .before .before .loop .i) (c .before .before .before .loop .inv .0) (c .far-stretch .ensures)
 
--- src/plain.rt:128:5
 add-result : tie.Need-add-result Inv-loop μ-loop
 add-result c = omega (arith, far c .1)
 
--- src/plain.rt:117:1
 returns-2 : tie.Need-returns-2 Inv-loop μ-loop
 returns-2 c = stretch-at (c .before .before .before .before .before .before .args .s .now) _ (far c .0 ∙ c .before .before .before .loop .inv .1)
 
