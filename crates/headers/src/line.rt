@@ -173,11 +173,14 @@ pub fn write_encoded(d: &mut [u8], name: &[u8], value: &[u8], style: Style) -> L
     if d.len() < 2 {
         return LineWritten::TooShort;
     }
-    if !encoded_fit(name, value, style, d.len() - 2) {
-        return LineWritten::TooShort;
-    }
     if style.escapes {
+        if !encoded_fit(name, value, style, d.len() - 2) {
+            return LineWritten::TooShort;
+        }
         return LineWritten::Length(put_line(d, name, value, style));
+    }
+    if !both_fit(name.len(), value.len(), d.len() - 2) {
+        return LineWritten::TooShort;
     }
     LineWritten::Length(put_plain_line(d, name, value))
 }
