@@ -22,7 +22,7 @@ use Rattle.headers.specs.Numbers.{is-digit, amount}
 use Rattle.headers.specs.Answers.{read-says}
 use Rattle.headers.specs.declared.decimal.DecimalRead.{DecimalRead}
 use Rattle.headers.proofs.Rows.{and-no, or-no}
-use Rattle.frames.specs.Scanning.{span}
+use Rattle.headers.specs.Stretches.{span}
 use Rattle.sessions.specs.Values.{onto, split, before, some-digits, two-numbers, is-item, counts, versions, heart-beat-max, both, heart-beats-in, heart-beats}
 use Rattle.sessions.specs.Opening.{flag}
 use Rattle.sessions.specs.Reads.{counted}

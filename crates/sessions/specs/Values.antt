@@ -7,7 +7,7 @@ use Prim.Native.String.{String}
 use lib.Dec.{eqb}
 use Rattle.headers.specs.Rows.{octets-of, empty, every, any, same}
 use Rattle.headers.specs.Numbers.{is-digit, amount}
-use Rattle.frames.specs.Scanning.{span}
+use Rattle.headers.specs.Stretches.{span}
 
 -- the parts of a row that octets c stand between: one more than there are such octets
 abbrev pub onto : ℕ → List (List ℕ) → List (List ℕ)

@@ -6,7 +6,7 @@ use mathlib.Core.Bool.{not}
 use Prim.Native.Nat.{_+_, _-_, _≤_}
 use native.Mathlib.Omega.{arith}
 use lib.ListN.{length, drop}
-use Rattle.frames.proofs.Gliding.{span-more, span-stop, span-end}
+use Rattle.headers.proofs.Stretches.{span-more, span-stop, span-end}
 use Rattle.sessions.specs.Values.{before}
 use Rattle.sessions.proofs.value.end_of.Statement.{statement}
 use Rattle.sessions.proofs.value.end_of.Tie as tie
