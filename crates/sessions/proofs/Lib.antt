@@ -3,6 +3,9 @@ pub mod Rows
 pub mod Searching
 pub mod Walking
 pub mod Settling
+pub mod Compacting
+pub mod Keying
+pub mod Telling
 pub mod Filling
 pub mod Stores
 pub mod Values

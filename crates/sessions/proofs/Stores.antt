@@ -29,16 +29,16 @@ use Rattle.sessions.specs.declared.store.Use.the-variants.{Nothing, Need
 
 -- ---- a place and the places behind it
 
-fits-nil : {w n : ℕ} {s : List ℕ} → Fits w n s [] → length s ≡ 0
+pub fits-nil : {w n : ℕ} {s : List ℕ} → Fits w n s [] → length s ≡ 0
 fits-nil {w} {n} {s} f = f .store-long ∙ ap (_* w) (sym (f .lens-long)) ∙ zero-mul w
 
-fits-long : {w n : ℕ} {s : List ℕ} {l : ℕ} {ls : List ℕ} → Fits w n s (l ∷ ls) → length s ≡ length ls * w + w
+pub fits-long : {w n : ℕ} {s : List ℕ} {l : ℕ} {ls : List ℕ} → Fits w n s (l ∷ ls) → length s ≡ length ls * w + w
 fits-long {w} {n} {s} {l} {ls} f = f .store-long ∙ ap (_* w) (sym (f .lens-long)) ∙ suc-mul (length ls) w
 
-fits-first : {w n : ℕ} {s : List ℕ} {l : ℕ} {ls : List ℕ} → Fits w n s (l ∷ ls) → l ≤ w
+pub fits-first : {w n : ℕ} {s : List ℕ} {l : ℕ} {ls : List ℕ} → Fits w n s (l ∷ ls) → l ≤ w
 fits-first {w} {n} {s} {l} {ls} f = leb-true l w (and-left (leb l w) (short w ls) (f .lens-short))
 
-fits-next : {w n : ℕ} {s : List ℕ} {l : ℕ} {ls : List ℕ} → Fits w n s (l ∷ ls) → Fits w (length ls) (drop w s) ls
+pub fits-next : {w n : ℕ} {s : List ℕ} {l : ℕ} {ls : List ℕ} → Fits w n s (l ∷ ls) → Fits w (length ls) (drop w s) ls
 fits-next {w} {n} {s} {l} {ls} f =
     record {
       lens-long = refl;
@@ -69,7 +69,7 @@ lengths-ids w n s (l ∷ ls) f =
     ap₂ (_∷_) (length-take-le l s (omega (arith, fits-first f, fits-long f))) (lengths-ids w (length ls) (drop w s) ls (fits-next f))
 
 -- the first place
-padded-take : (w l : ℕ) (s : List ℕ) → l ≤ w → w ≤ length s → is-zero (drop l (take w s)) ≡ true → padded w (take l s) ≡ take w s
+pub padded-take : (w l : ℕ) (s : List ℕ) → l ≤ w → w ≤ length s → is-zero (drop l (take w s)) ≡ true → padded w (take l s) ≡ take w s
 padded-take w l s h k z =
     let long : length (take l s) ≡ l = length-take-le l s (omega arith) in
     let rest : length (drop l (take w s)) ≡ w - l = length-drop l (take w s) ∙ ap (_- l) (length-take-le w s k) in

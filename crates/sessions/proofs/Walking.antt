@@ -3,7 +3,7 @@
 --     part-fits, behind-fits                what is left of a store is a store
 --     ids-end, clean-end                    behind the last place
 --     Turn, room, length-fits, id-fits      a turn has read the place's length: the place and its id lie inside the store
---     ids-at, clean-at, distinct-..         what is left of the ids, and of the tests on them, one place on
+--     ids-at, clean-at                      what is left of the ids, and of the test on what is behind them, one place on
 use mathlib.Core.Path.{_≡_, sym, ap, _∙_}
 use mathlib.Core.Bool.{Bool, true, _&&_, not}
 use mathlib.Core.List.{List, [], _∷_}
@@ -42,7 +42,7 @@ drop-take (suc l) (suc w) (x ∷ xs) = drop-take l w xs ∙ ap (λ n. take n (dr
 abbrev pub part-from : ℕ → List ℕ → List ℕ
 part-from a xs = take (length xs - a) (drop a xs)
 
-part-drop : (a : ℕ) (xs : List ℕ) → part-from a xs ≡ drop a xs
+pub part-drop : (a : ℕ) (xs : List ℕ) → part-from a xs ≡ drop a xs
 part-drop a xs = take-all (length xs - a) (drop a xs) (simp length-drop (omega arith))
 
 -- a front is empty exactly if it has length 0
@@ -100,7 +100,7 @@ module _ {w n : ℕ} {s ls : List ℕ} {k at l : ℕ} {fits : Fits w n s ls} {st
   pub behind-fits : Fits w (n - (k + 1)) (part-from (at + w) s) (part-from (k + 1) ls)
   behind-fits = rw (part-drop (at + w) s, part-drop (k + 1) ls) (part-fits fits next-place)
 
-  lens-room : k < length ls
+  pub lens-room : k < length ls
   lens-room = omega (arith, t .more, fits .lens-long)
 
   pub length-fits : l ≤ w
@@ -109,7 +109,7 @@ module _ {w n : ℕ} {s ls : List ℕ} {k at l : ℕ} {fits : Fits w n s ls} {st
   pub id-fits : at + l ≤ length s
   id-fits = omega (arith, room, length-fits)
 
-  lens-at : drop k ls ≡ l ∷ drop (k + 1) ls
+  pub lens-at : drop k ls ≡ l ∷ drop (k + 1) ls
   lens-at = drop-one ls k 0 lens-room ∙ ap (_∷ drop (k + 1) ls) (sym (t .read))
 
   -- the id, and the ids and the store behind it, as the code takes parts
@@ -136,21 +136,3 @@ module _ {w n : ℕ} {s ls : List ℕ} {k at l : ℕ} {fits : Fits w n s ls} {st
       ∙ ap (λ z. is-zero z && clean w (drop (at + w) s) (drop (k + 1) ls))
       (drop-take l w (drop at s) ∙ ap (take (w - l)) (drop-drop l at s) ∙ ap (λ z. take z (drop (at + l) s)) e)
       ∙ ap (_&& clean w (drop (at + w) s) (drop (k + 1) ls)) is
-
-  no-id : empty id-at ≡ eqb l 0
-  no-id =
-      let e : at + l - at ≡ l = omega arith in
-      empty-front (at + l - at) (drop at s) (simp length-drop (omega (arith, id-fits))) ∙ ap (λ z. eqb z 0) e
-
-  -- a free place
-  pub distinct-free : l ≡ 0 → distinct (ids w (drop at s) (drop k ls)) ≡ distinct ids-behind
-  unfolding distinct
-  distinct-free e = ap distinct ids-at ∙ rw (no-id, eq-eqb l 0 e)
-
-  -- an id that was looked for behind its place
-  pub distinct-next : (l ≡ 0 → ⊥) → (r : Search) (found : Bool) → search-says r ≡ first-from (λ x. same x id-at) 0 (ids w (part-from (at + w) s) (part-from (k + 1) ls)) → found ≡ is-at r
-      → distinct (ids w (drop at s) (drop k ls)) ≡ not found && distinct ids-behind
-  unfolding distinct
-  distinct-next e r found told is =
-      let says : search-says r ≡ first-from (λ x. same x id-at) 0 ids-behind = rw (part-drop (at + w) s, part-drop (k + 1) ls) at told in
-      ap distinct ids-at ∙ rw (no-id, ne-eqb l 0 e, told-any (λ x. same x id-at) 0 ids-behind r says, ← is)

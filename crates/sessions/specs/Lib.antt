@@ -1,5 +1,7 @@
 -- The definitions of versions, heart-beats, the clock and a session, by file.
 pub mod Stores
+pub mod Compaction
+pub mod Keys
 pub mod Values
 pub mod Opening
 pub mod Headers

@@ -1,12 +1,14 @@
 -- What the functions over a store give, in the code's types. Assumes nothing.
 use mathlib.Core.Path.{_≡_}
-use mathlib.Core.Bool.{Bool, true, false}
+use mathlib.Core.Bool.{Bool, true, false, _&&_, not}
 use mathlib.Core.Option.{Option, none, some}
 use mathlib.Core.List.{List, [], _++_}
-use Prim.Native.Nat.{ℕ, _+_, _*_, _<_}
+use Prim.Native.Nat.{ℕ, _+_, _*_, _≤_, _<_}
 use lib.ListN.{length, take, drop, set}
 use Rattle.headers.specs.Answers.{accepted, refused, settle}
-use Rattle.sessions.specs.Stores.{padded, short, used, use-checks}
+use Rattle.headers.specs.Rows.{empty}
+use Rattle.sessions.specs.Stores.{padded, short, clean, live, used, use-checks}
+use Rattle.sessions.specs.Keys.{key, keys}
 use Rattle.sessions.specs.declared.store.Search.{Search}
 use Rattle.sessions.specs.declared.store.Use.{Use}
 use Rattle.sessions.specs.declared.store.Use.the-variants.{Nothing, Need, Enter, Free}
@@ -17,6 +19,23 @@ pub record Fits (w n : ℕ) (s ls : List ℕ) : Type 0 where
   pub lens-long : length ls ≡ n
   pub store-long : length s ≡ n * w
   pub lens-short : short w ls ≡ true
+
+-- of at most 64 places of 32 octets, with nothing after the ids
+pub record Clean (w n : ℕ) (s ls : List ℕ) : Type 0 where
+  pub fits : Fits w n s ls
+  pub clean-yes : clean w s ls ≡ true
+  pub wide : w ≡ 32
+  pub few : n ≤ 64
+
+-- with the keys of its places, and the key of a place that holds the id
+pub record Keyed (w n : ℕ) (s ls ks : List ℕ) (k : ℕ) (id : List ℕ) : Type 0 where
+  pub store : Clean w n s ls
+  pub keys-are : ks ≡ keys s ls
+  pub key-is : k ≡ key (padded w id)
+
+-- an id, not an empty one, is among others
+abbrev pub again : List ℕ → List (List ℕ) → Bool
+again id others = not (empty id) && live id others
 
 abbrev pub search-says : Search → Option ℕ
 search-says (Search.At k) = some k

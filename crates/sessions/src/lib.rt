@@ -1,4 +1,6 @@
 // Sessions: versions, heart-beats, the clock, and one client's session.
+mod compaction; // rows that stay, moved together
+mod keys; // numbers for places, to tell most of them apart
 mod store; // ids in a flat store
 mod value; // header values with parts: accept-version and heart-beat
 mod clock; // time passed

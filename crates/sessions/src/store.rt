@@ -6,7 +6,7 @@ ghost use lib.Dec.{eqb};
 ghost use lib.ListN.{length, getD};
 ghost use Rattle.headers.specs.Rows.{same};
 ghost use Rattle.sessions.specs.Stores.{ids, padded, short, is-zero, clean, distinct, valid-store, first-from};
-ghost use Rattle.sessions.specs.Places.{Fits, search-says, is-at, when-needed, when-freed, when-entered, stored, put-in, Settles};
+ghost use Rattle.sessions.specs.Places.{Fits, Clean, Keyed, again, search-says, is-at, when-needed, when-freed, when-entered, stored, put-in, Settles};
 use crate::refusals;
 
 // Where a search ended: the number of a place.
@@ -139,28 +139,52 @@ fn is_found(s: Search) -> bool
     }
 }
 
+// Whether a store holds an id: the keys of its places first, then, where a key is the same, the ids.
+fn is_repeated(
+    keys: &[u32],
+    key: u32,
+    store: &[u8],
+    lens: &[u8],
+    count: usize,
+    width: usize,
+    id: &[u8],
+) -> bool
+    requires { ⌜ Keyed width count (now store) (now lens) (now keys) key (now id) ⌝ }
+    ensures { λ r. ⌜ r ≡ again (now (id .entry)) (ids width (now (store .entry)) (now (lens .entry))) ⌝ }
+{
+    if id.len() == 0 {
+        return false;
+    }
+    if crate::keys::has_key(keys, key) {
+        return is_found(find(store, lens, count, width, id));
+    }
+    false
+}
+
 // Whether no two places hold the same id, free ones not counted.
 fn is_distinct(store: &[u8], lens: &[u8], count: usize, width: usize) -> bool
-    requires { ⌜ Fits width count (now store) (now lens) ⌝ }
+    requires { ⌜ Clean width count (now store) (now lens) ⌝ }
     ensures { λ r. ⌜ r ≡ distinct (ids width (now (store .entry)) (now (lens .entry))) ⌝ }
 {
+    let mut keys = [0u32; 64];
+    crate::keys::put_keys(&mut keys, store, lens);
     let mut k = 0usize;
     let mut at = 0usize;
     while k < count {
-        let len = wide(lens[k]);
-        let end = at + len;
+        let end = at + wide(lens[k]);
         let next = at + width;
+        let key = keys[k];
         k += 1;
-        if len != 0 {
-            if is_found(find(
-                &store[next..],
-                &lens[k..],
-                count - k,
-                width,
-                &store[at..end],
-            )) {
-                return false;
-            }
+        if is_repeated(
+            &keys[k..count],
+            key,
+            &store[next..],
+            &lens[k..],
+            count - k,
+            width,
+            &store[at..end],
+        ) {
+            return false;
         }
         at = next;
     }
@@ -169,7 +193,7 @@ fn is_distinct(store: &[u8], lens: &[u8], count: usize, width: usize) -> bool
 
 // Whether the store is valid: no length above the width, no octet but 0 behind an id, no live id twice.
 pub(crate) fn is_valid(store: &[u8], lens: &[u8], count: usize, width: usize) -> bool
-    requires { ⌜ (length (now lens) ≡ count) × (length (now store) ≡ count * width) ⌝ }
+    requires { ⌜ (length (now lens) ≡ count) × (length (now store) ≡ count * width) × (width ≡ 32) × (count ≤ 64) ⌝ }
     ensures { λ r. ⌜ r ≡ valid-store width (now (store .entry)) (now (lens .entry)) ⌝ }
 {
     if !is_short(lens, width) {

@@ -34,7 +34,9 @@ unfolding valid-store
 returns-2 c = rw (is-short (c .before .before), sym (c .before .is-clean .ensures) ∙ not-true _ (c .if2 .taken))
 
 is-distinct-requires : tie.Need-is-distinct-requires
-is-distinct-requires c κs = fits (c .before .before)
+is-distinct-requires c κs =
+    let s = c .before .before .before .before .before .before in
+    record { fits = fits (c .before .before); clean-yes = is-clean c; wide = s .pre .2; few = s .pre .3 }
 
 returns-3 : tie.Need-returns-3
 unfolding valid-store
