@@ -5,7 +5,7 @@
 use mathlib.Core.Path.{_≡_, refl, sym, _∙_, ap}
 use mathlib.Core.Bool.{Bool, true, false, cond, _||_}
 use mathlib.Core.Option.{some}
-use mathlib.Core.List.{List, [], _∷_}
+use mathlib.Core.List.{List, [], _∷_, _++_}
 use Prim.Native.Nat.{ℕ}
 use native.Mathlib.Omega.{arith}
 use lib.Dec.{eqb}
@@ -15,8 +15,8 @@ use Rattle.headers.specs.Answers.{Answer, accepted, refused, Check, settle}
 use Rattle.headers.proofs.Rows.{cond-case}
 use Rattle.sessions.specs.Stores.{use-checks}
 use Rattle.sessions.specs.Sessions.{id-max, closed}
-use Rattle.sessions.specs.Answers.{bit}
-use Rattle.sessions.specs.Calls.{left-by, usage-of, named-id, named-ids, out-of-phase, naming-checks, frame-checks, owes-receipt, frame-answer}
+use Rattle.sessions.specs.Answers.{acceptance-says}
+use Rattle.sessions.specs.Calls.{left-by, usage-of, named-id, named-ids, out-of-phase, lacks-needed, naming-checks, delivery-checks, frame-checks, acceptance-of, frame-answer}
 use Rattle.sessions.specs.declared.session.Session.{Session}
 
 -- a check passes
@@ -41,6 +41,11 @@ pub all-accepted : (cs : List Check) (v : List ℕ) → All Passes cs → settle
 all-accepted [] v p = refl
 all-accepted (c ∷ cs) v p = ap (λ t. cond t (refused (c .number)) (settle cs v)) (p .0) ∙ all-accepted cs v (p .1)
 
+-- what holds of all of two lists, one after the other, holds of all of each
+all-parts : (cs ds : List Check) → All Passes (cs ++ ds) → All Passes cs × All Passes ds
+all-parts [] ds p = (tt, p)
+all-parts (c ∷ cs) ds p = let (a, b) = all-parts cs ds (p .1) in ((p .0, a), b)
+
 -- ---- what a call leaves
 
 pub left-case : (P : Session → Type 0) (A : Answer) (before after : Session) → P before → P (closed before) → ((v : List ℕ) → A ≡ accepted v → P after)
@@ -51,13 +56,17 @@ left-case P (refused k) before after p q r = cond-case P (eqb k 38 || eqb k 39) 
 -- what an accepted frame passed: it was in its phase, and the checks of the id that it names
 pub record Passed (s : Session) (n : ℕ) (es : List Entry) : Type 0 where
   pub in-turn : out-of-phase s n ≡ false
+  pub needs : lacks-needed n es ≡ false
   pub named : All Passes (naming-checks s n es)
+  pub asked : All Passes (delivery-checks s n es)
 
 pub frame-passed : (s : Session) (n : ℕ) (block v : List ℕ) → frame-answer s n block ≡ accepted v → Passed s n (listed (entries block))
 unfolding frame-answer
 frame-passed s n block v e =
-    let p = all-pass (frame-checks s n block) (bit (owes-receipt n (listed (entries block))) ∷ []) v e in
-    record { in-turn = p .1 .1 .1 .1 .0; named = p .1 .1 .1 .1 .1 .1 .1 .1 .1 }
+    let p = all-pass (frame-checks s n block) (acceptance-says (acceptance-of n (listed (entries block)))) v e in
+    let q = p .1 .1 .1 .1 .1 .1 .1 .1 .1 in
+    let (named, asked) = all-parts (naming-checks s n (listed (entries block))) (delivery-checks s n (listed (entries block))) q in
+    record { in-turn = p .1 .1 .1 .1 .0; needs = p .1 .1 .1 .1 .1 .0; named = named; asked = asked }
 
 -- a frame that names an id uses it
 pub naming-settles : (s : Session) (n : ℕ) (es : List Entry) (id : List ℕ) → All Passes (naming-checks s n es) → named-id n es ≡ some id

@@ -3,9 +3,9 @@
 --     closed-frame, closed-heart-beat           what a closed session answers
 --     closed-kept, closed-next, closed-after    no refusal, no call and no history changes it
 --     closed-answers                            and no history changes what it answers
-use mathlib.Core.Path.{_≡_, refl, sym, _∙_, ap, subst}
+use mathlib.Core.Path.{_≡_, refl, sym, _∙_, ap, ap₂, subst}
 use mathlib.Core.Logic.{_≢_}
-use mathlib.Core.Bool.{Bool, cond, _||_, not}
+use mathlib.Core.Bool.{Bool, cond, _||_, not, true≢false, true}
 use mathlib.Core.Option.{Option, none, some}
 use mathlib.Core.List.{List, [], _∷_}
 use Prim.Native.Nat.{ℕ}
@@ -18,9 +18,12 @@ use Rattle.headers.proofs.Rows.{cond-case, or-false-left, or-false-right}
 use Rattle.frames.specs.Grammar.{number, DISCONNECT}
 use Rattle.sessions.specs.Values.{HeartBeats}
 use Rattle.sessions.specs.Headers.{is, unknown, opens, naming}
-use Rattle.sessions.specs.Sessions.{closed-phase, with-ids, with-phase, closed, heard, is-valid}
-use Rattle.sessions.specs.Calls.{left-by, shared-by, client-versions, client-heart-beats, opened-by, named-id, frame-answer, naming-effect, effect, frame-session, heart-beat-answer, heart-beat-session}
-use Rattle.sessions.specs.Histories.{Call, frame, heart-beat, answer-to, next, after, Closes, by-number, by-disconnect}
+use Rattle.sessions.specs.Sessions.{closed-phase, with-ids, with-phase, with-deliveries, closed, heard, is-valid}
+use Rattle.sessions.specs.Deliveries.{record-label}
+use Rattle.sessions.proofs.Pending.{emptied-same}
+use Rattle.sessions.proofs.Kept.{Kept}
+use Rattle.sessions.specs.Calls.{left-by, shared-by, client-versions, client-heart-beats, opened-by, named-id, frame-answer, naming-effect, effect, frame-session, heart-beat-answer, heart-beat-session, place-named, recorded-by, deliver-answer, deliver-session}
+use Rattle.sessions.specs.Histories.{Call, frame, heart-beat, deliver, may-close, answer-to, next, after, Closes, by-number, by-disconnect}
 use Rattle.sessions.specs.declared.command.Kind.{Kind}
 use Rattle.sessions.specs.declared.command.Kind.the-variants.{Subscriptions, Transactions}
 use Rattle.sessions.specs.declared.session.Session.{Session}
@@ -42,14 +45,14 @@ module _ (s : Session) (open-yet : s .phase ≢ closed-phase) where
   opening-open shared (some b) h = omega arith
 
   -- a refusal that closes
-  refused-closing : (c : Call) (left : Session) (k : ℕ) → answer-to s c ≡ refused k → (left-by (refused k) s left) .phase ≡ closed-phase → Closes s c
-  refused-closing c left k e =
+  refused-closing : (c : Call) (left : Session) (k : ℕ) → may-close c ≡ true → answer-to s c ≡ refused k → (left-by (refused k) s left) .phase ≡ closed-phase → Closes s c
+  refused-closing c left k m e =
       cond-case (λ (r : Session). r .phase ≡ closed-phase → Closes s c) (eqb k 38 || eqb k 39)
       (λ t h. absurd (open-yet h))
-      (λ f h. by-number k e (eqb-false k 38 (or-false-left (eqb k 38) (eqb k 39) f)) (eqb-false k 39 (or-false-right (eqb k 38) (eqb k 39) f)))
+      (λ f h. by-number k m e (eqb-false k 38 (or-false-left (eqb k 38) (eqb k 39) f)) (eqb-false k 39 (or-false-right (eqb k 38) (eqb k 39) f)))
 
   pub closing : (c : Call) → (next s c) .phase ≡ closed-phase → Closes s c
-  unfolding frame-session heart-beat-session
+  unfolding frame-session heart-beat-session deliver-session
   closing (frame n block time) = by (frame-answer s n block) refl
     where
       es : List Entry
@@ -59,7 +62,7 @@ module _ (s : Session) (open-yet : s .phase ≢ closed-phase) where
       disconnect v e d = subst (λ m. frame-answer s m block ≡ accepted v → Closes s (frame m block time)) (sym d) (by-disconnect block time v) e
 
       by : (A : Answer) → frame-answer s n block ≡ A → (left-by A s (heard (effect s n es) time)) .phase ≡ closed-phase → Closes s (frame n block time)
-      by (refused k) e = refused-closing (frame n block time) (heard (effect s n es) time) k e
+      by (refused k) e = refused-closing (frame n block time) (heard (effect s n es) time) k refl e
       by (accepted v) e =
           cond-case (λ (r : Session). r .phase ≡ closed-phase → Closes s (frame n block time)) (opens n)
           (λ o h. absurd (opening-open (shared-by s (client-versions es)) (client-heart-beats es) h))
@@ -69,8 +72,13 @@ module _ (s : Session) (open-yet : s .phase ≢ closed-phase) where
   closing (heart-beat time) = by (heart-beat-answer s) refl
     where
       by : (A : Answer) → heart-beat-answer s ≡ A → (left-by A s (heard s time)) .phase ≡ closed-phase → Closes s (heart-beat time)
-      by (refused k) e = refused-closing (heart-beat time) (heard s time) k e
+      by (refused k) e = refused-closing (heart-beat time) (heard s time) k refl e
       by (accepted v) e = λ h. absurd (open-yet h)
+  closing (deliver id label) = by (deliver-answer s id label)
+    where
+      by : (A : Answer) → (recorded-by A s (with-deliveries s (record-label (place-named s (some id)) label (s .deliveries)))) .phase ≡ closed-phase → Closes s (deliver id label)
+      by (refused k) h = absurd (open-yet h)
+      by (accepted v) h = absurd (open-yet h)
 
 -- each of these closes
 other-number : (s left : Session) (k : ℕ) → k ≢ 38 → k ≢ 39 → left-by (refused k) s left ≡ closed s
@@ -78,11 +86,12 @@ other-number s left k a b = rw (ne-eqb k 38 a, ne-eqb k 39 b)
 
 pub closes : (s : Session) {c : Call} → Closes s c → (next s c) .phase ≡ closed-phase
 unfolding frame-session heart-beat-session
-closes s (by-number {c = frame n block time} k e a b) =
+closes s (by-number {c = frame n block time} k m e a b) =
     let left : Session = heard (effect s n (listed (entries block))) time in
     ap (λ A. (left-by A s left) .phase) e ∙ ap (λ (r : Session). r .phase) (other-number s left k a b)
-closes s (by-number {c = heart-beat time} k e a b) =
+closes s (by-number {c = heart-beat time} k m e a b) =
     ap (λ A. (left-by A s (heard s time)) .phase) e ∙ ap (λ (r : Session). r .phase) (other-number s (heard s time) k a b)
+closes s (by-number {c = deliver id label} k m e a b) = absurd (true≢false (sym m))
 closes s (by-disconnect block time v e) = ap (λ A. (left-by A s (heard (effect s (number DISCONNECT) (listed (entries block))) time)) .phase) e
 
 -- ---- a closed session
@@ -98,29 +107,44 @@ module _ (s : Session) (h : s .phase ≡ closed-phase) where
   unfolding heart-beat-answer
   closed-heart-beat = rw (eq-eqb (s .phase) closed-phase h)
 
-  -- closed once more, it is the same
-  closed-again : closed s ≡ s
-  closed-again = ap (with-phase s) (sym h)
+  -- 38, else 63
+  pub closed-deliver : (id label : List ℕ) → deliver-answer s id label ≡ cond (not (is-valid s)) (refused 38) (refused 63)
+  unfolding deliver-answer
+  closed-deliver id label = rw (ne-eqb (s .phase) 1 (λ e. omega (arith, e, h)))
 
-  -- a refusal leaves it as it is
-  pub closed-kept : (left : Session) (k : ℕ) → left-by (refused k) s left ≡ s
-  closed-kept left k = cond-case (_≡ s) (eqb k 38 || eqb k 39) (λ e. refl) (λ e. closed-again)
+  module _ (kept : Kept s) where
+    none-left : s .deliveries .count ≡ 0
+    none-left =
+        eqb-true (s .deliveries .count) 0
+        (sym (ap (λ t. t || eqb (s .deliveries .count) 0) (ne-eqb (s .phase) 1 (λ e. omega (arith, e, h)))) ∙ kept .only-open)
 
-  pub closed-next : (c : Call) → next s c ≡ s
-  unfolding frame-session heart-beat-session
-  closed-next (frame n block time) =
-      let left : Session = heard (effect s n (listed (entries block))) time in
-      ap (λ A. left-by A s left) (closed-frame n block)
-      ∙ cond-case (λ A. left-by A s left ≡ s) (not (is-valid s)) (λ e. closed-kept left 38)
-      (λ e. cond-case (λ A. left-by A s left ≡ s) (unknown n || not (is-block block)) (λ f. closed-kept left 39) (λ f. closed-kept left 40))
-  closed-next (heart-beat time) =
-      ap (λ A. left-by A s (heard s time)) closed-heart-beat
-      ∙ cond-case (λ A. left-by A s (heard s time) ≡ s) (not (is-valid s)) (λ e. closed-kept (heard s time) 38) (λ e. closed-kept (heard s time) 40)
+    -- closed once more, it is the same: it holds no delivery
+    closed-again : closed s ≡ s
+    closed-again =
+        ap₂ (λ p d. with-deliveries (with-phase s p) d) (sym h) (emptied-same (s .«sub_lens») (s .deliveries) (kept .holds .sized) (kept .holds .valid) none-left)
 
-  -- nor does any history change it, or what it answers
-  pub closed-after : (cs : List Call) → after s cs ≡ s
-  closed-after [] = refl
-  closed-after (c ∷ cs) = ap (λ r. after r cs) (closed-next c) ∙ closed-after cs
+    -- a refusal leaves it as it is
+    pub closed-kept : (left : Session) (k : ℕ) → left-by (refused k) s left ≡ s
+    closed-kept left k = cond-case (_≡ s) (eqb k 38 || eqb k 39) (λ e. refl) (λ e. closed-again)
 
-  pub closed-answers : (cs : List Call) (c : Call) → answer-to (after s cs) c ≡ answer-to s c
-  closed-answers cs c = ap (λ r. answer-to r c) (closed-after cs)
+    pub closed-next : (c : Call) → next s c ≡ s
+    unfolding frame-session heart-beat-session deliver-session
+    closed-next (frame n block time) =
+        let left : Session = heard (effect s n (listed (entries block))) time in
+        ap (λ A. left-by A s left) (closed-frame n block)
+        ∙ cond-case (λ A. left-by A s left ≡ s) (not (is-valid s)) (λ e. closed-kept left 38)
+        (λ e. cond-case (λ A. left-by A s left ≡ s) (unknown n || not (is-block block)) (λ f. closed-kept left 39) (λ f. closed-kept left 40))
+    closed-next (heart-beat time) =
+        ap (λ A. left-by A s (heard s time)) closed-heart-beat
+        ∙ cond-case (λ A. left-by A s (heard s time) ≡ s) (not (is-valid s)) (λ e. closed-kept (heard s time) 38) (λ e. closed-kept (heard s time) 40)
+    closed-next (deliver id label) =
+        let left : Session = with-deliveries s (record-label (place-named s (some id)) label (s .deliveries)) in
+        ap (λ A. recorded-by A s left) (closed-deliver id label) ∙ cond-case (λ A. recorded-by A s left ≡ s) (not (is-valid s)) (λ e. refl) (λ e. refl)
+
+    -- nor does any history change it, or what it answers
+    pub closed-after : (cs : List Call) → after s cs ≡ s
+    closed-after [] = refl
+    closed-after (c ∷ cs) = ap (λ r. after r cs) (closed-next c) ∙ closed-after cs
+
+    pub closed-answers : (cs : List Call) (c : Call) → answer-to (after s cs) c ≡ answer-to s c
+    closed-answers cs c = ap (λ r. answer-to r c) (closed-after cs)

@@ -6,18 +6,22 @@ use Rattle.headers.specs.Rows.{All}
 use Rattle.headers.specs.Block.{entries, entries-within, at-record}
 use Rattle.headers.specs.Numbers.{evaluate, numeral, amount}
 use Rattle.headers.specs.Answers.{is-block}
-use Rattle.sessions.specs.Stores.{ids, laid, clean, distinct, valid-store, replaced}
+use Rattle.sessions.specs.Stores.{ids, laid, clean, distinct, valid-store, first-from, replaced}
+use Rattle.sessions.specs.Deliveries.{with-pending, valid-deliveries}
 use Rattle.sessions.specs.Values.{split, is-item, versions, heart-beats}
 use Rattle.sessions.specs.Sessions.{is-valid}
 use Rattle.sessions.specs.Calls.{made, making-answer, frame-answer, frame-session, heart-beat-answer, heart-beat-session, timed-out-answer}
+use Rattle.sessions.specs.Calls.{deliver-answer, deliver-session}
+use Rattle.sessions.specs.Accounts.{fate, accounts}
 use Rattle.sessions.specs.Examples.{Holds, lives, FlagsAndClock}
 use Rattle.sessions.specs.Examples.{intervals, clocks, makings, versions-counted, versions-malformed, heart-beats-malformed}
 use Rattle.sessions.specs.Examples.{missing-headers, accepted-frames, repeated-headers, server-commands, out-of-turn, bad-lengths}
-use Rattle.sessions.specs.Examples.{live-ids, full-stores, kept-and-closed, record-ids, record-numbers}
+use Rattle.sessions.specs.Examples.{live-ids, full-stores, kept-and-closed, record-ids, record-numbers, modes-asked, settled-deliveries}
+use Rattle.sessions.specs.Examples.{not-pending, recordings, all-pending, dropped-deliveries, record-modes, record-labels, record-places}
 
 -- the definitions that a row is computed by: the calls, header blocks and their values, stores
 unfoldable calls : Unit {0}
-unfolding made making-answer frame-answer frame-session heart-beat-answer heart-beat-session timed-out-answer is-valid
+unfolding made making-answer frame-answer frame-session heart-beat-answer heart-beat-session timed-out-answer deliver-answer deliver-session is-valid fate accounts
 calls = tt
 
 unfoldable blocks : Unit {0}
@@ -25,7 +29,7 @@ unfolding is-block entries entries-within at-record evaluate numeral amount vers
 blocks = tt
 
 unfoldable stores : Unit {0}
-unfolding valid-store ids clean distinct laid replaced
+unfolding valid-store ids clean distinct laid replaced first-from with-pending valid-deliveries
 stores = tt
 
 -- ---- A refl for each row
@@ -98,6 +102,42 @@ record-numbers-hold : All Holds record-numbers
 unfolding record-numbers calls blocks stores
 record-numbers-hold = (refl, (refl, (refl, (refl, (refl, (refl, (refl, (refl, (refl, (refl, (refl, (refl, (refl, (refl, tt))))))))))))))
 
+modes-asked-hold : All Holds modes-asked
+unfolding modes-asked calls blocks stores
+modes-asked-hold = (refl, (refl, (refl, (refl, (refl, (refl, (refl, (refl, (refl, (refl, (refl, tt)))))))))))
+
+settled-deliveries-hold : All Holds settled-deliveries
+unfolding settled-deliveries calls blocks stores
+settled-deliveries-hold = (refl, (refl, (refl, (refl, (refl, (refl, tt))))))
+
+not-pending-hold : All Holds not-pending
+unfolding not-pending calls blocks stores
+not-pending-hold = (refl, (refl, (refl, (refl, (refl, (refl, (refl, (refl, (refl, (refl, tt))))))))))
+
+recordings-hold : All Holds recordings
+unfolding recordings calls blocks stores
+recordings-hold = (refl, (refl, (refl, (refl, (refl, (refl, (refl, (refl, (refl, (refl, (refl, (refl, (refl, tt)))))))))))))
+
+all-pending-hold : All Holds all-pending
+unfolding all-pending calls blocks stores
+all-pending-hold = (refl, (refl, (refl, tt)))
+
+dropped-deliveries-hold : All Holds dropped-deliveries
+unfolding dropped-deliveries calls blocks stores
+dropped-deliveries-hold = (refl, (refl, (refl, (refl, tt))))
+
+record-modes-hold : All Holds record-modes
+unfolding record-modes calls blocks stores
+record-modes-hold = (refl, (refl, (refl, (refl, tt))))
+
+record-labels-hold : All Holds record-labels
+unfolding record-labels calls blocks stores
+record-labels-hold = (refl, (refl, (refl, (refl, (refl, (refl, (refl, tt)))))))
+
+record-places-hold : All Holds record-places
+unfolding record-places calls blocks stores
+record-places-hold = (refl, (refl, (refl, (refl, (refl, (refl, (refl, tt)))))))
+
 -- ---- The whole table
 
 -- a group of rows holds, and so do those after it
@@ -124,6 +164,15 @@ lives-hold =
     kept-and-closed-hold also
     record-ids-hold also
     record-numbers-hold also
+    modes-asked-hold also
+    settled-deliveries-hold also
+    not-pending-hold also
+    recordings-hold also
+    all-pending-hold also
+    dropped-deliveries-hold also
+    record-modes-hold also
+    record-labels-hold also
+    record-places-hold also
     tt
 
 pub flags-and-clock-hold : FlagsAndClock

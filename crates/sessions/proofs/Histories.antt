@@ -18,9 +18,10 @@ use Rattle.frames.specs.Grammar.{number, CONNECT, DISCONNECT, STOMP}
 use Rattle.sessions.specs.Stores.{ids, live, used, use-checks}
 use Rattle.sessions.specs.Values.{HeartBeats}
 use Rattle.sessions.specs.Headers.{is, opens, naming}
-use Rattle.sessions.specs.Sessions.{subscriptions-max, transactions-max, id-max, ids-of, with-ids, closed, heard, is-valid, Sized}
-use Rattle.sessions.specs.Calls.{left-by, making-answer, made-by, made, shared-by, client-versions, client-heart-beats, opened-by, usage-of, named-id, frame-answer, naming-effect, effect, frame-session, heart-beat-answer, heart-beat-session}
-use Rattle.sessions.specs.Histories.{Call, frame, heart-beat, answer-to, next, after, same-kind, by-use, named-as, live-by, live-after}
+use Rattle.sessions.specs.Sessions.{subscriptions-max, transactions-max, id-max, ids-of, with-ids, with-deliveries, closed, heard, is-valid, Sized}
+use Rattle.sessions.specs.Deliveries.{record-label}
+use Rattle.sessions.specs.Calls.{left-by, making-answer, made-by, made, shared-by, client-versions, client-heart-beats, opened-by, usage-of, named-id, frame-answer, naming-effect, effect, frame-session, heart-beat-answer, heart-beat-session, delivery-effect, place-named, recorded-by, deliver-answer, deliver-session}
+use Rattle.sessions.specs.Histories.{Call, frame, heart-beat, deliver, answer-to, next, after, same-kind, by-use, named-as, live-by, live-after}
 use Rattle.sessions.specs.declared.store.Use.{Use}
 use Rattle.sessions.specs.declared.command.Kind.{Kind}
 use Rattle.sessions.specs.declared.command.Kind.the-variants.{Subscriptions, Transactions}
@@ -28,7 +29,8 @@ use Rattle.sessions.specs.declared.session.Session.{Session}
 use Rattle.sessions.proofs.Rows.{or-either}
 use Rattle.sessions.proofs.Checks.{Passed, frame-passed, naming-settles, left-case}
 use Rattle.sessions.proofs.Stores.{are-short, ids-laid, used-short, use-short, used-live, zeros-ids, none-live}
-use Rattle.sessions.proofs.Keeping.{SameStores, Held, held-short, held-distinct, held-next, held, made-sized, made-valid}
+use Rattle.sessions.proofs.Keeping.{SameStores, Held, held-short, held-distinct}
+use Rattle.sessions.proofs.Kept.{Kept, kept-next, kept-made}
 
 -- sessions with the same stores have the same ids
 ids-same : (k : Kind) (r s : Session) → SameStores r s → ids-of k r ≡ ids-of k s
@@ -86,7 +88,7 @@ module _ (s : Session) (h : Held s) (k : Kind) (id : List ℕ) (some-id : id ≢
       (λ o. ap (live id) (ids-opened (shared-by s (client-versions es)) (client-heart-beats es)) ∙ sym (ap (named-live s k id n) (opening-names n es o)))
       (λ o. cond-case (λ r. live id (ids-of k r) ≡ named-live s k id n (named-id n es)) (is DISCONNECT n)
       (λ d. ap (live id) (ids-same k (closed s) s (refl, refl, refl, refl)) ∙ sym (ap (named-live s k id n) (closing-names n es d)))
-      (λ d. live-naming n es p (named-id n es) refl))
+      (λ d. ap (live id) (ids-same k (with-deliveries (naming-effect s n (named-id n es)) (delivery-effect s n es)) (naming-effect s n (named-id n es)) (refl, refl, refl, refl)) ∙ live-naming n es p (named-id n es) refl))
     where
       ids-opened : (shared : List Bool) (o : Option HeartBeats) → ids-of k (opened-by s shared o) ≡ ids-of k s
       ids-opened shared none = refl
@@ -115,21 +117,29 @@ module _ (s : Session) (h : Held s) (k : Kind) (id : List ℕ) (some-id : id ≢
       (ap (live id) (ids-same k (closed s) s (refl, refl, refl, refl)))
       (λ v e. ap (live id) (ids-same k (heard s time) s (refl, refl, refl, refl)))
 
+  live-deliver : (x label : List ℕ) → live id (ids-of k (deliver-session s x label)) ≡ live id (ids-of k s)
+  unfolding deliver-session
+  live-deliver x label = by (deliver-answer s x label)
+    where
+      after : Session
+      after = with-deliveries s (record-label (place-named s (some x)) label (s .deliveries))
+
+      by : (A : Answer) → live id (ids-of k (recorded-by A s after)) ≡ live id (ids-of k s)
+      by (accepted v) = ap (live id) (ids-same k after s (refl, refl, refl, refl))
+      by (refused j) = refl
+
   pub live-next : (c : Call) → live id (ids-of k (next s c)) ≡ live-by k id (live id (ids-of k s)) (answer-to s c) c
   live-next (frame n block time) = live-frame n block time
   live-next (heart-beat time) = live-heart-beat time
+  live-next (deliver x label) = live-deliver x label
 
 -- ---- a history
 
-held-history : (k : Kind) (id : List ℕ) → id ≢ [] → (s : Session) → Held s → (cs : List Call)
+pub live-history : (k : Kind) (id : List ℕ) → id ≢ [] → (s : Session) → Kept s → (cs : List Call)
     → live id (ids-of k (after s cs)) ≡ live-after k id (live id (ids-of k s)) s cs
-held-history k id n s h [] = refl
-held-history k id n s h (c ∷ cs) =
-    held-history k id n (next s c) (held-next s c h) cs ∙ ap (λ b. live-after k id b (next s c) cs) (live-next s h k id n c)
-
-pub live-history : (k : Kind) (id : List ℕ) → id ≢ [] → (s : Session) → Sized s → is-valid s ≡ true → (cs : List Call)
-    → live id (ids-of k (after s cs)) ≡ live-after k id (live id (ids-of k s)) s cs
-live-history k id n s z v cs = held-history k id n s (held s z v) cs
+live-history k id n s h [] = refl
+live-history k id n s h (c ∷ cs) =
+    live-history k id n (next s c) (kept-next s c h) cs ∙ ap (λ b. live-after k id b (next s c) cs) (live-next s (h .ids) k id n c)
 
 -- no id is live in a session that was made
 pub made-none : (k : Kind) (id : List ℕ) → id ≢ [] → (sends wants : ℕ) (offered : List Bool) → live id (ids-of k (made sends wants offered)) ≡ false
@@ -145,5 +155,5 @@ made-none k id n sends wants offered = by (making-answer sends wants offered) k
 pub made-history : (k : Kind) (id : List ℕ) → id ≢ [] → (sends wants : ℕ) (offered : List Bool) (cs : List Call)
     → live id (ids-of k (after (made sends wants offered) cs)) ≡ live-after k id false (made sends wants offered) cs
 made-history k id n sends wants offered cs =
-    live-history k id n (made sends wants offered) (made-sized sends wants offered) (made-valid sends wants offered) cs
+    live-history k id n (made sends wants offered) (kept-made sends wants offered) cs
     ∙ ap (λ b. live-after k id b (made sends wants offered) cs) (made-none k id n sends wants offered)

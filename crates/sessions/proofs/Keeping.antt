@@ -29,10 +29,11 @@ use Rattle.sessions.specs.Values.{HeartBeats, heart-beat-max, both, hear
 use Rattle.sessions.specs.Opening.{may-offer, interval}
 use Rattle.sessions.specs.Headers.{value-of, is, opens, naming}
 use Rattle.sessions.specs.Sessions.{subscriptions-max, transactions-max, id-max, fresh-phase, open-phase, closed-phase, in-phase, fresh}
-use Rattle.sessions.specs.Sessions.{ids-of, with-stores, with-ids, with-phase, closed, heard, right-flags, small-numbers, valid-numbers, valid-ids, is-valid, Sized}
-use Rattle.sessions.specs.Calls.{making-checks, making-answer, made-by, made, shared-by, heart-beats-of, client-versions, client-heart-beats, opened-by, usage-of, named-id, naming-checks, frame-answer, naming-effect, effect, frame-session, heart-beat-answer, heart-beat-session}
+use Rattle.sessions.specs.Sessions.{ids-of, with-stores, with-ids, with-phase, with-deliveries, closed, heard, right-flags, small-numbers, valid-numbers, valid-ids, right-deliveries, is-valid, Sized}
+use Rattle.sessions.specs.Calls.{making-checks, making-answer, made-by, made, shared-by, heart-beats-of, client-versions, client-heart-beats, opened-by, usage-of, named-id, naming-checks, frame-answer, naming-effect, delivery-effect, effect, frame-session, deliver-answer, deliver-session, recorded-by, place-named, heart-beat-answer, heart-beat-session}
+use Rattle.sessions.specs.Deliveries.{record-label}
 use Rattle.sessions.specs.Steps.{count-of}
-use Rattle.sessions.specs.Histories.{Call, frame, heart-beat, next, after}
+use Rattle.sessions.specs.declared.delivery.Deliveries.{Deliveries}
 use Rattle.sessions.specs.declared.store.Use.{Use}
 use Rattle.sessions.specs.declared.command.Header.the-variants.{HeartBeat}
 use Rattle.sessions.specs.declared.command.Kind.{Kind}
@@ -58,7 +59,8 @@ pair a b h = (and-left a b h, and-right a b h)
 pub valid-record : (s : Session) → is-valid s ≡ true → Valid s
 unfolding is-valid
 valid-record s h =
-    let (numbers, stores) = pair (valid-numbers s) (valid-ids s) h in
+    let (numbers, rest) = pair (valid-numbers s) _ h in
+    let (stores, deliveries) = pair (valid-ids s) (right-deliveries s) rest in
     let (phase, others) = pair (leb (s .phase) closed-phase) _ numbers in
     let (small, flags) = pair (small-numbers s) _ others in
     let (sends, small₁) = pair (leb (s .sends) heart-beat-max) _ small in
@@ -74,9 +76,10 @@ valid-record s h =
       transactions = transactions;
     }
 
-pub record-valid : (s : Session) → Valid s → is-valid s ≡ true
+pub record-valid : (s : Session) → Valid s → right-deliveries s ≡ true → is-valid s ≡ true
 unfolding is-valid
-record-valid s v = ap₂ (_&&_) (ap₂ (_&&_) (le-leb (s .phase) closed-phase (v .known)) (ap₂ (_&&_) small (v .flags))) (ap₂ (_&&_) (v .subscriptions) (v .transactions))
+record-valid s v o =
+    ap₂ (_&&_) (ap₂ (_&&_) (le-leb (s .phase) closed-phase (v .known)) (ap₂ (_&&_) small (v .flags))) (ap₂ (_&&_) (ap₂ (_&&_) (v .subscriptions) (v .transactions)) o)
   where
     small : small-numbers s ≡ true
     small =
@@ -86,11 +89,11 @@ record-valid s v = ap₂ (_&&_) (ap₂ (_&&_) (le-leb (s .phase) closed-phase (v
 
 -- ---- the opening's intervals are small
 
-abbrev OfSome : {A : Type 0} → (A → Type 0) → Option A → Type 0
+abbrev pub OfSome : {A : Type 0} → (A → Type 0) → Option A → Type 0
 OfSome P none = Unit {0}
 OfSome P (some x) = P x
 
-abbrev Small : HeartBeats → Type 0
+abbrev pub Small : HeartBeats → Type 0
 Small b = (b .sends ≤ heart-beat-max) × (b .wants ≤ heart-beat-max)
 
 amount-small : (v : List ℕ) → OfSome (_≤ heart-beat-max) (amount heart-beat-max v)
@@ -111,12 +114,12 @@ in-small (a ∷ []) = tt
 in-small (a ∷ b ∷ []) = both-small (amount heart-beat-max a) (amount heart-beat-max b) (amount-small a) (amount-small b)
 in-small (a ∷ b ∷ c ∷ more) = tt
 
-of-small : (o : Option (List ℕ)) → OfSome Small (heart-beats-of o)
+pub of-small : (o : Option (List ℕ)) → OfSome Small (heart-beats-of o)
 unfolding heart-beats
 of-small none = (omega arith, omega arith)
 of-small (some v) = in-small (split 44 v)
 
-interval-small : (a b m : ℕ) → a ≤ m → b ≤ m → interval a b ≤ m
+pub interval-small : (a b m : ℕ) → a ≤ m → b ≤ m → interval a b ≤ m
 interval-small a b m h k = cond-case (_≤ m) (eqb a 0 || eqb b 0) (λ e. omega arith) (λ e. omega arith)
 
 -- ---- the ids of a kind
@@ -132,7 +135,7 @@ pub record Held (s : Session) : Type 0 where
 
 -- its ids
 module _ (s : Session) (h : Held s) where
-  subscriptions-fit : Fits id-max subscriptions-max (s .subs) (s .«sub_lens»)
+  pub subscriptions-fit : Fits id-max subscriptions-max (s .subs) (s .«sub_lens»)
   subscriptions-fit = valid-fits id-max (s .subs) (s .«sub_lens») (h .valid .subscriptions) subscriptions-max (h .sized .sub-lens-long) (h .sized .subs-long)
 
   transactions-fit : Fits id-max transactions-max (s .txs) (s .«tx_lens»)
@@ -173,17 +176,17 @@ module _ (s : Session) (h : Held s) where
 
   -- ---- each change keeps them
 
-  held-closed : Held (closed s)
+  pub held-closed : Held (closed s)
   held-closed = held-by (closed s) (refl, refl, refl, refl) (omega arith) (h .valid .offers) (h .valid .intervals) refl
 
-  held-heard : (time : ℕ) → Held (heard s time)
+  pub held-heard : (time : ℕ) → Held (heard s time)
   held-heard time = held-by (heard s time) (refl, refl, refl, refl) (h .valid .known) (h .valid .offers) (h .valid .intervals) (h .valid .flags)
 
   -- a fresh one offers what it may
   fresh-flags : in-phase fresh-phase s ≡ true → may-offer (s .offered) ≡ true
   fresh-flags f = sym (ap (λ p. eqb p closed-phase || may-offer (s .offered)) (eqb-true (s .phase) fresh-phase f)) ∙ h .valid .flags
 
-  held-opened : in-phase fresh-phase s ≡ true → (shared : List Bool) (o : Option HeartBeats) → OfSome Small o → Held (opened-by s shared o)
+  pub held-opened : in-phase fresh-phase s ≡ true → (shared : List Bool) (o : Option HeartBeats) → OfSome Small o → Held (opened-by s shared o)
   held-opened f shared none small = h
   held-opened f shared (some b) small =
       held-by (opened-by s shared (some b)) (refl, refl, refl, refl) (omega arith) (h .valid .offers) (
@@ -227,26 +230,31 @@ module _ (s : Session) (h : Held s) where
         valid = stored (h .valid .subscriptions) (laid-valid id-max is m d);
       }
 
-  held-used : (k : Kind) (u : Use) (id : List ℕ) → settle (use-checks id-max u id (ids-of k s)) [] ≡ accepted [] → Held (with-ids k s (used u id (ids-of k s)))
+  pub held-used : (k : Kind) (u : Use) (id : List ℕ) → settle (use-checks id-max u id (ids-of k s)) [] ≡ accepted [] → Held (with-ids k s (used u id (ids-of k s)))
   held-used k u id e =
       held-with k (used u id (ids-of k s))
       (used-length u id (ids-of k s) ∙ held-long k)
       (used-short id-max u id (ids-of k s) (use-short id-max u id (ids-of k s) [] [] e) (held-short k))
       (used-distinct id-max u id (ids-of k s) [] [] e (held-distinct k))
 
-  held-naming : (n : ℕ) (es : List Entry) → All Passes (naming-checks s n es) → Held (naming-effect s n (named-id n es))
+  pub held-naming : (n : ℕ) (es : List Entry) → All Passes (naming-checks s n es) → Held (naming-effect s n (named-id n es))
   held-naming n es p = by (named-id n es) refl
     where
       by : (o : Option (List ℕ)) → named-id n es ≡ o → Held (naming-effect s n o)
       by none e = h
       by (some id) e = held-used (naming n .kind) (usage-of n) id (naming-settles s n es id p e)
 
-  held-effect : (n : ℕ) (es : List Entry) → Passed s n es → Held (effect s n es)
+  pub held-deliveries : (d : Deliveries) → Held (with-deliveries s d)
+  held-deliveries d = held-by (with-deliveries s d) (refl, refl, refl, refl) (h .valid .known) (h .valid .offers) (h .valid .intervals) (h .valid .flags)
+
+module _ (s : Session) (h : Held s) where
+  pub held-effect : (n : ℕ) (es : List Entry) → Passed s n es → Held (effect s n es)
   held-effect n es p =
       cond-case Held (opens n)
-      (λ o. held-opened (not-false (in-phase fresh-phase s) (sym (ap (λ t. cond t (not (in-phase fresh-phase s)) (not (in-phase open-phase s))) o) ∙ p .in-turn))
+      (λ o. held-opened s h (not-false (in-phase fresh-phase s) (sym (ap (λ t. cond t (not (in-phase fresh-phase s)) (not (in-phase open-phase s))) o) ∙ p .in-turn))
       (shared-by s (client-versions es)) (client-heart-beats es) (of-small (value-of HeartBeat es)))
-      (λ o. cond-case Held (is DISCONNECT n) (λ d. held-closed) (λ d. held-naming n es (p .named)))
+      (λ o. cond-case Held (is DISCONNECT n) (λ d. held-closed s h)
+      (λ d. held-deliveries (naming-effect s n (named-id n es)) (held-naming s h n es (p .named)) (delivery-effect s n es)))
 
 pub held-frame : (s : Session) (n : ℕ) (block : List ℕ) (time : ℕ) → Held s → Held (frame-session s n block time)
 unfolding frame-session
@@ -258,17 +266,17 @@ pub held-heart-beat : (s : Session) (time : ℕ) → Held s → Held (heart-beat
 unfolding heart-beat-session
 held-heart-beat s time h = left-case Held (heart-beat-answer s) s (heard s time) h (held-closed s h) (λ v e. held-heard s h time)
 
-pub held-next : (s : Session) (c : Call) → Held s → Held (next s c)
-held-next s (frame n block time) h = held-frame s n block time h
-held-next s (heart-beat time) h = held-heart-beat s time h
-
-pub held-after : (s : Session) (cs : List Call) → Held s → Held (after s cs)
-held-after s [] h = h
-held-after s (c ∷ cs) h = held-after (next s c) cs (held-next s c h)
+pub held-deliver : (s : Session) (id label : List ℕ) → Held s → Held (deliver-session s id label)
+unfolding deliver-session
+held-deliver s id label h = by (deliver-answer s id label)
+  where
+    by : (A : Answer) → Held (recorded-by A s (with-deliveries s (record-label (place-named s (some id)) label (s .deliveries))))
+    by (accepted v) = held-deliveries s h (record-label (place-named s (some id)) label (s .deliveries))
+    by (refused k) = h
 
 -- ---- a session that is made
 
-held-fresh : (sends wants : ℕ) (offered : List Bool) (phase : ℕ) → sends ≤ heart-beat-max → wants ≤ heart-beat-max → phase ≤ closed-phase
+pub held-fresh : (sends wants : ℕ) (offered : List Bool) (phase : ℕ) → sends ≤ heart-beat-max → wants ≤ heart-beat-max → phase ≤ closed-phase
     → eqb phase closed-phase || may-offer offered ≡ true → Held (with-phase (fresh sends wants offered) phase)
 held-fresh sends wants offered phase a b known flags =
     record {
@@ -303,38 +311,3 @@ held-made sends wants offered = by (making-answer sends wants offered) refl
         (omega arith)
         (not-false (may-offer offered) (or-false-right (ltb heart-beat-max wants) (not (may-offer offered)) rest))
     by (refused k) e = held-fresh 0 0 (replicate 3 false) closed-phase (omega arith) (omega arith) (omega arith) refl
-
--- ---- validity is kept
-
-module _ (s : Session) (sized : Sized s) (valid : is-valid s ≡ true) where
-  pub held : Held s
-  held = record { sized = sized; valid = valid-record s valid }
-
-  pub frame-sized : (n : ℕ) (block : List ℕ) (time : ℕ) → Sized (frame-session s n block time)
-  frame-sized n block time = held-frame s n block time held .sized
-
-  pub frame-valid : (n : ℕ) (block : List ℕ) (time : ℕ) → is-valid (frame-session s n block time) ≡ true
-  frame-valid n block time = record-valid (frame-session s n block time) (held-frame s n block time held .valid)
-
-  pub heart-beat-sized : (time : ℕ) → Sized (heart-beat-session s time)
-  heart-beat-sized time = held-heart-beat s time held .sized
-
-  pub heart-beat-valid : (time : ℕ) → is-valid (heart-beat-session s time) ≡ true
-  heart-beat-valid time = record-valid (heart-beat-session s time) (held-heart-beat s time held .valid)
-
-  pub sized-after : (cs : List Call) → Sized (after s cs)
-  sized-after cs = held-after s cs held .sized
-
-  pub valid-after : (cs : List Call) → is-valid (after s cs) ≡ true
-  valid-after cs = record-valid (after s cs) (held-after s cs held .valid)
-
--- a session that was made, whether refused or not, and after any history
-module _ (sends wants : ℕ) (offered : List Bool) where
-  pub made-sized : Sized (made sends wants offered)
-  made-sized = held-made sends wants offered .sized
-
-  pub made-valid : is-valid (made sends wants offered) ≡ true
-  made-valid = record-valid (made sends wants offered) (held-made sends wants offered .valid)
-
-  pub made-after : (cs : List Call) → is-valid (after (made sends wants offered) cs) ≡ true
-  made-after = valid-after (made sends wants offered) made-sized made-valid

@@ -1,13 +1,13 @@
 -- Keys of places, one place on. Assumes nothing.
 use mathlib.Core.Path.{_≡_, refl, sym, ap, ap₂, _∙_}
 use mathlib.Core.Bool.{Bool, true, false, _||_}
-use mathlib.Core.List.{List, [], _∷_, _++_, map}
+use mathlib.Core.List.{List, [], _∷_, _++_, map, append-nil}
 use Prim.Native.Nat.{ℕ, suc, _+_, _-_, _*_, _≤_, _<_}
 use native.Mathlib.Nat.{suc-mul}
 use native.Mathlib.Numerals.{add-one}
 use native.Mathlib.Omega.{arith}
 use lib.Dec.{eqb}
-use lib.ListN.{length, take, drop, set, getD, length-map, length-drop, drop-of-length-le}
+use lib.ListN.{length, take, drop, set, getD, replicate, length-map, length-drop, drop-of-length-le}
 use lib.Seq.{drop-drop, length-take-le}
 use Rattle.headers.specs.Rows.{any}
 use Rattle.headers.specs.Answers.{Puts}
@@ -52,6 +52,16 @@ keyed-put s ls d₀ d k at st h = keyed-done s ls d₀ d k at st h .1 ∙ ap (λ
 -- a part of 32 octets
 pub part-long : (at : ℕ) (s : List ℕ) → at + 32 ≤ length s → length (take (at + 32 - at) (drop at s)) ≡ 32
 part-long at s h = length-take-le (at + 32 - at) (drop at s) (simp length-drop (omega arith)) ∙ omega arith
+
+-- a place copied
+pub part-copied : (at : ℕ) (s out : List ℕ) → at + 32 ≤ length s
+    → out ≡ take (at + 32 - at) (drop at s) ++ drop (length (take (at + 32 - at) (drop at s))) (replicate 32 0) → out ≡ take 32 (drop at s)
+part-copied at s out h e =
+    let wide : at + 32 - at ≡ 32 = omega arith in
+    e
+    ∙ ap (λ n. take (at + 32 - at) (drop at s) ++ drop n (replicate 32 0)) (part-long at s h)
+    ∙ append-nil (take (at + 32 - at) (drop at s))
+    ∙ ap (λ n. take n (drop at s)) wide
 
 module _ {s ls d₀ d : List ℕ} {k at : ℕ} (st : Keyed s ls d₀ d k at) (long : length s ≡ length ls * 32) (more : k < length ls) where
   pub keyed-room : at + 32 ≤ length s

@@ -68,8 +68,8 @@ module _ {block : List ℕ} {h : Header} {r : Located} (l : Locates block h r) w
   read-located f p e = ap f (ap (λ q. cond q (some (value-at block r)) none) (sym e) ∙ l .first)
 
 -- of any header but none
-pub lacks-not : (h : Header) (es : List Entry) → OneOf (1 ∷ 2 ∷ 3 ∷ 4 ∷ 5 ∷ 6 ∷ 7 ∷ []) (tagOf header.the-type h) → lacks h es ≡ not (has h es)
-lacks-not Header.Absent es t = absurd (miss (1 ∷ 2 ∷ 3 ∷ 4 ∷ 5 ∷ 6 ∷ 7 ∷ []) 0 tt t)
+pub lacks-not : (h : Header) (es : List Entry) → OneOf (1 ∷ 2 ∷ 3 ∷ 4 ∷ 5 ∷ 6 ∷ 7 ∷ 8 ∷ []) (tagOf header.the-type h) → lacks h es ≡ not (has h es)
+lacks-not Header.Absent es t = absurd (miss (1 ∷ 2 ∷ 3 ∷ 4 ∷ 5 ∷ 6 ∷ 7 ∷ 8 ∷ []) 0 tt t)
 lacks-not Header.AcceptVersion es t = refl
 lacks-not Header.HeartBeat es t = refl
 lacks-not Header.Host es t = refl
@@ -77,3 +77,12 @@ lacks-not Header.Destination es t = refl
 lacks-not Header.Id es t = refl
 lacks-not Header.Transaction es t = refl
 lacks-not Header.Receipt es t = refl
+lacks-not Header.Ack es t = refl
+
+-- a header that is there is located
+pub located-there : {block : List ℕ} {h : Header} {r : Located} → Locates block h r → has h (listed (entries block)) ≡ true → value-of h (listed (entries block)) ≡ some (value-at block r)
+located-there {block} {h} {r} l e = by (r .present) (l .first)
+  where
+    by : (t : Bool) → cond t (some (value-at block r)) none ≡ value-of h (listed (entries block)) → value-of h (listed (entries block)) ≡ some (value-at block r)
+    by true q = sym q
+    by false q = absurd (let z : false ≡ true = ap is-some q ∙ e in let w : _≡_ {A = ℕ} 0 1 = cc in omega arith)

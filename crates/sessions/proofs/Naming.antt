@@ -13,14 +13,15 @@ use Rattle.sessions.specs.declared.command.Header.{Header}
 use Rattle.sessions.specs.declared.command.Naming.{Naming}
 use Rattle.sessions.specs.declared.locate.Located.{Located}
 use Rattle.sessions.specs.declared.session.Session.{Session}
+use Rattle.sessions.specs.declared.session.Acceptance.{Acceptance}
 use Rattle.sessions.specs.declared.session.Outcome.{Outcome}
 use Rattle.sessions.proofs.Steps.{naming-none, naming-some}
 
-module _ (s : Session) (n : ℕ) (block : List ℕ) (receipt : Bool) (time : ℕ) (r : Outcome) (g : Naming) (is : g ≡ naming n) where
+module _ (s : Session) (n : ℕ) (block : List ℕ) (acceptance : Acceptance) (time : ℕ) (r : Outcome) (g : Naming) (is : g ≡ naming n) where
   -- the frame names no id
-  pub naming-unused : names-id (g .usage) ≡ false → r ≡ accepted-by s receipt time → GivesNaming s n (listed (entries block)) receipt time r
+  pub naming-unused : names-id (g .usage) ≡ false → r ≡ accepted-by s acceptance time → GivesNaming s n (listed (entries block)) acceptance time r
   naming-unused h q =
-      naming-none s n (listed (entries block)) time r receipt (ap (λ t. cond t (value-of (names (naming n .kind)) (listed (entries block))) none) (ap (λ z. names-id (z .usage)) (sym is) ∙ h)) q
+      naming-none s n (listed (entries block)) time r acceptance (ap (λ t. cond t (value-of (names (naming n .kind)) (listed (entries block))) none) (ap (λ z. names-id (z .usage)) (sym is) ∙ h)) q
 
   module _ (h : names-id (g .usage) ≡ true) (l : Located) (header : Header) (named : header ≡ names (g .kind)) (at : Locates block header l) where
     value-is : named-id n (listed (entries block)) ≡ cond (l .present) (some (value-at block l)) none
@@ -31,10 +32,10 @@ module _ (s : Session) (n : ℕ) (block : List ℕ) (receipt : Bool) (time : ℕ
         ∙ sym (at .first)
 
     -- its header is not there
-    pub naming-missing : l .present ≡ false → r ≡ accepted-by s receipt time → GivesNaming s n (listed (entries block)) receipt time r
-    naming-missing m q = naming-none s n (listed (entries block)) time r receipt (value-is ∙ ap (λ t. cond t (some (value-at block l)) none) m) q
+    pub naming-missing : l .present ≡ false → r ≡ accepted-by s acceptance time → GivesNaming s n (listed (entries block)) acceptance time r
+    naming-missing m q = naming-none s n (listed (entries block)) time r acceptance (value-is ∙ ap (λ t. cond t (some (value-at block l)) none) m) q
 
     -- it is, and the id was used
-    pub naming-found : l .present ≡ true → GivesUse (g .kind) s (g .usage) (value-at block l) receipt time r → GivesNaming s n (listed (entries block)) receipt time r
+    pub naming-found : l .present ≡ true → GivesUse (g .kind) s (g .usage) (value-at block l) acceptance time r → GivesNaming s n (listed (entries block)) acceptance time r
     naming-found m u =
-        naming-some s n (listed (entries block)) time r receipt (value-at block l) (value-is ∙ ap (λ t. cond t (some (value-at block l)) none) m) (subst (λ (z : Naming). GivesUse (z .kind) s (z .usage) (value-at block l) receipt time r) is u)
+        naming-some s n (listed (entries block)) time r acceptance (value-at block l) (value-is ∙ ap (λ t. cond t (some (value-at block l)) none) m) (subst (λ (z : Naming). GivesUse (z .kind) s (z .usage) (value-at block l) acceptance time r) is u)

@@ -9,13 +9,13 @@ use mathlib.Core.List.{List, [], _∷_}
 use Prim.Native.Nat.{ℕ, suc, _+_, _<_}
 use native.Mathlib.Numerals.{add-one}
 use native.Mathlib.Omega.{arith}
-use lib.ListN.{length, set}
+use lib.ListN.{length, getD, set}
 use Rattle.headers.specs.Rows.{any}
 use Rattle.sessions.specs.Stores.{first-from, replaced}
 use Rattle.sessions.specs.Places.{search-says, is-at}
 use Rattle.sessions.specs.declared.store.Search.{Search}
 
-abbrev is-some : Option ℕ → Bool
+abbrev pub is-some : Option ℕ → Bool
 is-some none = false
 is-some (some k) = true
 
@@ -37,7 +37,7 @@ module _ {A : Type 0} (p : A → Bool) where
   first-end k = refl
 
   -- some element passes the test exactly if a search finds one
-  any-first : (j : ℕ) (xs : List A) → any p xs ≡ is-some (first-from p j xs)
+  pub any-first : (j : ℕ) (xs : List A) → any p xs ≡ is-some (first-from p j xs)
   unfolding first-from
   any-first j [] = refl
   any-first j (x ∷ xs) = by (p x) (any-first (suc j) xs)
@@ -69,3 +69,15 @@ module _ (p : List ℕ → Bool) (y : List ℕ) where
       let (i, q, l, r) = found-from 0 k xs e in
       let same-place : i ≡ k = omega arith in
       (omega arith, r ∙ ap (λ n. set xs n y) same-place)
+
+-- the first that passes is there
+pub first-at : {A : Type 0} (p : A → Bool) (d : A) (j k : ℕ) (xs : List A) → first-from p j xs ≡ some k → (i : ℕ) × (k ≡ j + i) × (i < length xs) × (p (getD xs i d) ≡ true)
+unfolding first-from
+first-at p d j k [] e = absurd (let z : _≡_ {A = ℕ} 0 1 = cc in omega arith)
+first-at {A} p d j k (x ∷ xs) e = by (p x) refl e (first-at p d (suc j) k xs)
+  where
+    by : (t : Bool) → p x ≡ t → cond t (some j) (first-from p (suc j) xs) ≡ some k
+        → (first-from p (suc j) xs ≡ some k → (i : ℕ) × (k ≡ suc j + i) × (i < length xs) × (p (getD xs i d) ≡ true))
+        → (i : ℕ) × (k ≡ j + i) × (i < suc (length xs)) × (p (getD (x ∷ xs) i d) ≡ true)
+    by true q f go = let s : j ≡ k = cc in (0, omega arith, omega arith, q)
+    by false q f go = let (i, a, b, c) = go f in (suc i, omega (arith, a), omega (arith, b), c)

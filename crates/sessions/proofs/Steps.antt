@@ -1,29 +1,37 @@
 -- What the parts of a session's calls come to: checks one after another, and the groups of Steps put together to the answers and
 -- sessions of Calls. Assumes nothing.
-use mathlib.Core.Path.{_≡_, refl, sym, ap, _∙_}
+use mathlib.Core.Path.{_≡_, refl, sym, ap, ap₂, subst, _∙_}
 use mathlib.Core.Bool.{Bool, true, false, cond, _||_, not}
 use mathlib.Core.Logic.{_⊎_, inl, inr, ⊎-elim}
-use mathlib.Core.Option.{none, some}
-use mathlib.Core.List.{List, [], _∷_}
+use mathlib.Core.Option.{Option, none, some}
+use mathlib.Core.List.{List, [], _∷_, _++_}
 use Prim.Native.Nat.{ℕ}
 use native.Mathlib.Omega.{arith}
 use lib.ListN.{replicate}
 use lib.Dec.{eqb, ltb}
-use borrow.Author.Tests.{eqb-true}
+use borrow.Author.Tests.{eqb-true, not-false}
 use Rattle.headers.specs.Rows.{every}
 use Rattle.headers.specs.Block.{Entry, entries, listed}
-use Rattle.headers.specs.Answers.{accepted, refused, Check, settle}
-use Rattle.headers.proofs.Rows.{and-left, and-right}
-use Rattle.frames.specs.Grammar.{number, CONNECT, DISCONNECT, STOMP}
+use Rattle.headers.specs.Answers.{Answer, accepted, refused, Check, settle}
+use Rattle.headers.proofs.Rows.{and-left, and-right, or-false-left}
+use Rattle.frames.specs.Grammar.{number, ACK, NACK, CONNECT, DISCONNECT, STOMP, SUBSCRIBE, UNSUBSCRIBE}
 use Rattle.sessions.specs.Values.{heart-beat-max}
 use Rattle.sessions.specs.Opening.{may-offer}
-use Rattle.sessions.specs.Headers.{has, is, opens, naming}
-use Rattle.sessions.specs.Sessions.{fresh, closed, heard, is-valid}
-use Rattle.sessions.specs.Answers.{bit, answer-says}
-use Rattle.sessions.specs.Calls.{usage-of, named-id, naming-effect, lacks-needed, frame-checks, owes-receipt, frame-answer, effect, frame-session, heart-beat-checks, heart-beat-answer, heart-beat-session, making-answer, made, is-timed-out, timed-out-answer}
-use Rattle.sessions.specs.Steps.{kept-by, closed-by, accepted-by, Gives, opening-checks, GivesUse, GivesOpening, GivesNaming, GivesEntries}
-use Rattle.sessions.specs.declared.command.Header.the-variants.{Receipt}
+use Rattle.sessions.specs.Headers.{has, is, opens, settles, naming, value-of, mode-asked}
+use Rattle.sessions.specs.Sessions.{fresh, ids-of, with-ids, with-deliveries, closed, heard, is-valid}
+use Rattle.sessions.specs.Stores.{used}
+use Rattle.sessions.specs.Answers.{acceptance-says, answer-says}
+use Rattle.sessions.specs.Calls.{usage-of, named-id, left-by, naming-effect, naming-checks, delivery-checks, delivery-effect, label-named, settle-named, place-named, free-place, mode-or-auto, lacks-needed, frame-checks, acceptance-of, no-receipt, frame-answer, effect, frame-session, heart-beat-checks, heart-beat-answer, heart-beat-session, making-answer, made, is-timed-out, timed-out-answer, recorded-by, deliver-checks, deliver-answer, deliver-session}
+use Rattle.sessions.specs.Deliveries.{subscribe, unsubscribe}
+use Rattle.sessions.specs.Steps.{kept-by, closed-by, accepted-by, Gives, opening-checks, GivesUse, GivesOpening, GivesNaming, GivesDelivery, GivesEntries, after-answer, GivesThen, outcome-with, mode-checks, label-checks, GivesMode, GivesDropped, GivesLabel, Records, unrecorded-by, recorded-as, subscription-at, recording-checks}
+use Rattle.sessions.specs.declared.command.Header.the-variants.{Id}
+use Rattle.sessions.specs.declared.command.Kind.{Kind}
+use Rattle.sessions.specs.declared.command.Kind.the-variants.{Subscriptions, Transactions}
+use Rattle.sessions.specs.declared.delivery.Deliveries.{Deliveries}
+use Rattle.sessions.specs.declared.session.SessionAnswer.{SessionAnswer}
+use Rattle.sessions.specs.declared.session.Recording.{Recording}
 use Rattle.sessions.specs.declared.session.Session.{Session}
+use Rattle.sessions.specs.declared.session.Acceptance.{Acceptance}
 use Rattle.sessions.specs.declared.session.Outcome.{Outcome}
 
 -- the number leaves the session as it was
@@ -32,32 +40,32 @@ keeps k = eqb k 38 || eqb k 39
 
 -- ---- checks one after another
 
-module _ {receipt : Bool} {before after : Session} {r : Outcome} where
+module _ {acceptance : Acceptance} {before after : Session} {r : Outcome} where
   -- the first fails, with a number that closes; with one that leaves the session as it was
   pub gives-closed : (fails : Bool) (k : ℕ) (cs : List Check) → fails ≡ true → keeps k ≡ false → r ≡ closed-by before k
-      → Gives (record { fails = fails; number = k } ∷ cs) receipt before after r
+      → Gives (record { fails = fails; number = k } ∷ cs) acceptance before after r
   gives-closed fails k cs h n e = record { answered = rw (h, e) refl; left = rw (h, e, n) refl }
 
   pub gives-kept : (fails : Bool) (k : ℕ) (cs : List Check) → fails ≡ true → keeps k ≡ true → r ≡ kept-by before k
-      → Gives (record { fails = fails; number = k } ∷ cs) receipt before after r
+      → Gives (record { fails = fails; number = k } ∷ cs) acceptance before after r
   gives-kept fails k cs h n e = record { answered = rw (h, e) refl; left = rw (h, e, n) refl }
 
   -- the first passes
-  pub gives-on : (c : Check) (cs : List Check) → c .fails ≡ false → Gives cs receipt before after r → Gives (c ∷ cs) receipt before after r
+  pub gives-on : (c : Check) (cs : List Check) → c .fails ≡ false → Gives cs acceptance before after r → Gives (c ∷ cs) acceptance before after r
   gives-on c cs h g = record { answered = rw h (g .answered); left = rw h (g .left) }
 
   -- other checks that settle on the same answer
-  pub gives-alike : (cs ds : List Check) → settle cs (bit receipt ∷ []) ≡ settle ds (bit receipt ∷ []) → Gives cs receipt before after r → Gives ds receipt before after r
+  pub gives-alike : (cs ds : List Check) → settle cs (acceptance-says acceptance) ≡ settle ds (acceptance-says acceptance) → Gives cs acceptance before after r → Gives ds acceptance before after r
   gives-alike cs ds e g = record { answered = rw (← e) (g .answered); left = rw (← e) (g .left) }
 
   -- by the answer that the checks settle on
-  pub gives-refused : (cs : List Check) (k : ℕ) → settle cs (bit receipt ∷ []) ≡ refused k → keeps k ≡ false → r ≡ closed-by before k → Gives cs receipt before after r
+  pub gives-refused : (cs : List Check) (k : ℕ) → settle cs (acceptance-says acceptance) ≡ refused k → keeps k ≡ false → r ≡ closed-by before k → Gives cs acceptance before after r
   gives-refused cs k h n e = record { answered = rw (h, e) refl; left = rw (h, e, n) refl }
 
 -- accepted, and heard from
-pub gives-accepted : (cs : List Check) (receipt : Bool) (before after : Session) (time : ℕ) (r : Outcome) → settle cs (bit receipt ∷ []) ≡ accepted (bit receipt ∷ [])
-    → r ≡ accepted-by after receipt time → Gives cs receipt before (heard after time) r
-gives-accepted cs receipt before after time r h e = record { answered = rw (h, e) refl; left = rw (h, e) refl }
+pub gives-accepted : (cs : List Check) (acceptance : Acceptance) (before after : Session) (time : ℕ) (r : Outcome) → settle cs (acceptance-says acceptance) ≡ accepted (acceptance-says acceptance)
+    → r ≡ accepted-by after acceptance time → Gives cs acceptance before (heard after time) r
+gives-accepted cs acceptance before after time r h e = record { answered = rw (h, e) refl; left = rw (h, e) refl }
 
 -- the checks refuse whatever the values of an accepted answer are
 pub settle-refused : (cs : List Check) (v w : List ℕ) (k : ℕ) → settle cs v ≡ refused k → settle cs w ≡ refused k
@@ -87,14 +95,14 @@ settle-closes (c ∷ cs) v k h e = by (c .fails) (settle-closes cs v k (and-righ
 abbrev three : Bool → Bool → Bool → List Check → List Check
 three a b c cs = record { fails = a; number = 40 } ∷ record { fails = b; number = 41 } ∷ record { fails = c; number = 42 } ∷ cs
 
-module _ {receipt : Bool} {before after : Session} {r : Outcome} (k : ℕ) (cs : List Check) where
-  pub phase-refuses : (a b c : Bool) → k ≡ cond a 40 (cond b 41 (cond c 42 0)) → (k ≡ 0 → ⊥) → r ≡ closed-by before k → Gives (three a b c cs) receipt before after r
+module _ {acceptance : Acceptance} {before after : Session} {r : Outcome} (k : ℕ) (cs : List Check) where
+  pub phase-refuses : (a b c : Bool) → k ≡ cond a 40 (cond b 41 (cond c 42 0)) → (k ≡ 0 → ⊥) → r ≡ closed-by before k → Gives (three a b c cs) acceptance before after r
   phase-refuses true b c e n q = gives-closed true 40 _ refl refl (q ∙ ap (closed-by before) e)
   phase-refuses false true c e n q = gives-on _ _ refl (gives-closed true 41 _ refl refl (q ∙ ap (closed-by before) e))
   phase-refuses false false true e n q = gives-on _ _ refl (gives-on _ _ refl (gives-closed true 42 _ refl refl (q ∙ ap (closed-by before) e)))
   phase-refuses false false false e n q = absurd (n e)
 
-  pub phase-passes : (a b c : Bool) → k ≡ cond a 40 (cond b 41 (cond c 42 0)) → k ≡ 0 → Gives cs receipt before after r → Gives (three a b c cs) receipt before after r
+  pub phase-passes : (a b c : Bool) → k ≡ cond a 40 (cond b 41 (cond c 42 0)) → k ≡ 0 → Gives cs acceptance before after r → Gives (three a b c cs) acceptance before after r
   phase-passes true b c e n g = absurd (omega (arith, e, n))
   phase-passes false true c e n g = absurd (omega (arith, e, n))
   phase-passes false false true e n g = absurd (omega (arith, e, n))
@@ -104,9 +112,9 @@ module _ {receipt : Bool} {before after : Session} {r : Outcome} (k : ℕ) (cs :
 
 module _ (s : Session) (n : ℕ) (es : List Entry) (time : ℕ) (r : Outcome) where
   -- the opening frame: no id is named, and no receipt is owed
-  opening-is : (n ≡ number CONNECT) ⊎ (n ≡ number STOMP) → lacks-needed n es ≡ false → GivesOpening s es time r → GivesEntries s n es time r
-  opening-is q h g = ⊎-elim (λ (e : n ≡ number CONNECT). rw e (gives-on _ _ (rw e at h) (gives-alike (opening-checks s es) _ refl g)))
-      (λ (e : n ≡ number STOMP). rw e (gives-on _ _ (rw e at h) (gives-alike (opening-checks s es) _ refl g))) q
+  opening-is : (n ≡ number CONNECT) ⊎ (n ≡ number STOMP) → lacks-needed n es ≡ false → GivesOpening s es (acceptance-of n es) time r → GivesEntries s n es time r
+  opening-is q h g = ⊎-elim (λ (e : n ≡ number CONNECT). rw e (gives-on _ _ (rw e at h) (gives-alike (opening-checks s es) _ refl (rw e at g))))
+      (λ (e : n ≡ number STOMP). rw e (gives-on _ _ (rw e at h) (gives-alike (opening-checks s es) _ refl (rw e at g)))) q
 
   opening-number : opens n ≡ true → (n ≡ number CONNECT) ⊎ (n ≡ number STOMP)
   opening-number = by (is CONNECT n) (is STOMP n) refl refl
@@ -116,37 +124,227 @@ module _ (s : Session) (n : ℕ) (es : List Entry) (time : ℕ) (r : Outcome) wh
       by false true p q h = inr (eqb-true n (number STOMP) q)
       by false false p q h = absurd (let z : _≡_ {A = ℕ} 0 1 = cc in omega arith)
 
-  pub entries-opening : lacks-needed n es ≡ false → opens n ≡ true → GivesOpening s es time r → GivesEntries s n es time r
-  entries-opening h o g = opening-is (opening-number o) h g
+  module _ (acceptance : Acceptance) (same : acceptance ≡ acceptance-of n es) where
+    pub entries-opening : lacks-needed n es ≡ false → opens n ≡ true → GivesOpening s es acceptance time r → GivesEntries s n es time r
+    entries-opening h o g = opening-is (opening-number o) h (subst (λ a. GivesOpening s es a time r) same g)
 
-  pub entries-disconnect : n ≡ number DISCONNECT → (receipt : Bool) → receipt ≡ has Receipt es
-      → r ≡ accepted-by (closed s) receipt time → GivesEntries s n es time r
-  entries-disconnect e receipt h q = rw (e, ← h) (gives-accepted _ receipt s (closed s) time r refl q)
+    pub entries-disconnect : n ≡ number DISCONNECT → r ≡ accepted-by (closed s) acceptance time → GivesEntries s n es time r
+    entries-disconnect e q =
+        let q′ : r ≡ accepted-by (closed s) (acceptance-of n es) time = q ∙ ap (λ a. accepted-by (closed s) a time) same in
+        rw e (gives-accepted _ (acceptance-of (number DISCONNECT) es) s (closed s) time r refl (rw e at q′))
 
-  -- any other frame
-  pub entries-naming : (receipt : Bool) → lacks-needed n es ≡ false → opens n ≡ false → is DISCONNECT n ≡ false → receipt ≡ has Receipt es
-      → GivesNaming s n es receipt time r → GivesEntries s n es time r
-  entries-naming receipt h o d e g =
-      let same-effect : effect s n es ≡ naming-effect s n (named-id n es) = rw (o, d) in
-      let same-receipt : owes-receipt n es ≡ receipt = rw (o, e) in
-      rw (same-effect, same-receipt) (gives-on _ _ h (gives-on _ _ (rw o) (gives-on _ _ (rw o) (gives-on _ _ (rw o) g))))
+    -- any other frame
+    pub entries-naming : lacks-needed n es ≡ false → opens n ≡ false → is DISCONNECT n ≡ false → GivesDelivery s n es acceptance time r → GivesEntries s n es time r
+    entries-naming h o d g =
+        let same-effect : effect s n es ≡ with-deliveries (naming-effect s n (named-id n es)) (delivery-effect s n es) = rw (o, d) in
+        let g′ : GivesDelivery s n es (acceptance-of n es) time r = subst (λ a. GivesDelivery s n es a time r) same g in
+        rw same-effect (gives-on _ _ h (gives-on _ _ (rw o) (gives-on _ _ (rw o) (gives-on _ _ (rw o) g′))))
 
   -- an id that is not named, and one that is
-  pub naming-none : (receipt : Bool) → named-id n es ≡ none → r ≡ accepted-by s receipt time → GivesNaming s n es receipt time r
-  naming-none receipt e q = rw e (gives-accepted _ receipt s s time r refl q)
+  pub naming-none : (acceptance : Acceptance) → named-id n es ≡ none → r ≡ accepted-by s acceptance time → GivesNaming s n es acceptance time r
+  naming-none acceptance e q = rw e (gives-accepted _ acceptance s s time r refl q)
 
-  pub naming-some : (receipt : Bool) (id : List ℕ) → named-id n es ≡ some id → GivesUse (naming n .kind) s (usage-of n) id receipt time r → GivesNaming s n es receipt time r
-  naming-some receipt id e g = rw e g
+  pub naming-some : (acceptance : Acceptance) (id : List ℕ) → named-id n es ≡ some id → GivesUse (naming n .kind) s (usage-of n) id acceptance time r → GivesNaming s n es acceptance time r
+  naming-some acceptance id e g = rw e g
+
+-- ---- checks after others
+
+-- the answer of checks after others: a refusal stays
+abbrev then : Answer → Answer → Answer
+then (accepted v) more = more
+then (refused k) more = refused k
+
+settle-append : (cs ds : List Check) (v : List ℕ) → settle (cs ++ ds) v ≡ then (settle cs v) (settle ds v)
+settle-append [] ds v = refl
+settle-append (c ∷ cs) ds v = by (c .fails) (settle-append cs ds v)
+  where
+    by : (t : Bool) → settle (cs ++ ds) v ≡ then (settle cs v) (settle ds v)
+        → cond t (refused (c .number)) (settle (cs ++ ds) v) ≡ then (cond t (refused (c .number)) (settle cs v)) (settle ds v)
+    by true e = refl
+    by false e = e
+
+-- checks that are passed settle on the values that they are given
+settle-values : (cs : List Check) (v w : List ℕ) → settle cs v ≡ accepted w → w ≡ v
+settle-values [] v w e = cc
+settle-values (c ∷ cs) v w e = by (c .fails) (settle-values cs v w) e
+  where
+    by : (t : Bool) → (settle cs v ≡ accepted w → w ≡ v) → cond t (refused (c .number)) (settle cs v) ≡ accepted w → w ≡ v
+    by true more h = absurd (let z : _≡_ {A = ℕ} 0 1 = cc in omega arith)
+    by false more h = more h
+
+-- an outcome by checks, and what is given after it by others
+module _ (cs ds : List Check) (acceptance : Acceptance) (before after : Session) (d : Deliveries) (named r : Outcome) where
+  pub gives-then : Gives cs acceptance before after named → GivesThen ds before d named r → Gives (cs ++ ds) acceptance before (with-deliveries after d) r
+  gives-then g h = by (named .answer) (settle cs says) refl refl h
+    where
+      says : List ℕ
+      says = acceptance-says acceptance
+
+      by : (x : SessionAnswer) (A : Answer) → named .answer ≡ x → settle cs says ≡ A → after-answer x ds before d named r
+          → Gives (cs ++ ds) acceptance before (with-deliveries after d) r
+      by (SessionAnswer.Refused k) (refused j) e f h =
+          let whole : settle (cs ++ ds) says ≡ refused j = settle-append cs ds says ∙ ap (λ A. then A (settle ds says)) f in
+          record {
+            answered = ap (λ (o : Outcome). answer-says (o .answer)) h ∙ g .answered ∙ f ∙ sym whole;
+            left = ap (λ (o : Outcome). o .session) h ∙ g .left ∙ ap (λ A. left-by A before after) f ∙ ap (λ A. left-by A before (with-deliveries after d)) (sym whole);
+          }
+      by (SessionAnswer.Refused k) (accepted v) e f h =
+          absurd (let q : refused k ≡ accepted v = sym (ap answer-says e) ∙ g .answered ∙ f in let z : _≡_ {A = ℕ} 0 1 = cc in omega arith)
+      by (SessionAnswer.Accepted a) (refused j) e f h =
+          absurd (let q : accepted (acceptance-says a) ≡ refused j = sym (ap answer-says e) ∙ g .answered ∙ f in let z : _≡_ {A = ℕ} 0 1 = cc in omega arith)
+      by (SessionAnswer.Accepted a) (accepted v) e f h =
+          let q : accepted (acceptance-says a) ≡ accepted v = sym (ap answer-says e) ∙ g .answered ∙ f in
+          let same : acceptance-says a ≡ says = (let w : acceptance-says a ≡ v = cc in w) ∙ settle-values cs says v f in
+          let whole : settle (cs ++ ds) says ≡ settle ds (acceptance-says a) = settle-append cs ds says ∙ ap (λ A. then A (settle ds says)) f ∙ ap (settle ds) (sym same) in
+          let there : named .session ≡ after = g .left ∙ ap (λ A. left-by A before after) f in
+          record {
+            answered = h .answered ∙ sym whole;
+            left = h .left ∙ ap₂ (λ A (x : Session). left-by A before (with-deliveries x d)) (sym whole) there;
+          }
+
+-- what an outcome that was refused, and one that was accepted, gives then
+module _ (checks : List Check) (before : Session) (d : Deliveries) (named r : Outcome) where
+  pub then-refused : (k : ℕ) → named .answer ≡ SessionAnswer.Refused k → r ≡ named → GivesThen checks before d named r
+  then-refused k e q = subst (λ x. after-answer x checks before d named r) (sym e) q
+
+  pub then-closed : (k : ℕ) → settle checks [] ≡ refused k → keeps k ≡ false → (a : Acceptance) → named .answer ≡ SessionAnswer.Accepted a → r ≡ closed-by before k
+      → GivesThen checks before d named r
+  then-closed k h n a e q = subst (λ x. after-answer x checks before d named r) (sym e) (gives-refused checks k (settle-refused checks [] (acceptance-says a) k h) n q)
+
+  pub then-accepted : ((v : List ℕ) → settle checks v ≡ accepted v) → (a : Acceptance) → named .answer ≡ SessionAnswer.Accepted a → r ≡ outcome-with named d
+      → GivesThen checks before d named r
+  then-accepted h a e q =
+      subst (λ x. after-answer x checks before d named r) (sym e)
+      (record {
+        answered = ap (λ (o : Outcome). answer-says (o .answer)) q ∙ ap answer-says e ∙ sym (h (acceptance-says a));
+        left = ap (λ (o : Outcome). o .session) q ∙ ap (λ A. left-by A before (with-deliveries (named .session) d)) (sym (h (acceptance-says a)));
+      })
+
+  -- other checks that settle on the same answer
+  pub then-alike : (others : List Check) → ((v : List ℕ) → settle checks v ≡ settle others v) → GivesThen checks before d named r → GivesThen others before d named r
+  then-alike others same g = by (named .answer) g
+    where
+      by : (x : SessionAnswer) → after-answer x checks before d named r → after-answer x others before d named r
+      by (SessionAnswer.Refused k) q = q
+      by (SessionAnswer.Accepted a) q = gives-alike checks others (same (acceptance-says a)) q
+
+-- ---- a SUBSCRIBE, an UNSUBSCRIBE, and an ACK or NACK, by the outcome that was
+
+module _ (s : Session) (es : List Entry) (named r : Outcome) where
+  pub mode-refused : (k : ℕ) → named .answer ≡ SessionAnswer.Refused k → r ≡ named → GivesMode s es named r
+  mode-refused k e q = then-refused (mode-checks es) s (subscribe (free-place s) (mode-or-auto (mode-asked es)) (s .deliveries)) named r k e q
+
+  pub mode-unknown : mode-asked es ≡ none → (a : Acceptance) → named .answer ≡ SessionAnswer.Accepted a → r ≡ closed-by s 49 → GivesMode s es named r
+  mode-unknown h a e q = then-closed (mode-checks es) s (subscribe (free-place s) (mode-or-auto (mode-asked es)) (s .deliveries)) named r 49 (rw h) refl a e q
+
+  pub mode-kept : (m : ℕ) → mode-asked es ≡ some m → (a : Acceptance) → named .answer ≡ SessionAnswer.Accepted a
+      → r ≡ outcome-with named (subscribe (free-place s) m (s .deliveries)) → GivesMode s es named r
+  mode-kept m h a e q =
+      then-accepted (mode-checks es) s (subscribe (free-place s) (mode-or-auto (mode-asked es)) (s .deliveries)) named r (λ v. rw h) a e
+      (q ∙ ap (λ o. outcome-with named (subscribe (free-place s) (mode-or-auto o) (s .deliveries))) (sym h))
+
+  pub drop-refused : (k : ℕ) → named .answer ≡ SessionAnswer.Refused k → r ≡ named → GivesDropped s es named r
+  drop-refused k e q = then-refused [] s (unsubscribe (place-named s (value-of Id es)) (s .deliveries)) named r k e q
+
+  pub drop-done : (id : List ℕ) → value-of Id es ≡ some id → (a : Acceptance) → named .answer ≡ SessionAnswer.Accepted a
+      → r ≡ outcome-with named (unsubscribe (place-named s (some id)) (s .deliveries)) → GivesDropped s es named r
+  drop-done id h a e q =
+      then-accepted [] s (unsubscribe (place-named s (value-of Id es)) (s .deliveries)) named r (λ v. refl) a e
+      (q ∙ ap (λ o. outcome-with named (unsubscribe (place-named s o) (s .deliveries))) (sym h))
+
+module _ (s : Session) (o : Option (List ℕ)) (named r : Outcome) where
+  pub label-refused : (k : ℕ) → named .answer ≡ SessionAnswer.Refused k → r ≡ named → GivesLabel s o named r
+  label-refused k e q = then-refused (label-checks o (s .deliveries)) s (settle-named o (s .deliveries)) named r k e q
+
+  pub label-unknown : settle (label-checks o (s .deliveries)) [] ≡ refused 60 → (a : Acceptance) → named .answer ≡ SessionAnswer.Accepted a → r ≡ closed-by s 60 → GivesLabel s o named r
+  label-unknown h a e q = then-closed (label-checks o (s .deliveries)) s (settle-named o (s .deliveries)) named r 60 h refl a e q
+
+  pub label-settled : ((v : List ℕ) → settle (label-checks o (s .deliveries)) v ≡ accepted v) → (a : Acceptance) → named .answer ≡ SessionAnswer.Accepted a
+      → r ≡ outcome-with named (settle-named o (s .deliveries)) → GivesLabel s o named r
+  label-settled h a e q = then-accepted (label-checks o (s .deliveries)) s (settle-named o (s .deliveries)) named r h a e q
+
+-- ---- a frame whose id was settled: its delivery, or the mode that it asks for
+
+module _ (s : Session) (n : ℕ) (es : List Entry) (acceptance : Acceptance) (time : ℕ) (named r : Outcome) (g : GivesNaming s n es acceptance time named) where
+  then-delivery : GivesThen (delivery-checks s n es) s (delivery-effect s n es) named r → GivesDelivery s n es acceptance time r
+  then-delivery h = gives-then (naming-checks s n es) (delivery-checks s n es) acceptance s (heard (naming-effect s n (named-id n es)) time) (delivery-effect s n es) named r g h
+
+  pub delivery-mode : n ≡ number SUBSCRIBE → GivesMode s es named r → GivesDelivery s n es acceptance time r
+  delivery-mode e h =
+      then-delivery (subst (λ m. GivesThen (delivery-checks s m es) s (delivery-effect s m es) named r) (sym e) (then-alike (mode-checks es) s (subscribe (free-place s) (mode-or-auto (mode-asked es)) (s .deliveries)) named r (delivery-checks s (number SUBSCRIBE) es) (λ v. refl) h))
+
+  pub delivery-dropped : n ≡ number UNSUBSCRIBE → GivesDropped s es named r → GivesDelivery s n es acceptance time r
+  delivery-dropped e h =
+      then-delivery (subst (λ m. GivesThen (delivery-checks s m es) s (delivery-effect s m es) named r) (sym e) (then-alike [] s (unsubscribe (place-named s (value-of Id es)) (s .deliveries)) named r (delivery-checks s (number UNSUBSCRIBE) es) (λ v. refl) h))
+
+  module _ (a : is SUBSCRIBE n ≡ false) (b : is UNSUBSCRIBE n ≡ false) where
+    pub delivery-label : settles n ≡ true → GivesLabel s (label-named es) named r → GivesDelivery s n es acceptance time r
+    delivery-label t h =
+        let effect-is : delivery-effect s n es ≡ settle-named (label-named es) (s .deliveries) = rw (a, b, t) in
+        then-delivery (rw effect-is (then-alike (label-checks (label-named es) (s .deliveries)) s (settle-named (label-named es) (s .deliveries)) named r (delivery-checks s n es) (λ v. rw (a, t)) h))
+
+    pub delivery-none : settles n ≡ false → r ≡ named → GivesDelivery s n es acceptance time r
+    delivery-none t q =
+        let after-is : heard (with-deliveries (naming-effect s n (named-id n es)) (delivery-effect s n es)) time ≡ heard (naming-effect s n (named-id n es)) time =
+        ap (λ x. heard x time) (ap (with-deliveries (naming-effect s n (named-id n es))) (rw (a, b, t)) ∙ unchanged (named-id n es)) in
+        let passed : (v : List ℕ) → settle (naming-checks s n es ++ delivery-checks s n es) v ≡ settle (naming-checks s n es) v =
+        λ v. settle-append (naming-checks s n es) (delivery-checks s n es) v ∙ ap (then (settle (naming-checks s n es) v)) (rw (a, t)) ∙ then-own (naming-checks s n es) v in
+        subst (λ (x : Session). Gives (naming-checks s n es ++ delivery-checks s n es) acceptance s x r) (sym after-is)
+        (gives-alike (naming-checks s n es) (naming-checks s n es ++ delivery-checks s n es) (sym (passed (acceptance-says acceptance))) (rw (← q) at g))
+      where
+        unchanged : (o : Option (List ℕ)) → with-deliveries (naming-effect s n o) (s .deliveries) ≡ naming-effect s n o
+        unchanged none = refl
+        unchanged (some id) = by (naming n .kind)
+          where
+            by : (k : Kind) → with-deliveries (with-ids k s (used (usage-of n) id (ids-of k s))) (s .deliveries) ≡ with-ids k s (used (usage-of n) id (ids-of k s))
+            by Subscriptions = refl
+            by Transactions = refl
+
+        then-own : (cs : List Check) (v : List ℕ) → then (settle cs v) (accepted v) ≡ settle cs v
+        then-own [] v = refl
+        then-own (c ∷ cs) v = pass (c .fails) (then-own cs v)
+          where
+            pass : (t : Bool) → then (settle cs v) (accepted v) ≡ settle cs v → then (cond t (refused (c .number)) (settle cs v)) (accepted v) ≡ cond t (refused (c .number)) (settle cs v)
+            pass true e = refl
+            pass false e = e
+
+-- the id of an UNSUBSCRIBE, an ACK and a NACK is there
+module _ (n : ℕ) (es : List Entry) (there : lacks-needed n es ≡ false) where
+  pub dropping-has : n ≡ number UNSUBSCRIBE → has Id es ≡ true
+  dropping-has e = not-false (has Id es) (or-false-left (not (has Id es)) false (rw e at there))
+
+  pub settling-has : settles n ≡ true → has Id es ≡ true
+  settling-has = by (is ACK n) (is NACK n) refl refl
+    where
+      named : (m : ℕ) → n ≡ m → lacks-needed m es ≡ (not (has Id es) || false) → has Id es ≡ true
+      named m e q = not-false (has Id es) (or-false-left (not (has Id es)) false (sym q ∙ ap (λ z. lacks-needed z es) (sym e) ∙ there))
+
+      by : (a b : Bool) → is ACK n ≡ a → is NACK n ≡ b → a || b ≡ true → has Id es ≡ true
+      by true b p q h = named (number ACK) (eqb-true n (number ACK) p) refl
+      by false true p q h = named (number NACK) (eqb-true n (number NACK) q) refl
+      by false false p q h = absurd (let z : _≡_ {A = ℕ} 0 1 = cc in omega arith)
+
+-- ---- a delivery that is recorded
+
+module _ {before after : Session} {r : Recording} where
+  pub records-refused : (fails : Bool) (k : ℕ) (cs : List Check) → fails ≡ true → r ≡ unrecorded-by before k → Records (record { fails = fails; number = k } ∷ cs) before after r
+  records-refused fails k cs h e = record { answered = rw (h, e) refl; left = rw (h, e) refl }
+
+  pub records-on : (c : Check) (cs : List Check) → c .fails ≡ false → Records cs before after r → Records (c ∷ cs) before after r
+  records-on c cs h g = record { answered = rw h (g .answered); left = rw h (g .left) }
+
+  pub records-done : r ≡ recorded-as after → Records [] before after r
+  records-done e = record { answered = rw e refl; left = rw e refl }
 
 -- ---- the calls
 
 pub frame-gives : (s : Session) (n : ℕ) (block : List ℕ) (time : ℕ) (r : Outcome)
-    → Gives (frame-checks s n block) (owes-receipt n (listed (entries block))) s (heard (effect s n (listed (entries block))) time) r
+    → Gives (frame-checks s n block) (acceptance-of n (listed (entries block))) s (heard (effect s n (listed (entries block))) time) r
     → (answer-says (r .answer) ≡ frame-answer s n block) × (r .session ≡ frame-session s n block time)
 unfolding frame-answer frame-session
 frame-gives s n block time r g = (g .answered, g .left)
 
-pub heart-beat-gives : (s : Session) (time : ℕ) (r : Outcome) → Gives (heart-beat-checks s) false s (heard s time) r → (answer-says (r .answer) ≡ heart-beat-answer s) × (r .session ≡ heart-beat-session s time)
+pub heart-beat-gives : (s : Session) (time : ℕ) (r : Outcome) → Gives (heart-beat-checks s) no-receipt s (heard s time) r → (answer-says (r .answer) ≡ heart-beat-answer s) × (r .session ≡ heart-beat-session s time)
 unfolding heart-beat-answer heart-beat-session
 heart-beat-gives s time r g = (g .answered, g .left)
 

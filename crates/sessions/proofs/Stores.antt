@@ -12,7 +12,7 @@ use mathlib.Core.List.{List, [], _∷_, _++_, append-assoc}
 use Prim.Native.Nat.{ℕ, zero, suc, _+_, _-_, _*_, _≤_, _<_}
 use native.Mathlib.Nat.{zero-add, zero-mul, suc-mul, sub-zero}
 use native.Mathlib.Omega.{arith}
-use lib.ListN.{length, take, drop, replicate, set, length-append, length-replicate, length-drop, take-append-drop, length-map, replicate-append-replicate}
+use lib.ListN.{length, take, drop, getD, replicate, set, length-append, length-replicate, length-drop, take-append-drop, length-map, replicate-append-replicate}
 use lib.Seq.{length-take-le, take-take, take-add, drop-drop, take-at, drop-at}
 use lib.Dec.{eqb, leb, ltb, leb·zero}
 use borrow.Author.Tests.{leb-true, eqb-true, not-true, not-false, ltb-false, le-leb}
@@ -47,7 +47,7 @@ fits-next {w} {n} {s} {l} {ls} f =
     }
 
 -- a row of zeros
-zeros : (s : List ℕ) → is-zero s ≡ true → s ≡ replicate (length s) 0
+pub zeros : (s : List ℕ) → is-zero s ≡ true → s ≡ replicate (length s) 0
 zeros [] h = refl
 zeros (x ∷ s) h = ap₂ (_∷_) (eqb-true x 0 (and-left (eqb x 0) (is-zero s) h)) (zeros s (and-right (eqb x 0) (is-zero s) h))
 
@@ -76,6 +76,16 @@ padded-take w l s h k z =
     ap (λ m. take l s ++ replicate m 0) (ap (w -_) long ∙ sym rest)
     ∙ ap₂ (_++_) (sym (take-take l w s h)) (sym (zeros (drop l (take w s)) z))
     ∙ take-append-drop l (take w s)
+
+pub place-padded : (w n : ℕ) (s ls : List ℕ) → Fits w n s ls → clean w s ls ≡ true → (i : ℕ) → i < length ls → padded w (getD (ids w s ls) i []) ≡ take w (drop (i * w) s)
+unfolding ids clean
+place-padded w n s [] f c i h = absurd (omega arith)
+place-padded w n s (l ∷ ls) f c zero h =
+    padded-take w l s (fits-first f) (omega (arith, fits-long f)) (and-left (is-zero (drop l (take w s))) (clean w (drop w s) ls) c) ∙ ap (λ k. take w (drop k s)) (sym (zero-mul w))
+place-padded w n s (l ∷ ls) f c (suc i) h =
+    let there : suc i * w ≡ w + i * w = omega (arith, suc-mul i w) in
+    place-padded w (length ls) (drop w s) ls (fits-next f) (and-right (is-zero (drop l (take w s))) (clean w (drop w s) ls) c) i (omega arith)
+    ∙ ap (take w) (drop-drop (i * w) w s ∙ ap (λ k. drop k s) (sym there))
 
 pub laid-ids : (w n : ℕ) (s ls : List ℕ) → Fits w n s ls → clean w s ls ≡ true → laid w (ids w s ls) ≡ s
 unfolding ids laid clean
@@ -113,7 +123,7 @@ put-store w n s (l ∷ ls) f c (suc k) h id =
     (sym (padded-take w l s (fits-first f) (omega (arith, fits-long f)) (and-left (is-zero (drop l (take w s))) (clean w (drop w s) ls) c)))
     (put-store w (length ls) (drop w s) ls (fits-next f) (and-right (is-zero (drop l (take w s))) (clean w (drop w s) ls) c) k (omega arith) id)
 
-lengths-set : (is : List (List ℕ)) (k : ℕ) (id : List ℕ) → lengths (set is k id) ≡ set (lengths is) k (length id)
+pub lengths-set : (is : List (List ℕ)) (k : ℕ) (id : List ℕ) → lengths (set is k id) ≡ set (lengths is) k (length id)
 lengths-set [] k id = refl
 lengths-set (x ∷ is) zero id = refl
 lengths-set (x ∷ is) (suc k) id = ap (length x ∷_) (lengths-set is k id)
@@ -295,13 +305,13 @@ module _ (w : ℕ) (u : Use) (id : List ℕ) (is : List (List ℕ)) (values v : 
   pub use-short : leb (length id) w ≡ true
   use-short = le-leb (length id) w (ltb-false w (length id) (or-false-right (empty id) (ltb w (length id)) (pass .0)))
 
-  use-new : enters u && live id is ≡ false
+  pub use-new : enters u && live id is ≡ false
   use-new = pass .1 .0
 
-  use-live : wants-live u && not (live id is) ≡ false
+  pub use-live : wants-live u && not (live id is) ≡ false
   use-live = pass .1 .1 .0
 
-  use-room : enters u && not (any empty is) ≡ false
+  pub use-room : enters u && not (any empty is) ≡ false
   use-room = pass .1 .1 .1 .0
 
 pub used-distinct : (w : ℕ) (u : Use) (id : List ℕ) (is : List (List ℕ)) (values v : List ℕ) → settle (use-checks w u id is) values ≡ accepted v

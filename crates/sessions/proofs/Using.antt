@@ -1,6 +1,6 @@
 -- Ids used: what a session becomes where an id is refused, kept, entered or freed, over the kind of id. Assumes nothing.
 use mathlib.Core.Path.{_≡_, refl, sym, ap, ap₂, _∙_}
-use mathlib.Core.Bool.{Bool, true}
+use mathlib.Core.Bool.{Bool, true, _&&_}
 use mathlib.Core.List.{List, []}
 use Prim.Native.Nat.{ℕ, _-_, _≤_, _<_}
 use native.Mathlib.Omega.{arith}
@@ -14,7 +14,7 @@ use Rattle.headers.proofs.Rows.{and-left, and-right, or-false-right}
 use Rattle.sessions.specs.Stores.{valid-store, used, use-checks}
 use Rattle.sessions.specs.Values.{heart-beat-max}
 use Rattle.sessions.specs.Sessions.{subscriptions-max, transactions-max, id-max, closed-phase}
-use Rattle.sessions.specs.Sessions.{ids-of, with-stores, with-ids, valid-numbers, valid-ids, is-valid, Sized}
+use Rattle.sessions.specs.Sessions.{ids-of, with-stores, with-ids, valid-numbers, valid-ids, right-deliveries, is-valid, Sized}
 use Rattle.sessions.specs.Places.{Fits, stored, Settles, put-in}
 use Rattle.sessions.specs.Steps.{closed-by, accepted-by, count-of, put-of, GivesUse}
 use Rattle.sessions.specs.declared.store.Use.{Use}
@@ -23,6 +23,7 @@ use Rattle.sessions.specs.declared.store.Settled.{Settled}
 use Rattle.sessions.specs.declared.command.Kind.{Kind}
 use Rattle.sessions.specs.declared.command.Kind.the-variants.{Subscriptions, Transactions}
 use Rattle.sessions.specs.declared.session.Session.{Session}
+use Rattle.sessions.specs.declared.session.Acceptance.{Acceptance}
 use Rattle.sessions.specs.declared.session.Outcome.{Outcome}
 use Rattle.sessions.proofs.Stores.{length-ids, lengths-ids, laid-ids, put-laid, valid-fits, valid-clean}
 use Rattle.sessions.proofs.Checks.{all-pass, all-accepted}
@@ -38,12 +39,16 @@ lens-of Subscriptions s = s .«sub_lens»
 lens-of Transactions s = s .«tx_lens»
 
 module _ (s : Session) (sized : Sized s) (valid : is-valid s ≡ true) where
+  ids-valid : valid-ids s ≡ true
+  unfolding is-valid
+  ids-valid = and-left (valid-ids s) (right-deliveries s) (and-right (valid-numbers s) (valid-ids s && right-deliveries s) valid)
+
   valid-of : (k : Kind) → valid-store id-max (store-of k s) (lens-of k s) ≡ true
   unfolding is-valid
   valid-of Subscriptions =
-      and-left (valid-store id-max (s .subs) (s .«sub_lens»)) (valid-store id-max (s .txs) (s .«tx_lens»)) (and-right (valid-numbers s) (valid-ids s) valid)
+      and-left (valid-store id-max (s .subs) (s .«sub_lens»)) (valid-store id-max (s .txs) (s .«tx_lens»)) ids-valid
   valid-of Transactions =
-      and-right (valid-store id-max (s .subs) (s .«sub_lens»)) (valid-store id-max (s .txs) (s .«tx_lens»)) (and-right (valid-numbers s) (valid-ids s) valid)
+      and-right (valid-store id-max (s .subs) (s .«sub_lens»)) (valid-store id-max (s .txs) (s .«tx_lens»)) ids-valid
 
   pub fits-of : (k : Kind) → Fits id-max (count-of k) (store-of k s) (lens-of k s)
   fits-of Subscriptions = valid-fits id-max (s .subs) (s .«sub_lens») (valid-of Subscriptions) subscriptions-max (sized .sub-lens-long) (sized .subs-long)
@@ -91,25 +96,25 @@ stored-fits w u id is e =
 pub stored-part : (u : Use) (id : List ℕ) (n : ℕ) → n ≡ stored u (length id) → take (n - 0) (drop 0 id) ≡ take (stored u (length id)) id
 stored-part u id n e = rw (sub-zero, e)
 
-module _ (k : Kind) (s : Session) (u : Use) (id : List ℕ) (receipt : Bool) (time : ℕ) (r : Outcome) where
-  pub use-refused : (n : ℕ) → Settles id-max u id (ids-of k s) (Settled.Refused n) → r ≡ closed-by s n → GivesUse k s u id receipt time r
+module _ (k : Kind) (s : Session) (u : Use) (id : List ℕ) (acceptance : Acceptance) (time : ℕ) (r : Outcome) where
+  pub use-refused : (n : ℕ) → Settles id-max u id (ids-of k s) (Settled.Refused n) → r ≡ closed-by s n → GivesUse k s u id acceptance time r
   use-refused n e q =
       gives-refused (use-checks id-max u id (ids-of k s)) n (settle-refused (use-checks id-max u id (ids-of k s)) [] _ n e)
       (settle-closes (use-checks id-max u id (ids-of k s)) [] n refl e) q
 
   module _ (sized : Sized s) (valid : is-valid s ≡ true) where
-    pub use-kept : Settles id-max u id (ids-of k s) Settled.Kept → r ≡ accepted-by s receipt time → GivesUse k s u id receipt time r
+    pub use-kept : Settles id-max u id (ids-of k s) Settled.Kept → r ≡ accepted-by s acceptance time → GivesUse k s u id acceptance time r
     use-kept e q =
         let same : with-ids k s (used u id (ids-of k s)) ≡ s = ap (with-ids k s) (e .1) ∙ same-ids s sized valid k in
-        rw same (gives-accepted (use-checks id-max u id (ids-of k s)) receipt s s time r (all-accepted (use-checks id-max u id (ids-of k s)) _ (all-pass (use-checks id-max u id (ids-of k s)) [] [] (e .0))) q)
+        rw same (gives-accepted (use-checks id-max u id (ids-of k s)) acceptance s s time r (all-accepted (use-checks id-max u id (ids-of k s)) _ (all-pass (use-checks id-max u id (ids-of k s)) [] [] (e .0))) q)
 
     pub use-put : (i : ℕ) (part : List ℕ) → Settles id-max u id (ids-of k s) (Settled.Put i) → part ≡ take (stored u (length id)) id
-        → r ≡ accepted-by (put-of k s i part) receipt time → GivesUse k s u id receipt time r
+        → r ≡ accepted-by (put-of k s i part) acceptance time → GivesUse k s u id acceptance time r
     use-put i part (e, h, f) p q =
         let put : put-of k s i part ≡ with-ids k s (used u id (ids-of k s)) =
         ap (put-of k s i) p ∙ put-ids s sized valid k i (take (stored u (length id)) id) (omega (arith, h, count-ids s sized valid k)) (stored-fits id-max u id (ids-of k s) e) ∙ ap (with-ids k s) (sym f) in
-        gives-accepted (use-checks id-max u id (ids-of k s)) receipt s (with-ids k s (used u id (ids-of k s))) time r
-        (all-accepted (use-checks id-max u id (ids-of k s)) _ (all-pass (use-checks id-max u id (ids-of k s)) [] [] e)) (q ∙ ap (λ z. accepted-by z receipt time) put)
+        gives-accepted (use-checks id-max u id (ids-of k s)) acceptance s (with-ids k s (used u id (ids-of k s))) time r
+        (all-accepted (use-checks id-max u id (ids-of k s)) _ (all-pass (use-checks id-max u id (ids-of k s)) [] [] e)) (q ∙ ap (λ z. accepted-by z acceptance time) put)
 
     -- what putting it asks
     pub put-asked : (i n : ℕ) → Settles id-max u id (ids-of k s) (Settled.Put i) → n ≡ stored u (length id) → (i < count-of k) × (length (take (n - 0) (drop 0 id)) ≤ id-max)
@@ -127,5 +132,5 @@ module _ (s : Session) (i : ℕ) (id store : List ℕ) (m : ℕ) (l : m ≡ leng
 pub small-inbound : (s : Session) → is-valid s ≡ true → s .inbound ≤ heart-beat-max
 unfolding is-valid
 small-inbound s v =
-    let small = and-left _ _ (and-right (leb (s .phase) closed-phase) _ (and-left (valid-numbers s) (valid-ids s) v)) in
+    let small = and-left _ _ (and-right (leb (s .phase) closed-phase) _ (and-left (valid-numbers s) (valid-ids s && right-deliveries s) v)) in
     leb-true _ _ (and-left _ _ (and-right (leb (s .wants) heart-beat-max) _ (and-right (leb (s .sends) heart-beat-max) _ small)))

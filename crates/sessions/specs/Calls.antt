@@ -1,23 +1,28 @@
 -- What each call of a session answers, and the session that it leaves (document 01, "One client's session"): the checks as one
 -- list in their order, and the effect of what is accepted. Assumes nothing.
-use mathlib.Core.Bool.{Bool, false, cond, _&&_, _||_, not}
+use mathlib.Core.Bool.{Bool, true, false, cond, _&&_, _||_, not}
 use mathlib.Core.Option.{Option, none, some}
-use mathlib.Core.List.{List, [], _∷_}
+use mathlib.Core.List.{List, [], _∷_, _++_}
 use Prim.Native.Nat.{ℕ}
 use lib.ListN.{replicate}
-use lib.Dec.{eqb, ltb}
+use lib.Dec.{eqb, leb, ltb}
+use Rattle.headers.specs.Rows.{empty, any, same}
 use Rattle.headers.specs.Block.{Entry, entries, listed}
 use Rattle.headers.specs.Answers.{Answer, accepted, refused, Check, settle, is-block}
-use Rattle.frames.specs.Grammar.{DISCONNECT}
-use Rattle.sessions.specs.Stores.{used, use-checks}
+use Rattle.frames.specs.Grammar.{DISCONNECT, SUBSCRIBE, UNSUBSCRIBE}
+use Rattle.sessions.specs.Stores.{live, used, use-checks, bad-length, first-from}
+use Rattle.sessions.specs.Deliveries.{deliveries-max, label-max, auto-mode, mode-of, is-pending, settle-label, subscribe, unsubscribe, record-label}
 use Rattle.sessions.specs.Values.{HeartBeats, versions, heart-beats, heart-beat-max}
 use Rattle.sessions.specs.Opening.{shared-flags, none-shared, may-offer, interval, overdue}
-use Rattle.sessions.specs.Headers.{value-of, has, is-some, lacks, is, unknown, from-server, opens, needed, names, names-id, naming}
-use Rattle.sessions.specs.Sessions.{id-max, fresh-phase, open-phase, closed-phase, in-phase, fresh, ids-of, with-ids, closed, opened, heard, is-valid}
-use Rattle.sessions.specs.Answers.{bit}
+use Rattle.sessions.specs.Headers.{value-of, has, is-some, lacks, is, unknown, from-server, opens, needed, names, names-id, naming, mode-asked, settles}
+use Rattle.sessions.specs.Sessions.{id-max, fresh-phase, open-phase, closed-phase, in-phase, fresh, ids-of, with-ids, with-deliveries, closed, opened, heard, is-valid}
+use Rattle.sessions.specs.Answers.{bit, acceptance-says}
 use Rattle.sessions.specs.declared.store.Use.{Use}
-use Rattle.sessions.specs.declared.command.Header.the-variants.{AcceptVersion, HeartBeat, Receipt}
+use Rattle.sessions.specs.declared.command.Header.the-variants.{AcceptVersion, HeartBeat, Id, Receipt}
+use Rattle.sessions.specs.declared.command.Kind.the-variants.{Subscriptions}
+use Rattle.sessions.specs.declared.delivery.Deliveries.{Deliveries}
 use Rattle.sessions.specs.declared.session.Session.{Session}
+use Rattle.sessions.specs.declared.session.Acceptance.{Acceptance}
 
 -- "38 and 39 leave the session unchanged; every other number closes it and changes nothing else."
 abbrev pub left-by : Answer → Session → Session → Session
@@ -98,6 +103,23 @@ id-checks s n (some id) = use-checks id-max (usage-of n) id (named-ids s n)
 abbrev pub naming-checks : Session → ℕ → List Entry → List Check
 naming-checks s n es = id-checks s n (named-id n es)
 
+-- ---- the delivery that a frame names or the mode that it asks for
+
+-- the label that an ACK or NACK names
+abbrev pub label-named : List Entry → Option (List ℕ)
+label-named es = value-of Id es
+
+abbrev pub is-no-label : Option (List ℕ) → Deliveries → Bool
+is-no-label none d = false
+is-no-label (some l) d = not (is-pending l d)
+
+-- "49 unknown mode, after 47; 60 the id of ACK or NACK is no outstanding label, after 46"
+abbrev pub delivery-checks : Session → ℕ → List Entry → List Check
+delivery-checks s n es =
+    record { fails = is SUBSCRIBE n && not (is-some (mode-asked es)); number = 49 } ∷
+    record { fails = settles n && is-no-label (label-named es) (s .deliveries); number = 60 } ∷
+    []
+
 -- "43 header missing"
 abbrev pub lacks-needed : ℕ → List Entry → Bool
 lacks-needed n es = lacks (needed n .first) es || lacks (needed n .second) es
@@ -112,7 +134,7 @@ entry-checks s n es =
     record { fails = opens n && not (is-some (client-versions es)); number = 31 } ∷
     record { fails = opens n && none-shared (shared-by s (client-versions es)); number = 32 } ∷
     record { fails = opens n && not (is-some (client-heart-beats es)); number = 33 } ∷
-    naming-checks s n es
+    (naming-checks s n es ++ delivery-checks s n es)
 
 abbrev pub frame-checks : Session → ℕ → List ℕ → List Check
 frame-checks s n block =
@@ -127,20 +149,49 @@ frame-checks s n block =
 abbrev pub owes-receipt : ℕ → List Entry → Bool
 owes-receipt n es = not (opens n) && has Receipt es
 
+-- what an accepted frame is answered with, and an accepted heart-beat
+abbrev pub acceptance-of : ℕ → List Entry → Acceptance
+acceptance-of n es = record { receipt = owes-receipt n es }
+
+abbrev pub no-receipt : Acceptance
+no-receipt = record { receipt = false }
+
 unfoldable pub frame-answer : Session → ℕ → List ℕ → Answer
-frame-answer s n block = settle (frame-checks s n block) (bit (owes-receipt n (listed (entries block))) ∷ [])
+frame-answer s n block = settle (frame-checks s n block) (acceptance-says (acceptance-of n (listed (entries block))))
 
 -- the session with the id entered or freed
 abbrev pub naming-effect : Session → ℕ → Option (List ℕ) → Session
 naming-effect s n none = s
 naming-effect s n (some id) = with-ids (naming n .kind) s (used (usage-of n) id (named-ids s n))
 
+-- the deliveries after it: SUBSCRIBE keeps a mode for the place that it takes, UNSUBSCRIBE drops those of its place, ACK and NACK settle
+abbrev pub place-named : Session → Option (List ℕ) → Option ℕ
+place-named s none = none
+place-named s (some id) = first-from (λ x. same x id) 0 (ids-of Subscriptions s)
+
+abbrev pub free-place : Session → Option ℕ
+free-place s = first-from empty 0 (ids-of Subscriptions s)
+
+abbrev pub mode-or-auto : Option ℕ → ℕ
+mode-or-auto none = auto-mode
+mode-or-auto (some m) = m
+
+abbrev pub settle-named : Option (List ℕ) → Deliveries → Deliveries
+settle-named none d = d
+settle-named (some l) d = settle-label l d
+
+abbrev pub delivery-effect : Session → ℕ → List Entry → Deliveries
+delivery-effect s n es =
+    cond (is SUBSCRIBE n) (subscribe (free-place s) (mode-or-auto (mode-asked es)) (s .deliveries))
+    (cond (is UNSUBSCRIBE n) (unsubscribe (place-named s (value-of Id es)) (s .deliveries))
+    (cond (settles n) (settle-named (label-named es) (s .deliveries)) (s .deliveries)))
+
 -- CONNECT and STOMP open; "DISCONNECT closes, accepted"; the others enter an id, free one, or change none
 abbrev pub effect : Session → ℕ → List Entry → Session
 effect s n es =
     cond (opens n) (opening s es)
     (cond (is DISCONNECT n) (closed s)
-    (naming-effect s n (named-id n es)))
+    (with-deliveries (naming-effect s n (named-id n es)) (delivery-effect s n es)))
 
 -- "Accepted frames and beats set last-heard."
 unfoldable pub frame-session : Session → ℕ → List ℕ → ℕ → Session
@@ -155,7 +206,7 @@ heart-beat-checks s =
     []
 
 unfoldable pub heart-beat-answer : Session → Answer
-heart-beat-answer s = settle (heart-beat-checks s) (0 ∷ [])
+heart-beat-answer s = settle (heart-beat-checks s) (acceptance-says no-receipt)
 
 unfoldable pub heart-beat-session : Session → ℕ → Session
 heart-beat-session s time = left-by (heart-beat-answer s) s (heard s time)
@@ -168,3 +219,30 @@ is-timed-out s time = in-phase open-phase s && overdue (s .inbound) time (s .«l
 
 unfoldable pub timed-out-answer : Session → ℕ → Answer
 timed-out-answer s time = settle (record { fails = not (is-valid s); number = 38 } ∷ []) (bit (is-timed-out s time) ∷ [])
+
+-- ---- recording a delivery: "in order: 38; 63 session not open; 64 subscription not live; 62 label empty, too long or equal to an
+-- outstanding one; 61 all 64 outstanding, never in auto". "A call that records a delivery and is refused leaves the session as it was."
+
+abbrev pub is-auto : Session → Option ℕ → Bool
+is-auto s none = true
+is-auto s (some k) = eqb (mode-of (s .deliveries) k) auto-mode
+
+abbrev pub deliver-checks : Session → List ℕ → List ℕ → List Check
+deliver-checks s id label =
+    record { fails = not (is-valid s); number = 38 } ∷
+    record { fails = not (in-phase open-phase s); number = 63 } ∷
+    record { fails = empty id || not (live id (ids-of Subscriptions s)); number = 64 } ∷
+    record { fails = bad-length label-max label || is-pending label (s .deliveries); number = 62 } ∷
+    record { fails = not (is-auto s (place-named s (some id))) && leb deliveries-max (s .deliveries .count); number = 61 } ∷
+    []
+
+unfoldable pub deliver-answer : Session → List ℕ → List ℕ → Answer
+deliver-answer s id label = settle (deliver-checks s id label) []
+
+abbrev pub recorded-by : Answer → Session → Session → Session
+recorded-by (accepted values) before after = after
+recorded-by (refused k) before after = before
+
+unfoldable pub deliver-session : Session → List ℕ → List ℕ → Session
+deliver-session s id label =
+    recorded-by (deliver-answer s id label) s (with-deliveries s (record-label (place-named s (some id)) label (s .deliveries)))

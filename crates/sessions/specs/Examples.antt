@@ -4,9 +4,9 @@ use mathlib.Core.Path.{_≡_}
 use mathlib.Core.Bool.{Bool, true, false}
 use mathlib.Core.Option.{some}
 use mathlib.Core.List.{List, [], _∷_, _++_, map}
-use Prim.Native.Nat.{ℕ}
+use Prim.Native.Nat.{ℕ, zero, suc, _+_}
 use Prim.Native.String.{String}
-use lib.ListN.{replicate}
+use lib.ListN.{length, replicate}
 use Rattle.headers.specs.Rows.{octets-of}
 use Rattle.headers.specs.Block.{Entry, image}
 use Rattle.headers.specs.Answers.{Answer, accepted, refused}
@@ -14,10 +14,14 @@ use Rattle.frames.specs.Grammar.{Command, number, ABORT, ACK, BEGIN, COMMIT, CO
 use Rattle.frames.specs.Grammar.{MESSAGE, NACK, RECEIPT, SEND, STOMP, SUBSCRIBE, UNSUBSCRIBE}
 use Rattle.sessions.specs.Values.{versions}
 use Rattle.sessions.specs.Opening.{shared-flags, highest, passed}
-use Rattle.sessions.specs.Sessions.{fresh-phase, open-phase, closed-phase, fresh, ids-of, with-ids, with-stores, with-state, heard}
+use Rattle.sessions.specs.Sessions.{fresh-phase, open-phase, closed-phase, fresh, ids-of, with-ids, with-stores, with-state, with-deliveries, heard}
+use Rattle.sessions.specs.Deliveries.{auto-mode, client-mode, individual-mode, Pending, with-pending, with-modes}
+use Rattle.sessions.specs.Accounts.{Delivery, Event, recorded, accounts, with-fate, is-acknowledged, is-refused, is-dropped, pending-in}
+use Rattle.sessions.specs.Held.{held-deliveries}
 use Rattle.sessions.specs.Calls.{made, making-answer, timed-out-answer}
-use Rattle.sessions.specs.Histories.{Call, frame, heart-beat, Event, trace, after}
+use Rattle.sessions.specs.Histories.{Call, frame, heart-beat, deliver, Answered, trace, told, after}
 use Rattle.sessions.specs.declared.command.Kind.the-variants.{Subscriptions, Transactions}
+use Rattle.sessions.specs.declared.delivery.Deliveries.{Deliveries}
 use Rattle.sessions.specs.declared.session.Session.{Session}
 
 -- ---- A row
@@ -27,7 +31,16 @@ pub data Start : Type 0 where
   making : (sends wants : ℕ) (offered : List Bool) (answer : Answer) → Start
   given : Session → Start
 
--- What a session has: its offers, its intervals, its live ids in the order of their places, and the highest version shared.
+-- How many deliveries were made, and what became of them, told from calls and answers.
+pub record Counts : Type 0 where
+  pub made : ℕ
+  pub acknowledged : ℕ
+  pub refused : ℕ
+  pub dropped : ℕ
+  pub pending : ℕ
+
+-- What a session has: its offers, its intervals, its live ids in the order of their places, the highest version shared, and the pending
+-- deliveries, oldest first; with what its calls and answers tell of deliveries.
 pub record State : Type 0 where
   pub sends : ℕ
   pub wants : ℕ
@@ -39,6 +52,8 @@ pub record State : Type 0 where
   pub subscriptions : List (List ℕ)
   pub transactions : List (List ℕ)
   pub highest-shared : ℕ
+  pub pending : List Delivery
+  pub counts : Counts
 
 -- The question whether the peer is timed out, at a time, with its answer.
 pub record Question : Type 0 where
@@ -48,7 +63,7 @@ pub record Question : Type 0 where
 -- A life: how the session begins, the calls on it with their answers, what it has then, and questions that it is then asked.
 pub record Life : Type 0 where
   pub start : Start
-  pub events : List Event
+  pub events : List Answered
   pub left : State
   pub asked : List Question
 
@@ -67,8 +82,17 @@ without-free [] = []
 without-free ([] ∷ ids) = without-free ids
 without-free ((x ∷ xs) ∷ ids) = (x ∷ xs) ∷ without-free ids
 
-abbrev pub state-of : Session → State
-state-of s = record {
+abbrev pub counts-of : List Event → Counts
+counts-of es = record {
+  made = recorded es;
+  acknowledged = length (with-fate is-acknowledged (accounts [] es));
+  refused = length (with-fate is-refused (accounts [] es));
+  dropped = length (with-fate is-dropped (accounts [] es));
+  pending = length (pending-in [] es);
+}
+
+abbrev pub state-of : Session → List Event → State
+state-of s es = record {
   sends = s .sends;
   wants = s .wants;
   offered = s .offered;
@@ -79,10 +103,12 @@ state-of s = record {
   subscriptions = without-free (ids-of Subscriptions s);
   transactions = without-free (ids-of Transactions s);
   highest-shared = highest (s .shared);
+  pending = held-deliveries s;
+  counts = counts-of es;
 }
 
-abbrev pub calls : List Event → List Call
-calls es = map (λ (e : Event). e .call) es
+abbrev pub calls : List Answered → List Call
+calls es = map (λ (e : Answered). e .call) es
 
 abbrev pub asked-of : Session → Question → Question
 asked-of s q = record { time = q .time; answer = timed-out-answer s (q .time) }
@@ -92,7 +118,7 @@ abbrev pub defined : Life → Life
 defined l = record {
   start = started (l .start);
   events = trace (session-of (l .start)) (calls (l .events));
-  left = state-of (after (session-of (l .start)) (calls (l .events)));
+  left = state-of (after (session-of (l .start)) (calls (l .events))) (told (trace (session-of (l .start)) (calls (l .events))));
   asked = map (asked-of (after (session-of (l .start)) (calls (l .events)))) (l .asked);
 }
 
@@ -102,7 +128,7 @@ Holds l = defined l ≡ l
 -- ---- Words for rows
 
 infix 70 _⇒_
-abbrev _⇒_ : Call → Answer → Event
+abbrev _⇒_ : Call → Answer → Answered
 c ⇒ a = record { call = c; answer = a }
 
 -- accepted, and no receipt is owed; accepted, and one is
@@ -132,8 +158,12 @@ v1-2 = false ∷ false ∷ true ∷ []
 abbrev server : Start
 server = making 0 0 v1-2 (accepted [])
 
-abbrev connect : Event
+abbrev connect : Answered
 connect = frame-of CONNECT (entry "accept-version" "1.2" ∷ entry "host" "h" ∷ []) 1 ⇒ ok
+
+-- no delivery was made
+abbrev none-made : Counts
+none-made = record { made = 0; acknowledged = 0; refused = 0; dropped = 0; pending = 0 }
 
 -- that session, in a phase, last heard from at a time, with these live ids
 abbrev having : ℕ → ℕ → List String → List String → State
@@ -148,7 +178,53 @@ having phase time subscriptions transactions = record {
   subscriptions = map octets-of subscriptions;
   transactions = map octets-of transactions;
   highest-shared = 12;
+  pending = [];
+  counts = none-made;
 }
+
+-- a state with these pending deliveries, and with what became of those that were made
+abbrev holding : State → List Delivery → Counts → State
+holding s ds counts = record {
+  sends = s .sends;
+  wants = s .wants;
+  offered = s .offered;
+  phase = s .phase;
+  inbound = s .inbound;
+  outbound = s .outbound;
+  last-heard = s .last-heard;
+  subscriptions = s .subscriptions;
+  transactions = s .transactions;
+  highest-shared = s .highest-shared;
+  pending = ds;
+  counts = counts;
+}
+
+-- made, acknowledged, refused by NACK, dropped, pending
+abbrev counted : ℕ → ℕ → ℕ → ℕ → ℕ → Counts
+counted made acknowledged nacked dropped pending = record {
+  made = made;
+  acknowledged = acknowledged;
+  refused = nacked;
+  dropped = dropped;
+  pending = pending;
+}
+
+-- a SUBSCRIBE that asks for an ack mode; a delivery that is recorded; an ACK and a NACK
+abbrev subscribe-as : String → String → ℕ → Call
+subscribe-as mode id time = frame-of SUBSCRIBE (entry "destination" "/d" ∷ entry "id" id ∷ entry "ack" mode ∷ []) time
+
+abbrev given-to : String → String → Answered
+given-to id label = deliver (octets-of id) (octets-of label) ⇒ accepted []
+
+abbrev ack : String → ℕ → Call
+ack label time = frame-of ACK (entry "id" label ∷ []) time
+
+abbrev nack : String → ℕ → Call
+nack label time = frame-of NACK (entry "id" label ∷ []) time
+
+-- a pending delivery
+abbrev delivery : String → ℕ → String → Delivery
+delivery id mode label = record { subscription = octets-of id; mode = mode; label = octets-of label }
 
 -- the same before it is opened
 abbrev unopened : ℕ → ℕ → State
@@ -163,6 +239,8 @@ unopened phase time = record {
   subscriptions = [];
   transactions = [];
   highest-shared = 0;
+  pending = [];
+  counts = none-made;
 }
 
 -- a frame that is refused with a number as the first, and as one after the session was opened
@@ -191,6 +269,8 @@ offered-with client sends wants inbound outbound = record {
     subscriptions = [];
     transactions = [];
     highest-shared = 12;
+    pending = [];
+    counts = none-made;
   };
   asked = [];
 }
@@ -225,9 +305,11 @@ heard-at phase time = record {
   subscriptions = [];
   transactions = [];
   highest-shared = 12;
+  pending = [];
+  counts = none-made;
 }
 
-abbrev connect-at : ℕ → Event
+abbrev connect-at : ℕ → Answered
 connect-at time = frame-of CONNECT (entry "accept-version" "1.2" ∷ entry "host" "h" ∷ entry "heart-beat" "5,0" ∷ []) time ⇒ ok
 
 unfoldable pub clocks : List Life
@@ -270,6 +352,8 @@ unmade sends wants offered = record {
     subscriptions = [];
     transactions = [];
     highest-shared = 0;
+    pending = [];
+    counts = none-made;
   };
   asked = in-time 100 ∷ [];
 }
@@ -372,32 +456,37 @@ accepted-frames =
           connect ∷
           heart-beat 2 ⇒ ok ∷
           frame-of SUBSCRIBE (entry "destination" "/d" ∷ entry "id" "a" ∷ []) 3 ⇒ ok ∷
-          frame-of SUBSCRIBE (entry "destination" "/d" ∷ entry "id" "b" ∷ []) 4 ⇒ ok ∷
+          subscribe-as "client" "b" 4 ⇒ ok ∷
+          given-to "b" "m" ∷
+          given-to "b" "a" ∷
           frame-of UNSUBSCRIBE (entry "id" "a" ∷ []) 5 ⇒ ok ∷
           frame-of SUBSCRIBE (entry "destination" "/d" ∷ entry "id" "c" ∷ []) 6 ⇒ ok ∷
           frame-of SUBSCRIBE (entry "destination" "/d" ∷ entry "id" "a" ∷ []) 7 ⇒ ok ∷
           frame-of SEND (entry "destination" "/d" ∷ []) 8 ⇒ ok ∷
-          frame-of ACK (entry "id" "" ∷ []) 9 ⇒ ok ∷
-          frame-of NACK (entry "id" "a" ∷ []) 10 ⇒ ok ∷
+          ack "m" 9 ⇒ ok ∷
+          nack "a" 10 ⇒ ok ∷
           [];
-      left = having open-phase 10 ("c" ∷ "b" ∷ "a" ∷ []) [];
+      left = holding (having open-phase 10 ("c" ∷ "b" ∷ "a" ∷ []) []) [] (counted 2 1 1 0 0);
       asked = [];
     } ∷
     record {
       start = server;
       events =
           connect ∷
+          subscribe-as "client-individual" "s" 1 ⇒ ok ∷
+          given-to "s" "l" ∷
+          given-to "s" "m" ∷
           frame-of BEGIN (entry "transaction" "t" ∷ []) 2 ⇒ ok ∷
           frame-of BEGIN (entry "transaction" "u" ∷ []) 3 ⇒ ok ∷
           frame-of SEND (entry "destination" "/d" ∷ entry "transaction" "t" ∷ []) 4 ⇒ ok ∷
           frame-of ACK (entry "id" "m" ∷ entry "transaction" "t" ∷ []) 5 ⇒ ok ∷
-          frame-of NACK (entry "id" "m" ∷ entry "transaction" "u" ∷ []) 6 ⇒ ok ∷
+          frame-of NACK (entry "id" "l" ∷ entry "transaction" "u" ∷ []) 6 ⇒ ok ∷
           frame-of COMMIT (entry "transaction" "t" ∷ []) 7 ⇒ ok ∷
           frame-of BEGIN (entry "transaction" "v" ∷ []) 8 ⇒ ok ∷
           frame-of ABORT (entry "transaction" "u" ∷ []) 9 ⇒ ok ∷
           frame-of BEGIN (entry "transaction" "t" ∷ []) 10 ⇒ ok ∷
           [];
-      left = having open-phase 10 [] ("v" ∷ "t" ∷ []);
+      left = holding (having open-phase 10 ("s" ∷ []) ("v" ∷ "t" ∷ [])) [] (counted 2 1 1 0 0);
       asked = [];
     } ∷
     record {
@@ -410,18 +499,20 @@ accepted-frames =
       start = server;
       events =
           frame-of CONNECT (entry "accept-version" "1.2" ∷ entry "host" "h" ∷ entry "receipt" "r" ∷ []) 1 ⇒ ok ∷
-          frame-of SUBSCRIBE (entry "destination" "/d" ∷ entry "id" "a" ∷ entry "receipt" "r" ∷ []) 2 ⇒ receipt-owed ∷
-          frame-of UNSUBSCRIBE (entry "id" "a" ∷ entry "receipt" "r" ∷ []) 3 ⇒ receipt-owed ∷
-          frame-of SEND (entry "destination" "/d" ∷ entry "receipt" "" ∷ []) 4 ⇒ receipt-owed ∷
-          frame-of ACK (entry "id" "a" ∷ entry "receipt" "r" ∷ []) 5 ⇒ receipt-owed ∷
-          frame-of NACK (entry "id" "a" ∷ entry "receipt" "r" ∷ []) 6 ⇒ receipt-owed ∷
+          frame-of SUBSCRIBE (entry "destination" "/d" ∷ entry "id" "a" ∷ entry "receipt" "r" ∷ entry "ack" "client" ∷ []) 2 ⇒ receipt-owed ∷
+          given-to "a" "a" ∷
+          given-to "a" "b" ∷
+          frame-of SEND (entry "destination" "/d" ∷ entry "receipt" "" ∷ []) 3 ⇒ receipt-owed ∷
+          frame-of ACK (entry "id" "a" ∷ entry "receipt" "r" ∷ []) 4 ⇒ receipt-owed ∷
+          frame-of NACK (entry "id" "b" ∷ entry "receipt" "r" ∷ []) 5 ⇒ receipt-owed ∷
+          frame-of UNSUBSCRIBE (entry "id" "a" ∷ entry "receipt" "r" ∷ []) 6 ⇒ receipt-owed ∷
           frame-of BEGIN (entry "transaction" "t" ∷ entry "receipt" "r" ∷ []) 7 ⇒ receipt-owed ∷
           frame-of COMMIT (entry "transaction" "t" ∷ entry "receipt" "r" ∷ []) 8 ⇒ receipt-owed ∷
           frame-of BEGIN (entry "transaction" "t" ∷ entry "receipt" "r" ∷ []) 9 ⇒ receipt-owed ∷
           frame-of ABORT (entry "transaction" "t" ∷ entry "receipt" "r" ∷ []) 10 ⇒ receipt-owed ∷
           frame-of DISCONNECT (entry "receipt" "r" ∷ []) 11 ⇒ receipt-owed ∷
           [];
-      left = having closed-phase 11 [] [];
+      left = holding (having closed-phase 11 [] []) [] (counted 2 1 1 0 0);
       asked = [];
     } ∷
     record {
@@ -577,7 +668,7 @@ abbrev texts-4 : List String
 texts-4 = "t" ∷ "u" ∷ "v" ∷ "w" ∷ []
 
 -- all calls at time 1, accepted; then one at time 2
-abbrev filled : (String → ℕ → Call) → List String → Call → Answer → List Event
+abbrev filled : (String → ℕ → Call) → List String → Call → Answer → List Answered
 filled enter ids last a = (connect ∷ map (λ id. enter id 1 ⇒ ok) ids) ++ (last ⇒ a ∷ [])
 
 unfoldable pub full-stores : List Life
@@ -645,15 +736,210 @@ abbrev invalid : Session → Life
 invalid s = record {
   start = given s;
   events = heart-beat 1 ⇒ refused 38 ∷ frame 0 [] 1 ⇒ refused 38 ∷ frame-of SEND (entry "destination" "/d" ∷ []) 1 ⇒ refused 38 ∷ [];
-  left = state-of s;
+  left = state-of s [];
   asked = record { time = 1; answer = refused 38 } ∷ [];
 }
 
 abbrev valid : Session → Life
-valid s = record { start = given s; events = heart-beat 1 ⇒ ok ∷ []; left = state-of (heard s 1); asked = in-time 1 ∷ [] }
+valid s = record { start = given s; events = heart-beat 1 ⇒ ok ∷ []; left = state-of (heard s 1) []; asked = in-time 1 ∷ [] }
 
 abbrev valid-closed : Session → Life
-valid-closed s = record { start = given s; events = heart-beat 1 ⇒ refused 40 ∷ []; left = state-of s; asked = in-time 1 ∷ [] }
+valid-closed s = record { start = given s; events = heart-beat 1 ⇒ refused 40 ∷ []; left = state-of s []; asked = in-time 1 ∷ [] }
+
+-- "each subscription's mode from the ack header (auto, client, client-individual; absent means auto)", the first entry of the name;
+-- "49 unknown mode, after 47". An auto delivery is acknowledged at once.
+abbrev subscribed-as : List Entry → List Delivery → Counts → Life
+subscribed-as es ds counts = record {
+  start = server;
+  events = connect ∷ frame-of SUBSCRIBE (entry "destination" "/d" ∷ entry "id" "a" ∷ es) 2 ⇒ ok ∷ given-to "a" "m" ∷ [];
+  left = holding (having open-phase 2 ("a" ∷ []) []) ds counts;
+  asked = [];
+}
+
+abbrev unknown-mode : String → Life
+unknown-mode mode = record { start = server; events = connect ∷ subscribe-as mode "a" 2 ⇒ refused 49 ∷ []; left = having closed-phase 1 [] []; asked = [] }
+
+unfoldable pub modes-asked : List Life
+modes-asked =
+    subscribed-as [] [] (counted 1 1 0 0 0) ∷
+    subscribed-as (entry "ack" "auto" ∷ []) [] (counted 1 1 0 0 0) ∷
+    subscribed-as (entry "ack" "client" ∷ []) (delivery "a" client-mode "m" ∷ []) (counted 1 0 0 0 1) ∷
+    subscribed-as (entry "ack" "client-individual" ∷ []) (delivery "a" individual-mode "m" ∷ []) (counted 1 0 0 0 1) ∷
+    subscribed-as (entry "ack" "client" ∷ entry "ack" "other" ∷ []) (delivery "a" client-mode "m" ∷ []) (counted 1 0 0 0 1) ∷
+    unknown-mode "" ∷
+    unknown-mode "Client" ∷
+    unknown-mode "client-" ∷
+    unknown-mode "individual" ∷
+    then-refused SUBSCRIBE (entry "destination" "/d" ∷ entry "id" "" ∷ entry "ack" "x" ∷ []) 44 ∷
+    record { start = server; events = connect ∷ subscribe-as "auto" "a" 2 ⇒ ok ∷ subscribe-as "x" "a" 3 ⇒ refused 45 ∷ []; left = having closed-phase 2 ("a" ∷ []) []; asked = [] } ∷
+    []
+
+-- "In client mode ACK or NACK settles the named delivery and all earlier outstanding ones of that subscription; in client-individual
+-- only the named one." A label is free again when it is settled; ABORT changes nothing.
+abbrev three-subscribed : List Answered
+three-subscribed = connect ∷ subscribe-as "client" "a" 1 ⇒ ok ∷ subscribe-as "client" "b" 1 ⇒ ok ∷ subscribe-as "client-individual" "c" 1 ⇒ ok ∷ []
+
+abbrev five-given : List Answered
+five-given = three-subscribed ++ (given-to "a" "a1" ∷ given-to "b" "b1" ∷ given-to "a" "a2" ∷ given-to "c" "c1" ∷ given-to "c" "c2" ∷ [])
+
+abbrev of-three : ℕ → List Delivery → Counts → State
+of-three time ds counts = holding (having open-phase time ("a" ∷ "b" ∷ "c" ∷ []) []) ds counts
+
+abbrev after-five : List Answered → State → Life
+after-five events left = record { start = server; events = five-given ++ events; left = left; asked = [] }
+
+unfoldable pub settled-deliveries : List Life
+settled-deliveries =
+    after-five []
+    (of-three 1 (delivery "a" client-mode "a1" ∷ delivery "b" client-mode "b1" ∷ delivery "a" client-mode "a2" ∷ delivery "c" individual-mode "c1" ∷ delivery "c" individual-mode "c2" ∷ [])
+    (counted 5 0 0 0 5)) ∷
+    after-five (ack "a2" 2 ⇒ ok ∷ [])
+    (of-three 2 (delivery "b" client-mode "b1" ∷ delivery "c" individual-mode "c1" ∷ delivery "c" individual-mode "c2" ∷ []) (counted 5 2 0 0 3)) ∷
+    after-five (nack "a2" 2 ⇒ ok ∷ [])
+    (of-three 2 (delivery "b" client-mode "b1" ∷ delivery "c" individual-mode "c1" ∷ delivery "c" individual-mode "c2" ∷ []) (counted 5 0 2 0 3)) ∷
+    after-five (ack "a1" 2 ⇒ ok ∷ nack "c2" 3 ⇒ ok ∷ [])
+    (of-three 3 (delivery "b" client-mode "b1" ∷ delivery "a" client-mode "a2" ∷ delivery "c" individual-mode "c1" ∷ []) (counted 5 1 1 0 3)) ∷
+    after-five (ack "c2" 2 ⇒ ok ∷ given-to "a" "c2" ∷ given-to "b" "b2" ∷ ack "c2" 3 ⇒ ok ∷ [])
+    (of-three 3 (delivery "b" client-mode "b1" ∷ delivery "c" individual-mode "c1" ∷ delivery "b" client-mode "b2" ∷ []) (counted 7 4 0 0 3)) ∷
+    record {
+      start = server;
+      events =
+          connect ∷
+          subscribe-as "client" "a" 1 ⇒ ok ∷
+          given-to "a" "m" ∷
+          frame-of BEGIN (entry "transaction" "t" ∷ []) 2 ⇒ ok ∷
+          frame-of ACK (entry "id" "m" ∷ entry "transaction" "t" ∷ []) 3 ⇒ ok ∷
+          frame-of ABORT (entry "transaction" "t" ∷ []) 4 ⇒ ok ∷
+          [];
+      left = holding (having open-phase 4 ("a" ∷ []) []) [] (counted 1 1 0 0 0);
+      asked = [];
+    } ∷
+    []
+
+-- "60 the id of ACK or NACK is no outstanding label, after 46": also one that is empty or too long, that was settled, or of an auto
+-- delivery. A refusal closes, and "Any close now empties these places".
+abbrev one-given : List Answered
+one-given = connect ∷ subscribe-as "client" "a" 1 ⇒ ok ∷ subscribe-as "auto" "b" 1 ⇒ ok ∷ given-to "a" "m" ∷ given-to "b" "n" ∷ []
+
+abbrev unsettled : Call → ℕ → Life
+unsettled c k = record {
+  start = server;
+  events = one-given ++ (c ⇒ refused k ∷ []);
+  left = holding (having closed-phase 1 ("a" ∷ "b" ∷ []) []) [] (counted 2 1 0 1 0);
+  asked = [];
+}
+
+unfoldable pub not-pending : List Life
+not-pending =
+    unsettled (ack "x" 2) 60 ∷
+    unsettled (nack "x" 2) 60 ∷
+    unsettled (ack "" 2) 60 ∷
+    unsettled (nack "" 2) 60 ∷
+    unsettled (ack longer 2) 60 ∷
+    unsettled (ack "a" 2) 60 ∷
+    unsettled (ack "n" 2) 60 ∷
+    unsettled (nack "n" 2) 60 ∷
+    unsettled (frame-of ACK (entry "id" "x" ∷ entry "transaction" "t" ∷ []) 2) 46 ∷
+    record {
+      start = server;
+      events = one-given ++ (ack "m" 2 ⇒ ok ∷ nack "m" 3 ⇒ refused 60 ∷ []);
+      left = holding (having closed-phase 2 ("a" ∷ "b" ∷ []) []) [] (counted 2 2 0 0 0);
+      asked = [];
+    } ∷
+    []
+
+-- "Recording a delivery, in order: 38; 63 session not open; 64 subscription not live; 62 label empty, too long or equal to an outstanding
+-- one; 61 all 64 outstanding, never in auto." "A call that records a delivery and is refused leaves the session as it was."
+abbrev unrecorded : String → String → ℕ → Life
+unrecorded id label k = record {
+  start = server;
+  events = one-given ++ (deliver (octets-of id) (octets-of label) ⇒ refused k ∷ []);
+  left = holding (having open-phase 1 ("a" ∷ "b" ∷ []) []) (delivery "a" client-mode "m" ∷ []) (counted 2 1 0 0 1);
+  asked = [];
+}
+
+-- labels of one octet, from a number on
+abbrev labels-from : ℕ → ℕ → List Pending
+labels-from zero k = []
+labels-from (suc n) k = record { place = 0; label = k ∷ [] } ∷ labels-from n (suc k)
+
+-- a session with three subscriptions, of modes client, auto and client-individual, and these deliveries
+abbrev three-live : Session
+three-live = with-ids Subscriptions (in-state v1-2 open-phase) (map octets-of ("a" ∷ "b" ∷ "c" ∷ []) ++ replicate 13 [])
+
+abbrev three-modes : List ℕ
+three-modes = (client-mode ∷ auto-mode ∷ individual-mode ∷ []) ++ replicate 13 auto-mode
+
+abbrev many-given : ℕ → Session
+many-given n = with-deliveries three-live (with-pending (with-modes (three-live .deliveries) three-modes) (labels-from n 1))
+
+abbrev all-given : Call → Answer → Life
+all-given c a = record { start = given (many-given 64); events = c ⇒ a ∷ []; left = state-of (many-given 64) (told (c ⇒ a ∷ [])); asked = [] }
+
+unfoldable pub recordings : List Life
+recordings =
+    unrecorded "c" "x" 64 ∷
+    unrecorded "" "x" 64 ∷
+    unrecorded longer "x" 64 ∷
+    unrecorded "c" "" 64 ∷
+    unrecorded "a" "" 62 ∷
+    unrecorded "a" longer 62 ∷
+    unrecorded "a" "m" 62 ∷
+    unrecorded "b" "m" 62 ∷
+    unrecorded "b" "" 62 ∷
+    unrecorded "b" longer 62 ∷
+    record { start = server; events = deliver (octets-of "a") (octets-of "") ⇒ refused 63 ∷ []; left = unopened fresh-phase 0; asked = [] } ∷
+    record {
+      start = server;
+      events = one-given ++ (frame-of DISCONNECT [] 2 ⇒ ok ∷ deliver (octets-of "a") (octets-of "x") ⇒ refused 63 ∷ []);
+      left = holding (having closed-phase 2 ("a" ∷ "b" ∷ []) []) [] (counted 2 1 0 1 0);
+      asked = [];
+    } ∷
+    record {
+      start = server;
+      events = one-given ++ (given-to "a" long ∷ []);
+      left = holding (having open-phase 1 ("a" ∷ "b" ∷ []) []) (delivery "a" client-mode "m" ∷ delivery "a" client-mode long ∷ []) (counted 3 1 0 0 2);
+      asked = [];
+    } ∷
+    []
+
+unfoldable pub all-pending : List Life
+all-pending =
+    all-given (deliver (octets-of "a") (65 ∷ [])) (refused 61) ∷
+    all-given (deliver (octets-of "a") (64 ∷ [])) (refused 62) ∷
+    all-given (deliver (octets-of "b") (65 ∷ [])) (accepted []) ∷
+    []
+
+-- "dropped at UNSUBSCRIBE or close": an UNSUBSCRIBE drops those of its own subscription, and an id that is entered again has its new mode
+unfoldable pub dropped-deliveries : List Life
+dropped-deliveries =
+    record {
+      start = server;
+      events = five-given ++ (frame-of UNSUBSCRIBE (entry "id" "a" ∷ []) 2 ⇒ ok ∷ subscribe-as "client-individual" "a" 3 ⇒ ok ∷ given-to "a" "a1" ∷ []);
+      left = of-three 3
+          (delivery "b" client-mode "b1" ∷ delivery "c" individual-mode "c1" ∷ delivery "c" individual-mode "c2" ∷ delivery "a" individual-mode "a1" ∷ [])
+          (counted 6 0 0 2 4);
+      asked = [];
+    } ∷
+    record {
+      start = server;
+      events = five-given ++ (frame-of DISCONNECT [] 2 ⇒ ok ∷ []);
+      left = holding (having closed-phase 2 ("a" ∷ "b" ∷ "c" ∷ []) []) [] (counted 5 0 0 5 0);
+      asked = [];
+    } ∷
+    record {
+      start = server;
+      events = five-given ++ (frame-of SEND [] 2 ⇒ refused 43 ∷ []);
+      left = holding (having closed-phase 1 ("a" ∷ "b" ∷ "c" ∷ []) []) [] (counted 5 0 0 5 0);
+      asked = [];
+    } ∷
+    record {
+      start = server;
+      events = five-given ++ (frame 0 [] 2 ⇒ refused 39 ∷ heart-beat 3 ⇒ ok ∷ ack "b1" 4 ⇒ ok ∷ []);
+      left = of-three 4 (delivery "a" client-mode "a1" ∷ delivery "a" client-mode "a2" ∷ delivery "c" individual-mode "c1" ∷ delivery "c" individual-mode "c2" ∷ []) (counted 5 1 0 0 4);
+      asked = [];
+    } ∷
+    []
 
 unfoldable pub record-ids : List Life
 record-ids =
@@ -686,6 +972,63 @@ record-numbers =
     valid-closed (in-state (true ∷ true ∷ false ∷ []) closed-phase) ∷
     []
 
+-- "38 grows by a rule for the new fields, ... at least for an unknown mode, more than 64 deliveries, bad or equal labels, and a delivery
+-- of no live subscription or an auto one": also for the mode of a free place, for octets that are not in use, and for deliveries of a
+-- session that is not open. One delivery with a label of this octet and length, in this place; and two with these labels.
+abbrev one-delivery : ℕ → ℕ → ℕ → List ℕ → ℕ → Deliveries
+one-delivery octet len place modes count = record {
+  labels = octet ∷ replicate 2047 0;
+  lens = len ∷ replicate 63 0;
+  places = place ∷ replicate 63 0;
+  modes = modes;
+  count = count;
+}
+
+abbrev two-deliveries : ℕ → ℕ → Deliveries
+two-deliveries a b = record {
+  labels = (a ∷ replicate 31 0) ++ (b ∷ replicate 2015 0);
+  lens = (1 ∷ 1 ∷ []) ++ replicate 62 0;
+  places = (0 ∷ 2 ∷ []) ++ replicate 62 0;
+  modes = three-modes;
+  count = 2;
+}
+
+abbrev three-with : Deliveries → Session
+three-with d = with-deliveries three-live d
+
+abbrev in-phase-with : ℕ → Deliveries → Session
+in-phase-with phase d = with-state (three-with d) 0 0 0 (replicate 3 false) phase
+
+unfoldable pub record-modes : List Life
+record-modes =
+    valid (three-with (one-delivery 0 0 0 three-modes 0)) ∷
+    invalid (three-with (one-delivery 0 0 0 ((3 ∷ 0 ∷ 0 ∷ []) ++ replicate 13 0) 0)) ∷
+    invalid (in-phase-with open-phase (one-delivery 0 0 0 ((0 ∷ 0 ∷ 0 ∷ 1 ∷ []) ++ replicate 12 0) 0)) ∷
+    valid-closed (in-phase-with closed-phase (one-delivery 0 0 0 three-modes 0)) ∷
+    []
+
+unfoldable pub record-labels : List Life
+record-labels =
+    valid (three-with (one-delivery 7 1 0 three-modes 1)) ∷
+    invalid (three-with (one-delivery 7 1 0 three-modes 65)) ∷
+    invalid (three-with (one-delivery 0 0 0 three-modes 1)) ∷
+    invalid (three-with (one-delivery 7 33 0 three-modes 1)) ∷
+    invalid (three-with (one-delivery 7 1 0 three-modes 0)) ∷
+    invalid (three-with (one-delivery 7 0 0 three-modes 0)) ∷
+    invalid (three-with (one-delivery 0 0 2 three-modes 0)) ∷
+    []
+
+unfoldable pub record-places : List Life
+record-places =
+    invalid (three-with (one-delivery 7 1 1 three-modes 1)) ∷
+    invalid (three-with (one-delivery 7 1 3 three-modes 1)) ∷
+    invalid (three-with (one-delivery 7 1 16 three-modes 1)) ∷
+    invalid (in-phase-with fresh-phase (one-delivery 7 1 0 three-modes 1)) ∷
+    invalid (in-phase-with closed-phase (one-delivery 7 1 0 three-modes 1)) ∷
+    valid (three-with (two-deliveries 7 8)) ∷
+    invalid (three-with (two-deliveries 7 7)) ∷
+    []
+
 -- ---- The whole table
 
 abbrev pub lives : List (List Life)
@@ -707,6 +1050,15 @@ lives =
     kept-and-closed ∷
     record-ids ∷
     record-numbers ∷
+    modes-asked ∷
+    settled-deliveries ∷
+    not-pending ∷
+    recordings ∷
+    all-pending ∷
+    dropped-deliveries ∷
+    record-modes ∷
+    record-labels ∷
+    record-places ∷
     []
 
 -- ---- The clock, and what no life shows while a server offers 1.2 alone

@@ -4,15 +4,16 @@ use mathlib.Core.Option.{Option, none, some}
 use mathlib.Core.List.{List, [], _∷_}
 use Prim.Native.Nat.{ℕ}
 use lib.Dec.{eqb}
-use Rattle.headers.specs.Rows.{octets-of}
+use Rattle.headers.specs.Rows.{octets-of, same}
 use Rattle.headers.specs.Block.{Entry, first-value}
 use Rattle.frames.specs.Grammar.{Command, number, ABORT, ACK, BEGIN, COMMIT, CONNECT, CONNECTED, ERROR, MESSAGE, NACK, RECEIPT, SEND, STOMP, SUBSCRIBE, UNSUBSCRIBE}
 use Rattle.frames.specs.Encoding.{command-of}
 use Rattle.sessions.specs.Stores.{enters, wants-live}
+use Rattle.sessions.specs.Deliveries.{auto-mode, client-mode, individual-mode}
 use Rattle.sessions.specs.declared.store.Use.{Use}
 use Rattle.sessions.specs.declared.store.Use.the-variants.{Nothing, Need, Enter, Free}
 use Rattle.sessions.specs.declared.command.Header.{Header}
-use Rattle.sessions.specs.declared.command.Header.the-variants.{Absent, AcceptVersion, HeartBeat, Host, Destination, Id, Transaction, Receipt}
+use Rattle.sessions.specs.declared.command.Header.the-variants.{Absent, AcceptVersion, HeartBeat, Host, Destination, Id, Transaction, Receipt, Ack}
 use Rattle.sessions.specs.declared.command.Kind.{Kind}
 use Rattle.sessions.specs.declared.command.Kind.the-variants.{Subscriptions, Transactions}
 use Rattle.sessions.specs.declared.command.Needed.{Needed}
@@ -28,6 +29,7 @@ name-of Destination = octets-of "destination"
 name-of Id = octets-of "id"
 name-of Transaction = octets-of "transaction"
 name-of Receipt = octets-of "receipt"
+name-of Ack = octets-of "ack"
 
 -- the first value of a header
 abbrev pub value-of : Header → List Entry → Option (List ℕ)
@@ -50,6 +52,7 @@ lacks Destination es = not (has Destination es)
 lacks Id es = not (has Id es)
 lacks Transaction es = not (has Transaction es)
 lacks Receipt es = not (has Receipt es)
+lacks Ack es = not (has Ack es)
 
 -- the command of a number
 abbrev pub is : Command → ℕ → Bool
@@ -106,3 +109,19 @@ naming n =
     (cond (is COMMIT n || is ABORT n) (naming-of Transactions Free)
     (cond (is SEND n || (is ACK n || is NACK n)) (naming-of Transactions Need)
     (naming-of Transactions Nothing)))))
+
+-- The ack mode that a SUBSCRIBE asks for: "from the ack header (auto, client, client-individual; absent means auto)"; none where the
+-- first value of the header is another word, or empty.
+abbrev pub mode-named : Option (List ℕ) → Option ℕ
+mode-named none = some auto-mode
+mode-named (some w) =
+    cond (same w (octets-of "auto")) (some auto-mode)
+    (cond (same w (octets-of "client")) (some client-mode)
+    (cond (same w (octets-of "client-individual")) (some individual-mode) none))
+
+abbrev pub mode-asked : List Entry → Option ℕ
+mode-asked es = mode-named (value-of Ack es)
+
+-- ACK and NACK settle a delivery.
+abbrev pub settles : ℕ → Bool
+settles n = is ACK n || is NACK n

@@ -1,34 +1,40 @@
 -- Histories of calls on one session, and what closes one. Assumes nothing.
 use mathlib.Core.Path.{_≡_}
 use mathlib.Core.Logic.{_≢_}
-use mathlib.Core.Bool.{Bool, true, false, cond, _&&_}
+use mathlib.Core.Bool.{Bool, true, false, cond, _&&_, _||_}
 use mathlib.Core.Option.{Option, none, some}
-use mathlib.Core.List.{List, [], _∷_}
+use mathlib.Core.List.{List, [], _∷_, map}
 use Prim.Native.Nat.{ℕ}
+use lib.Dec.{eqb}
 use Rattle.headers.specs.Rows.{same}
-use Rattle.headers.specs.Block.{entries, listed}
+use Rattle.headers.specs.Block.{Entry, entries, listed}
 use Rattle.headers.specs.Answers.{Answer, accepted, refused}
-use Rattle.frames.specs.Grammar.{number, DISCONNECT}
-use Rattle.sessions.specs.Headers.{naming}
-use Rattle.sessions.specs.Calls.{frame-answer, frame-session, heart-beat-answer, heart-beat-session, named-id}
+use Rattle.frames.specs.Grammar.{number, ACK, DISCONNECT, NACK, SUBSCRIBE, UNSUBSCRIBE}
+use Rattle.sessions.specs.Headers.{value-of, is, naming, mode-asked}
+use Rattle.sessions.specs.Calls.{frame-answer, frame-session, heart-beat-answer, heart-beat-session, named-id, deliver-answer, deliver-session, mode-or-auto}
+use Rattle.sessions.specs.Accounts.{Event, subscribed, unsubscribed, delivered, acked, nacked, closed, nothing}
+use Rattle.sessions.specs.declared.command.Header.the-variants.{Id}
 use Rattle.sessions.specs.declared.store.Use.{Use}
 use Rattle.sessions.specs.declared.store.Use.the-variants.{Nothing, Need, Enter, Free}
 use Rattle.sessions.specs.declared.command.Kind.{Kind}
 use Rattle.sessions.specs.declared.command.Kind.the-variants.{Subscriptions, Transactions}
 use Rattle.sessions.specs.declared.session.Session.{Session}
 
--- A call: a frame's command number, header block and time; or a heart-beat's time
+-- A call: a frame's command number, header block and time; a heart-beat's time; or the subscription's id and the label of a delivery that is recorded
 pub data Call : Type 0 where
   frame : (command : ℕ) (block : List ℕ) (time : ℕ) → Call
   heart-beat : (time : ℕ) → Call
+  deliver : (subscription : List ℕ) (label : List ℕ) → Call
 
 abbrev pub answer-to : Session → Call → Answer
 answer-to s (frame n block time) = frame-answer s n block
 answer-to s (heart-beat time) = heart-beat-answer s
+answer-to s (deliver id label) = deliver-answer s id label
 
 abbrev pub next : Session → Call → Session
 next s (frame n block time) = frame-session s n block time
 next s (heart-beat time) = heart-beat-session s time
+next s (deliver id label) = deliver-session s id label
 
 -- the session after calls, the first of them first
 abbrev pub after : Session → List Call → Session
@@ -64,19 +70,20 @@ abbrev pub live-by : Kind → List ℕ → Bool → Answer → Call → Bool
 live-by k id before a (frame n block time) =
     cond (is-accepted a && named-as k id n (named-id n (listed (entries block)))) (by-use (naming n .usage) before) before
 live-by k id before a (heart-beat time) = before
+live-by k id before a (deliver x label) = before
 
 -- a call and its answer
-pub record Event : Type 0 where
+pub record Answered : Type 0 where
   pub call : Call
   pub answer : Answer
 
 -- the calls of a history, each with its answer
-abbrev pub trace : Session → List Call → List Event
+abbrev pub trace : Session → List Call → List Answered
 trace s [] = []
 trace s (c ∷ cs) = record { call = c; answer = answer-to s c } ∷ trace (next s c) cs
 
--- whether an id is live after these events, by whether it was before them
-abbrev pub live-told : Kind → List ℕ → Bool → List Event → Bool
+-- whether an id is live after these calls and answers, by whether it was before them
+abbrev pub live-told : Kind → List ℕ → Bool → List Answered → Bool
 live-told k id before [] = before
 live-told k id before (e ∷ es) = live-told k id (live-by k id before (e .answer) (e .call)) es
 
@@ -84,8 +91,48 @@ live-told k id before (e ∷ es) = live-told k id (live-by k id before (e .answe
 abbrev pub live-after : Kind → List ℕ → Bool → Session → List Call → Bool
 live-after k id before s cs = live-told k id before (trace s cs)
 
+-- ---- what a call did with deliveries, told from the call and its answer alone
+
+-- the first value of a header, nothing where there is none
+abbrev pub said : Option (List ℕ) → List ℕ
+said none = []
+said (some v) = v
+
+abbrev pub frame-event : ℕ → List Entry → Event
+frame-event n es =
+    cond (is SUBSCRIBE n) (subscribed (said (value-of Id es)) (mode-or-auto (mode-asked es)))
+    (cond (is UNSUBSCRIBE n) (unsubscribed (said (value-of Id es)))
+    (cond (is ACK n) (acked (said (value-of Id es)))
+    (cond (is NACK n) (nacked (said (value-of Id es)))
+    (cond (is DISCONNECT n) closed nothing))))
+
+-- "38 and 39 leave the session unchanged; every other number closes it"
+abbrev pub refusal-event : ℕ → Event
+refusal-event k = cond (eqb k 38 || eqb k 39) nothing closed
+
+abbrev pub event-of : Call → Answer → Event
+event-of (frame n block time) (accepted v) = frame-event n (listed (entries block))
+event-of (frame n block time) (refused k) = refusal-event k
+event-of (heart-beat time) (accepted v) = nothing
+event-of (heart-beat time) (refused k) = refusal-event k
+event-of (deliver id label) (accepted v) = delivered id label
+event-of (deliver id label) (refused k) = nothing
+
+-- the events of calls and answers, and those of the calls on a session with the answers that it gives
+abbrev pub told : List Answered → List Event
+told xs = map (λ (x : Answered). event-of (x .call) (x .answer)) xs
+
+abbrev pub events : Session → List Call → List Event
+events s cs = told (trace s cs)
+
+-- a frame or a heart-beat: a refused delivery closes nothing
+abbrev pub may-close : Call → Bool
+may-close (frame n block time) = true
+may-close (heart-beat time) = true
+may-close (deliver id label) = false
+
 -- What closes a session: "38 and 39 leave the session unchanged; every other number closes it"; "DISCONNECT closes, accepted".
 pub data Closes (s : Session) : Call → Type 0 where
-  by-number : {c : Call} (k : ℕ) → answer-to s c ≡ refused k → k ≢ 38 → k ≢ 39 → Closes s c
+  by-number : {c : Call} (k : ℕ) → may-close c ≡ true → answer-to s c ≡ refused k → k ≢ 38 → k ≢ 39 → Closes s c
   by-disconnect : (block : List ℕ) (time : ℕ) (values : List ℕ) → frame-answer s (number DISCONNECT) block ≡ accepted values
       → Closes s (frame (number DISCONNECT) block time)

@@ -2,12 +2,15 @@
 pub mod Stores
 pub mod Compaction
 pub mod Keys
+pub mod Deliveries
+pub mod Accounts
 pub mod Values
 pub mod Opening
 pub mod Headers
 pub mod Sessions
 pub mod Answers
 pub mod Calls
+pub mod Held
 pub mod Histories
 pub mod Places
 pub mod Reads

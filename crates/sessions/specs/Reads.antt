@@ -12,6 +12,7 @@ use Rattle.sessions.specs.Opening.{flag}
 use Rattle.sessions.specs.Headers.{value-of}
 use Rattle.sessions.specs.declared.value.VersionsRead.{VersionsRead}
 use Rattle.sessions.specs.declared.value.HeartBeatsRead.{HeartBeatsRead}
+use Rattle.sessions.specs.declared.value.ModeRead.{ModeRead}
 use Rattle.sessions.specs.declared.locate.Located.{Located}
 use Rattle.sessions.specs.declared.command.Header.{Header}
 
@@ -28,6 +29,10 @@ versions-say r = cond (r .valid) (some (r .flags)) none
 
 abbrev pub heart-beats-say : HeartBeatsRead → Option HeartBeats
 heart-beats-say r = cond (r .valid) (some (record { sends = r .sends; wants = r .wants })) none
+
+abbrev pub mode-says : ModeRead → Option ℕ
+mode-says (ModeRead.Mode m) = some m
+mode-says ModeRead.Unknown = none
 
 -- where a header's first value stands
 abbrev pub value-at : List ℕ → Located → List ℕ

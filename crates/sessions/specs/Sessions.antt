@@ -6,10 +6,12 @@ use Prim.Native.Nat.{ℕ, _*_}
 use lib.ListN.{length, replicate}
 use lib.Dec.{eqb, leb}
 use Rattle.sessions.specs.Stores.{ids, laid, lengths, valid-store}
+use Rattle.sessions.specs.Deliveries.{deliveries-max, label-max, modes-max, no-deliveries, emptied, valid-deliveries}
 use Rattle.sessions.specs.Values.{heart-beat-max}
 use Rattle.sessions.specs.Opening.{may-offer}
 use Rattle.sessions.specs.declared.command.Kind.{Kind}
 use Rattle.sessions.specs.declared.command.Kind.the-variants.{Subscriptions, Transactions}
+use Rattle.sessions.specs.declared.delivery.Deliveries.{Deliveries}
 use Rattle.sessions.specs.declared.session.Session.{Session}
 
 -- "A session keeps 16 subscription ids and 4 transaction ids of 1 to 32 octets"
@@ -47,6 +49,7 @@ fresh sends wants offered = record {
   txs = replicate (transactions-max * id-max) 0;
   «sub_lens» = replicate subscriptions-max 0;
   «tx_lens» = replicate transactions-max 0;
+  deliveries = no-deliveries;
   offered = offered;
   shared = replicate 3 false;
   phase = fresh-phase;
@@ -68,6 +71,7 @@ with-stores s subs sub-lens txs tx-lens = record {
   txs = txs;
   «sub_lens» = sub-lens;
   «tx_lens» = tx-lens;
+  deliveries = s .deliveries;
   offered = s .offered;
   shared = s .shared;
   phase = s .phase;
@@ -89,6 +93,7 @@ with-state s inbound outbound last-heard shared phase = record {
   txs = s .txs;
   «sub_lens» = s .«sub_lens»;
   «tx_lens» = s .«tx_lens»;
+  deliveries = s .deliveries;
   offered = s .offered;
   shared = shared;
   phase = phase;
@@ -98,8 +103,27 @@ with-state s inbound outbound last-heard shared phase = record {
 abbrev pub with-phase : Session → ℕ → Session
 with-phase s p = with-state s (s .inbound) (s .outbound) (s .«last_heard») (s .shared) p
 
+-- with other deliveries
+abbrev pub with-deliveries : Session → Deliveries → Session
+with-deliveries s d = record {
+  sends = s .sends;
+  wants = s .wants;
+  inbound = s .inbound;
+  outbound = s .outbound;
+  «last_heard» = s .«last_heard»;
+  subs = s .subs;
+  txs = s .txs;
+  «sub_lens» = s .«sub_lens»;
+  «tx_lens» = s .«tx_lens»;
+  deliveries = d;
+  offered = s .offered;
+  shared = s .shared;
+  phase = s .phase;
+}
+
+-- "Any close now empties these places."
 abbrev pub closed : Session → Session
-closed s = with-phase s closed-phase
+closed s = with-deliveries (with-phase s closed-phase) (emptied (s .deliveries))
 
 abbrev pub opened : Session → List Bool → ℕ → ℕ → Session
 opened s shared inbound outbound = with-state s inbound outbound (s .«last_heard») shared open-phase
@@ -122,8 +146,12 @@ valid-numbers s = leb (s .phase) closed-phase && (small-numbers s && right-flags
 abbrev pub valid-ids : Session → Bool
 valid-ids s = valid-store id-max (s .subs) (s .«sub_lens») && valid-store id-max (s .txs) (s .«tx_lens»)
 
+-- no deliveries are pending but in an open session
+abbrev pub right-deliveries : Session → Bool
+right-deliveries s = valid-deliveries (s .«sub_lens») (s .deliveries) && (in-phase open-phase s || eqb (s .deliveries .count) 0)
+
 unfoldable pub is-valid : Session → Bool
-is-valid s = valid-numbers s && valid-ids s
+is-valid s = valid-numbers s && (valid-ids s && right-deliveries s)
 
 -- the sizes that the arrays of every record have
 pub record Sized (s : Session) : Type 0 where
@@ -131,3 +159,9 @@ pub record Sized (s : Session) : Type 0 where
   pub sub-lens-long : length (s .«sub_lens») ≡ subscriptions-max
   pub txs-long : length (s .txs) ≡ transactions-max * id-max
   pub tx-lens-long : length (s .«tx_lens») ≡ transactions-max
+
+pub record SizedDeliveries (d : Deliveries) : Type 0 where
+  pub labels-long : length (d .labels) ≡ deliveries-max * label-max
+  pub lens-long : length (d .lens) ≡ deliveries-max
+  pub places-long : length (d .places) ≡ deliveries-max
+  pub modes-long : length (d .modes) ≡ modes-max

@@ -1,26 +1,34 @@
 -- What the parts of a session's calls give, in the code's types: the checks of Calls group by group. That they come to Calls' answers
 -- and sessions is proofs/Steps.antt. Assumes nothing.
 use mathlib.Core.Path.{_≡_}
-use mathlib.Core.Bool.{Bool, false, cond, not}
-use mathlib.Core.List.{List, [], _∷_}
-use Prim.Native.Nat.{ℕ}
+use mathlib.Core.Bool.{true, false, cond, _&&_, _||_, not}
+use mathlib.Core.Option.{Option, none, some}
+use mathlib.Core.List.{List, [], _∷_, _++_}
+use Prim.Native.Nat.{ℕ, _≤_, _<_}
 use lib.ListN.{length, set}
-use lib.Dec.{eqb}
+use lib.Dec.{eqb, leb}
+use Rattle.headers.specs.Rows.{empty}
 use Rattle.headers.specs.Block.{Entry}
 use Rattle.headers.specs.Answers.{Check, settle}
-use Rattle.sessions.specs.Stores.{used, use-checks}
+use Rattle.sessions.specs.Stores.{used, use-checks, bad-length}
+use Rattle.sessions.specs.Deliveries.{deliveries-max, label-max, auto-mode, mode-of, is-pending, subscribe, unsubscribe, record-label}
 use Rattle.sessions.specs.Opening.{none-shared}
-use Rattle.sessions.specs.Headers.{is-some, from-server, opens}
-use Rattle.sessions.specs.Sessions.{subscriptions-max, transactions-max, id-max, fresh-phase, open-phase, closed-phase, ids-of, with-ids, with-stores, closed, heard}
-use Rattle.sessions.specs.Answers.{bit, answer-says}
-use Rattle.sessions.specs.Calls.{left-by, shared-by, client-versions, client-heart-beats, opening, named-id, naming-effect, naming-checks, entry-checks, owes-receipt, effect}
+use Rattle.sessions.specs.Headers.{is-some, from-server, opens, mode-asked, value-of}
+use Rattle.sessions.specs.Sessions.{subscriptions-max, transactions-max, id-max, fresh-phase, open-phase, closed-phase, ids-of, with-ids, with-stores, with-deliveries, closed, heard, is-valid}
+use Rattle.sessions.specs.Answers.{acceptance-says, answer-says, delivery-says}
+use Rattle.sessions.specs.Calls.{left-by, shared-by, client-versions, client-heart-beats, opening, named-id, naming-effect, naming-checks, delivery-checks, delivery-effect, entry-checks, acceptance-of, effect, is-no-label, free-place, place-named, mode-or-auto, settle-named, recorded-by}
 use Rattle.sessions.specs.Places.{put-in}
 use Rattle.sessions.specs.declared.store.Use.{Use}
+use Rattle.sessions.specs.declared.command.Header.the-variants.{Id}
 use Rattle.sessions.specs.declared.command.Kind.{Kind}
 use Rattle.sessions.specs.declared.command.Kind.the-variants.{Subscriptions, Transactions}
 use Rattle.sessions.specs.declared.session.Session.{Session}
 use Rattle.sessions.specs.declared.session.SessionAnswer.{SessionAnswer}
+use Rattle.sessions.specs.declared.session.Acceptance.{Acceptance}
 use Rattle.sessions.specs.declared.session.Outcome.{Outcome}
+use Rattle.sessions.specs.declared.session.Recording.{Recording}
+use Rattle.sessions.specs.declared.session.DeliveryAnswer.{DeliveryAnswer}
+use Rattle.sessions.specs.declared.delivery.Deliveries.{Deliveries}
 
 -- refused, the session as it was; refused, the session closed; accepted
 abbrev pub kept-by : Session → ℕ → Outcome
@@ -29,13 +37,13 @@ kept-by s k = record { session = s; answer = SessionAnswer.Refused k }
 abbrev pub closed-by : Session → ℕ → Outcome
 closed-by s k = record { session = closed s; answer = SessionAnswer.Refused k }
 
-abbrev pub accepted-by : Session → Bool → ℕ → Outcome
-accepted-by s receipt time = record { session = heard s time; answer = SessionAnswer.Accepted (record { receipt = receipt }) }
+abbrev pub accepted-by : Session → Acceptance → ℕ → Outcome
+accepted-by s acceptance time = record { session = heard s time; answer = SessionAnswer.Accepted acceptance }
 
--- what a call gives by its checks, where it accepts with a receipt or none and leaves another session
-pub record Gives (checks : List Check) (receipt : Bool) (before after : Session) (r : Outcome) : Type 0 where
-  pub answered : answer-says (r .answer) ≡ settle checks (bit receipt ∷ [])
-  pub left : r .session ≡ left-by (settle checks (bit receipt ∷ [])) before after
+-- what a call gives by its checks, with what it says where it accepts and the session that it leaves then
+pub record Gives (checks : List Check) (acceptance : Acceptance) (before after : Session) (r : Outcome) : Type 0 where
+  pub answered : answer-says (r .answer) ≡ settle checks (acceptance-says acceptance)
+  pub left : r .session ≡ left-by (settle checks (acceptance-says acceptance)) before after
 
 -- 40, 41 and 42, or 0
 abbrev pub phase-number : ℕ → ℕ → ℕ
@@ -54,8 +62,8 @@ put-of Subscriptions s k id = with-stores s (put-in id-max (s .subs) k id) (set 
 put-of Transactions s k id = with-stores s (s .subs) (s .«sub_lens») (put-in id-max (s .txs) k id) (set (s .«tx_lens») k (length id))
 
 -- an id of a kind used
-abbrev pub GivesUse : Kind → Session → Use → List ℕ → Bool → ℕ → Outcome → Type 0
-GivesUse k s u id receipt time r = Gives (use-checks id-max u id (ids-of k s)) receipt s (heard (with-ids k s (used u id (ids-of k s))) time) r
+abbrev pub GivesUse : Kind → Session → Use → List ℕ → Acceptance → ℕ → Outcome → Type 0
+GivesUse k s u id acceptance time r = Gives (use-checks id-max u id (ids-of k s)) acceptance s (heard (with-ids k s (used u id (ids-of k s))) time) r
 
 -- the opening frame: 31, 32, 33
 abbrev pub opening-checks : Session → List Entry → List Check
@@ -65,13 +73,82 @@ opening-checks s es =
     record { fails = not (is-some (client-heart-beats es)); number = 33 } ∷
     []
 
-abbrev pub GivesOpening : Session → List Entry → ℕ → Outcome → Type 0
-GivesOpening s es time r = Gives (opening-checks s es) false s (heard (opening s es) time) r
+abbrev pub GivesOpening : Session → List Entry → Acceptance → ℕ → Outcome → Type 0
+GivesOpening s es acceptance time r = Gives (opening-checks s es) acceptance s (heard (opening s es) time) r
 
 -- the id that a frame names: 44 to 47
-abbrev pub GivesNaming : Session → ℕ → List Entry → Bool → ℕ → Outcome → Type 0
-GivesNaming s n es receipt time r = Gives (naming-checks s n es) receipt s (heard (naming-effect s n (named-id n es)) time) r
+abbrev pub GivesNaming : Session → ℕ → List Entry → Acceptance → ℕ → Outcome → Type 0
+GivesNaming s n es acceptance time r = Gives (naming-checks s n es) acceptance s (heard (naming-effect s n (named-id n es)) time) r
+
+-- and the delivery that it names or the mode that it asks for: 49 and 60
+abbrev pub GivesDelivery : Session → ℕ → List Entry → Acceptance → ℕ → Outcome → Type 0
+GivesDelivery s n es acceptance time r =
+    Gives (naming-checks s n es ++ delivery-checks s n es) acceptance s (heard (with-deliveries (naming-effect s n (named-id n es)) (delivery-effect s n es)) time) r
 
 -- all that depends on the entries: from 43 on
 abbrev pub GivesEntries : Session → ℕ → List Entry → ℕ → Outcome → Type 0
-GivesEntries s n es time r = Gives (entry-checks s n es) (owes-receipt n es) s (heard (effect s n es) time) r
+GivesEntries s n es time r = Gives (entry-checks s n es) (acceptance-of n es) s (heard (effect s n es) time) r
+
+-- ---- deliveries
+
+-- what is given where an outcome was: a refusal stays; what was accepted passes further checks, and its session gets other deliveries
+abbrev pub after-answer : SessionAnswer → List Check → Session → Deliveries → Outcome → Outcome → Type 0
+after-answer (SessionAnswer.Refused k) checks before d named r = r ≡ named
+after-answer (SessionAnswer.Accepted acceptance) checks before d named r = Gives checks acceptance before (with-deliveries (named .session) d) r
+
+abbrev pub GivesThen : List Check → Session → Deliveries → Outcome → Outcome → Type 0
+GivesThen checks before d named r = after-answer (named .answer) checks before d named r
+
+-- an outcome with other deliveries
+abbrev pub outcome-with : Outcome → Deliveries → Outcome
+outcome-with r d = record { session = with-deliveries (r .session) d; answer = r .answer }
+
+-- 49 of the ack mode that a SUBSCRIBE asks for, 60 of the label that an ACK or NACK names
+abbrev pub mode-checks : List Entry → List Check
+mode-checks es = record { fails = not (is-some (mode-asked es)); number = 49 } ∷ []
+
+abbrev pub label-checks : Option (List ℕ) → Deliveries → List Check
+label-checks o d = record { fails = is-no-label o d; number = 60 } ∷ []
+
+-- a SUBSCRIBE, an UNSUBSCRIBE, and an ACK or NACK, after the id that each names was settled
+abbrev pub GivesMode : Session → List Entry → Outcome → Outcome → Type 0
+GivesMode s es named r = GivesThen (mode-checks es) s (subscribe (free-place s) (mode-or-auto (mode-asked es)) (s .deliveries)) named r
+
+abbrev pub GivesDropped : Session → List Entry → Outcome → Outcome → Type 0
+GivesDropped s es named r = GivesThen [] s (unsubscribe (place-named s (value-of Id es)) (s .deliveries)) named r
+
+abbrev pub GivesLabel : Session → Option (List ℕ) → Outcome → Outcome → Type 0
+GivesLabel s o named r = GivesThen (label-checks o (s .deliveries)) s (settle-named o (s .deliveries)) named r
+
+-- a delivery that is recorded, by its checks and the session that it leaves where it is accepted
+pub record Records (checks : List Check) (before after : Session) (r : Recording) : Type 0 where
+  pub answered : delivery-says (r .answer) ≡ settle checks []
+  pub left : r .session ≡ recorded-by (settle checks []) before after
+
+-- refused, the session as it was; recorded
+abbrev pub unrecorded-by : Session → ℕ → Recording
+unrecorded-by s k = record { session = s; answer = DeliveryAnswer.Refused k }
+
+abbrev pub recorded-as : Session → Recording
+recorded-as s = record { session = s; answer = DeliveryAnswer.Recorded }
+
+-- the place of a subscription that may be delivered to
+abbrev pub subscription-at : Session → List ℕ → Option ℕ
+subscription-at s id = cond (empty id) none (place-named s (some id))
+
+-- 62 and 61, of a delivery to the subscription in a place
+abbrev pub recording-checks : Session → ℕ → List ℕ → List Check
+recording-checks s k label =
+    record { fails = bad-length label-max label || is-pending label (s .deliveries); number = 62 } ∷
+    record { fails = not (eqb (mode-of (s .deliveries) k) auto-mode) && leb deliveries-max (s .deliveries .count); number = 61 } ∷
+    []
+
+abbrev pub RecordsAt : Session → ℕ → List ℕ → Recording → Type 0
+RecordsAt s k label r = Records (recording-checks s k label) s (with-deliveries s (record-label (some k) label (s .deliveries))) r
+
+-- what recording relies on: a valid session, a place, a label that fits, and room where the mode is not auto
+pub record MayRecord (s : Session) (k : ℕ) (label : List ℕ) : Type 0 where
+  pub valid : is-valid s ≡ true
+  pub place : k < subscriptions-max
+  pub fits : length label ≤ label-max
+  pub room : eqb (mode-of (s .deliveries) k) auto-mode ≡ false → s .deliveries .count < deliveries-max

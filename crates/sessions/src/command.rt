@@ -1,6 +1,6 @@
 // Which headers a command needs, what it does with an id, and in which phase it may come.
 ghost use mathlib.Core.Path.{_≡_};
-ghost use Rattle.sessions.specs.Headers.{unknown, from-server, opens as opens-by, one as one-header, needed as needed-names, names, naming-of, naming as naming-by, names-id};
+ghost use Rattle.sessions.specs.Headers.{unknown, from-server, opens as opens-by, settles as settles-by, one as one-header, needed as needed-names, names, naming-of, naming as naming-by, names-id};
 ghost use Rattle.sessions.specs.Steps.{phase-number};
 use crate::commands;
 use crate::refusals;
@@ -24,6 +24,7 @@ pub(crate) enum Header {
     Id,
     Transaction,
     Receipt,
+    Ack,
 }
 
 // The kinds of ids.
@@ -58,6 +59,13 @@ pub(crate) fn opens(command: u32) -> bool
     ensures { λ r. ⌜ r ≡ opens-by command ⌝ }
 {
     (command == commands::CONNECT) | (command == commands::STOMP)
+}
+
+// Whether the command settles a delivery.
+pub(crate) fn settles(command: u32) -> bool
+    ensures { λ r. ⌜ r ≡ settles-by command ⌝ }
+{
+    (command == commands::ACK) | (command == commands::NACK)
 }
 
 pub(crate) fn needed_by(command: u32) -> Needed

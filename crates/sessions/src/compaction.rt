@@ -14,7 +14,7 @@ pub(crate) struct Range {
 }
 
 // Octets at the front of others.
-fn copy_front(d: &mut [u8], s: &[u8])
+pub(crate) fn copy_front(d: &mut [u8], s: &[u8])
     requires { ⌜ length (now s) ≤ length (now d) ⌝ }
     ensures { λ _. ⌜ now (d .exit) ≡ now (s .entry) ++ drop (length (now (s .entry))) (now (d .entry)) ⌝ }
 {

@@ -2,7 +2,8 @@
 mod compaction; // rows that stay, moved together
 mod keys; // numbers for places, to tell most of them apart
 mod store; // ids in a flat store
-mod value; // header values with parts: accept-version and heart-beat
+pub mod delivery; // ack modes and is-pending deliveries
+mod value; // header values: accept-version, heart-beat and ack
 mod clock; // time passed
 pub mod commands; // their numbers
 pub mod refusals; // the numbers that a session refuses with

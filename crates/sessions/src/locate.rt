@@ -1,13 +1,16 @@
-// Where a header's first value stands in a header block.
+// Where a header's first value is in a header block, and what the headers say.
 ghost use mathlib.Core.Path.{_≡_};
 ghost use mathlib.Core.Bool.{true};
 ghost use Rattle.headers.specs.Block.{entries, listed};
 ghost use Rattle.headers.specs.Answers.{found-says, find-answer, is-block};
-ghost use Rattle.sessions.specs.Headers.{name-of, has as has-header, lacks as lacks-header};
-ghost use Rattle.sessions.specs.Calls.{lacks-needed, client-versions, client-heart-beats};
-ghost use Rattle.sessions.specs.Reads.{Locates, versions-say, heart-beats-say};
+ghost use Rattle.sessions.specs.Headers.{name-of, has as has-header, lacks as lacks-header, mode-asked};
+ghost use Rattle.sessions.specs.Calls.{lacks-needed, client-versions, client-heart-beats, acceptance-of};
+ghost use Rattle.sessions.specs.Reads.{Locates, versions-say, heart-beats-say, mode-says};
 use crate::command::Header;
+use crate::delivery::Deliveries;
+use crate::session::Acceptance;
 use crate::value::HeartBeatsRead;
+use crate::value::ModeRead;
 use crate::value::VersionsRead;
 use headers::Found;
 
@@ -30,6 +33,7 @@ fn find(block: &[u8], header: Header) -> Found
         Header::Id => headers::find(block, b"id"),
         Header::Transaction => headers::find(block, b"transaction"),
         Header::Receipt => headers::find(block, b"receipt"),
+        Header::Ack => headers::find(block, b"ack"),
     }
 }
 
@@ -118,4 +122,31 @@ pub(crate) fn client_heart_beats(block: &[u8]) -> HeartBeatsRead
     let start = l.start;
     let end = l.end;
     crate::value::read_heart_beats(&block[start..end])
+}
+
+// The ack mode that a SUBSCRIBE asks for; auto where it does not say.
+pub(crate) fn mode_asked(block: &[u8]) -> ModeRead
+    requires { ⌜ is-block (now block) ≡ true ⌝ }
+    ensures { λ r. ⌜ mode-says r ≡ mode-asked (listed (entries (now (block .entry)))) ⌝ }
+{
+    let l = locate(block, Header::Ack);
+    if !l.present {
+        return ModeRead::Mode(Deliveries::AUTO);
+    }
+    let start = l.start;
+    let end = l.end;
+    crate::value::read_mode(&block[start..end])
+}
+
+// What an accepted frame is answered with.
+pub(crate) fn acceptance(command: u32, block: &[u8]) -> Acceptance
+    requires { ⌜ is-block (now block) ≡ true ⌝ }
+    ensures { λ r. ⌜ r ≡ acceptance-of command (listed (entries (now (block .entry)))) ⌝ }
+{
+    if crate::command::opens(command) {
+        return Acceptance { receipt: false };
+    }
+    Acceptance {
+        receipt: has(block, Header::Receipt),
+    }
 }

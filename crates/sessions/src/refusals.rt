@@ -26,3 +26,15 @@ pub const LIVE: u32 = 45; // an id that is to be new is live
 pub const NOT_LIVE: u32 = 46; // an id that is to be live is not
 
 pub const FULL: u32 = 47; // no place is free
+
+pub const UNKNOWN_MODE: u32 = 49; // an ack mode is unknown
+
+pub const NOT_PENDING: u32 = 60; // the id of an ACK or NACK is no pending label
+
+pub const ALL_PENDING: u32 = 61; // no delivery more can be pending
+
+pub const BAD_LABEL: u32 = 62; // a label is empty, too long, or pending already
+
+pub const NOT_OPEN: u32 = 63; // a delivery is recorded where the session is not open
+
+pub const NO_SUBSCRIPTION: u32 = 64; // a delivery is recorded for a subscription that is not live

@@ -1,25 +1,35 @@
 // One client's session, as a value.
 ghost use mathlib.Core.Path.{_≡_};
 ghost use mathlib.Core.Bool.{true};
+ghost use mathlib.Core.Option.{some};
 ghost use Prim.Native.Nat.{_≤_, _<_};
 ghost use lib.ListN.{length};
 ghost use Rattle.headers.specs.Block.{entries, listed};
 ghost use Rattle.headers.specs.Answers.{is-block};
 ghost use Rattle.sessions.specs.Opening.{highest, interval};
-ghost use Rattle.sessions.specs.Sessions.{id-max, fresh, ids-of, closed, opened, valid-numbers, valid-ids, is-valid};
-ghost use Rattle.sessions.specs.Answers.{answer-says, making-says, timed-out-says};
-ghost use Rattle.sessions.specs.Calls.{making-answer, made, frame-answer, frame-session, heart-beat-answer, heart-beat-session, timed-out-answer};
-ghost use Rattle.sessions.specs.Places.{Settles};
-ghost use Rattle.sessions.specs.Steps.{kept-by, closed-by, accepted-by, count-of, put-of, GivesUse, GivesOpening, GivesNaming, GivesEntries};
+ghost use Rattle.sessions.specs.Sessions.{id-max, subscriptions-max, fresh, ids-of, closed, opened, valid-numbers, valid-ids, right-deliveries, is-valid, with-deliveries};
+ghost use Rattle.sessions.specs.Answers.{answer-says, making-says, timed-out-says, delivery-says};
+ghost use Rattle.sessions.specs.Headers.{has};
+ghost use Rattle.sessions.specs.Calls.{making-answer, made, frame-answer, frame-session, heart-beat-answer, heart-beat-session};
+ghost use Rattle.sessions.specs.Calls.{timed-out-answer, deliver-answer, deliver-session, free-place, place-named, label-named};
+ghost use Rattle.sessions.specs.Deliveries.{subscribe, unsubscribe, record-label};
+ghost use Rattle.sessions.specs.Held.{held-deliveries, nth, nothing-told, told-of, pending-answer};
+ghost use Rattle.sessions.specs.Places.{Settles, search-says};
+ghost use Rattle.sessions.specs.Steps.{kept-by, closed-by, accepted-by, count-of, put-of, outcome-with, unrecorded-by, recorded-as};
+ghost use Rattle.sessions.specs.Steps.{GivesUse, GivesOpening, GivesNaming, GivesEntries, GivesMode, GivesDropped, GivesLabel, RecordsAt, MayRecord};
+ghost use Rattle.sessions.specs.declared.command.Header.the-variants.{Id};
 use crate::command::Header;
 use crate::command::Kind;
 use crate::command::Naming;
 use crate::commands;
+use crate::delivery::Deliveries;
 use crate::refusals;
+use crate::store::Search;
 use crate::store::Settled;
 use crate::store::Use;
 use crate::value::HEART_BEAT_MAX;
 use crate::value::HeartBeatsRead;
+use crate::value::ModeRead;
 
 // The record of a session. The phase is 0 fresh, 1 open, 2 closed. The server's offers: it can send heart-beats every so many
 // milliseconds, and wants to hear one every so many. Inbound is the interval from client to server. Versions are flags for 1.0, 1.1
@@ -37,6 +47,7 @@ pub struct Session {
     pub offered: [bool; 3],
     pub shared: [bool; 3],
     pub phase: u8,
+    pub deliveries: Deliveries,
 }
 
 // What an accepted answer says: whether a receipt is owed.
@@ -56,6 +67,36 @@ pub struct Outcome {
     pub answer: SessionAnswer,
 }
 
+// The answer to recording a delivery: recorded, or refused with a number.
+pub enum DeliveryAnswer {
+    Recorded,
+    Refused(u32),
+}
+
+// A session after a delivery was recorded or refused, and the answer.
+pub struct Recording {
+    pub session: Session,
+    pub answer: DeliveryAnswer,
+}
+
+// Whether a session holds the pending delivery asked for; of an invalid record (38) nobody can say.
+pub enum PendingAnswer {
+    Held,
+    Absent,
+    Invalid,
+}
+
+// A pending delivery: the id of its subscription with its length, the ack mode of that, and its label with its length. All is 0 where
+// none is held.
+pub struct PendingAt {
+    pub answer: PendingAnswer,
+    pub subscription: [u8; Session::ID],
+    pub subscription_len: u8,
+    pub mode: u8,
+    pub label: [u8; Session::ID],
+    pub label_len: u8,
+}
+
 // The answer to making a session: made, or refused (34).
 pub enum MakingAnswer {
     Made,
@@ -73,6 +114,32 @@ pub enum TimedOut {
     Yes,
     No,
     Invalid,
+}
+
+impl Outcome {
+    // With other deliveries.
+    fn with_deliveries(self, deliveries: Deliveries) -> Outcome
+        ensures { λ r. ⌜ r ≡ outcome-with self deliveries ⌝ }
+    {
+        let answer = self.answer;
+        let mut session = self.session;
+        session.deliveries = deliveries;
+        Outcome { session, answer }
+    }
+}
+
+// Nothing is told of a pending delivery.
+fn nothing_told(answer: PendingAnswer) -> PendingAt
+    ensures { λ r. ⌜ r ≡ nothing-told answer ⌝ }
+{
+    PendingAt {
+        answer,
+        subscription: [0; Session::ID],
+        subscription_len: 0,
+        mode: 0,
+        label: [0; Session::ID],
+        label_len: 0,
+    }
 }
 
 impl Session {
@@ -105,6 +172,7 @@ impl Session {
             offered,
             shared: [false; 3],
             phase: Session::FRESH,
+            deliveries: Deliveries::none(),
         }
     }
 
@@ -113,6 +181,8 @@ impl Session {
         ensures { λ r. ⌜ r ≡ closed self ⌝ }
     {
         self.phase = Session::CLOSED;
+        let deliveries = self.deliveries;
+        self.deliveries = deliveries.emptied();
         self
     }
 
@@ -155,13 +225,13 @@ impl Session {
     }
 
     // Accepted, and heard from at this time.
-    fn accepted(mut self, receipt: bool, time: u32) -> Outcome
-        ensures { λ r. ⌜ r ≡ accepted-by self receipt time ⌝ }
+    fn accepted(mut self, acceptance: Acceptance, time: u32) -> Outcome
+        ensures { λ r. ⌜ r ≡ accepted-by self acceptance time ⌝ }
     {
         self.last_heard = time;
         Outcome {
             session: self,
-            answer: SessionAnswer::Accepted(Acceptance { receipt }),
+            answer: SessionAnswer::Accepted(acceptance),
         }
     }
 
@@ -190,6 +260,19 @@ impl Session {
         crate::store::is_valid(&txs, &tx_lens, Session::TRANSACTIONS, Session::ID)
     }
 
+    // Whether the deliveries are; none are pending but in an open session.
+    fn has_valid_deliveries(self) -> bool
+        ensures { λ r. ⌜ r ≡ right-deliveries self ⌝ }
+    {
+        let deliveries = self.deliveries;
+        let lens = self.sub_lens;
+        if !deliveries.is_valid(lens) {
+            return false;
+        }
+        let count = deliveries.count;
+        (self.phase == Session::OPEN) | (count == 0)
+    }
+
     // Whether the record is valid (not 38).
     pub fn is_valid(self) -> bool
         ensures { λ r. ⌜ r ≡ is-valid self ⌝ }
@@ -197,7 +280,10 @@ impl Session {
         if !self.has_valid_numbers() {
             return false;
         }
-        self.has_valid_ids()
+        if !self.has_valid_ids() {
+            return false;
+        }
+        self.has_valid_deliveries()
     }
 
     // The highest version that both sides have, times ten, or 0 where there is none.
@@ -224,7 +310,7 @@ impl Session {
         if self.phase == Session::CLOSED {
             return self.refused(refusals::CLOSED);
         }
-        self.accepted(false, time)
+        self.accepted(Acceptance { receipt: false }, time)
     }
 
     // Whether the peer is timed out.
@@ -258,9 +344,9 @@ impl Session {
     }
 
     // The opening frame, with every header that it needs.
-    fn open(self, block: &[u8], time: u32) -> Outcome
+    fn open(self, block: &[u8], acceptance: Acceptance, time: u32) -> Outcome
         requires { ⌜ is-block (now block) ≡ true ⌝ }
-        ensures { λ r. ⌜ GivesOpening self (listed (entries (now (block .entry)))) time r ⌝ }
+        ensures { λ r. ⌜ GivesOpening self (listed (entries (now (block .entry)))) acceptance time r ⌝ }
     {
         let client = crate::locate::client_versions(block);
         if !client.valid {
@@ -276,7 +362,7 @@ impl Session {
         if !heart_beats.valid {
             return self.refused(refusals::BAD_HEART_BEAT);
         }
-        self.opened(shared, heart_beats).accepted(false, time)
+        self.opened(shared, heart_beats).accepted(acceptance, time)
     }
 
     // The session with an id in a place of a kind.
@@ -321,40 +407,132 @@ impl Session {
     }
 
     // A frame that names an id.
-    fn use_id(self, naming: Naming, id: &[u8], receipt: bool, time: u32) -> Outcome
+    fn use_id(self, naming: Naming, id: &[u8], acceptance: Acceptance, time: u32) -> Outcome
         requires { ⌜ is-valid self ≡ true ⌝ }
-        ensures { λ r. ⌜ GivesUse (naming .kind) self (naming .usage) (now (id .entry)) receipt time r ⌝ }
+        ensures { λ r. ⌜ GivesUse (naming .kind) self (naming .usage) (now (id .entry)) acceptance time r ⌝ }
     {
         let kind = naming.kind;
         let usage = naming.usage;
         match self.settle(kind, id, usage) {
             Settled::Refused(n) => self.refused(n),
-            Settled::Kept => self.accepted(receipt, time),
+            Settled::Kept => self.accepted(acceptance, time),
             Settled::Put(k) => {
                 let n = crate::store::stored_length(usage, id.len());
-                self.with_id(kind, k, &id[0..n]).accepted(receipt, time)
+                self.with_id(kind, k, &id[0..n]).accepted(acceptance, time)
             }
         }
     }
 
     // A frame that may name an id.
-    fn look_up_id(self, command: u32, block: &[u8], receipt: bool, time: u32) -> Outcome
+    fn look_up_id(self, command: u32, block: &[u8], acceptance: Acceptance, time: u32) -> Outcome
         requires { ⌜ (is-valid self ≡ true) × (is-block (now block) ≡ true) ⌝ }
-        ensures { λ r. ⌜ GivesNaming self command (listed (entries (now (block .entry)))) receipt time r ⌝ }
+        ensures { λ r. ⌜ GivesNaming self command (listed (entries (now (block .entry)))) acceptance time r ⌝ }
     {
         let naming = crate::command::naming_of(command);
         let usage = naming.usage;
         if !crate::command::names_id(usage) {
-            return self.accepted(receipt, time);
+            return self.accepted(acceptance, time);
         }
         let kind = naming.kind;
         let l = crate::locate::locate(block, crate::command::header_of(kind));
         if !l.present {
-            return self.accepted(receipt, time);
+            return self.accepted(acceptance, time);
         }
         let start = l.start;
         let end = l.end;
-        self.use_id(naming, &block[start..end], receipt, time)
+        self.use_id(naming, &block[start..end], acceptance, time)
+    }
+
+    // The deliveries with a mode for the subscription that was entered in the first free place.
+    fn with_mode(self, mode: u8) -> Deliveries
+        requires { ⌜ is-valid self ≡ true ⌝ }
+        ensures { λ r. ⌜ r ≡ subscribe (free-place self) mode (self .deliveries) ⌝ }
+    {
+        let lens = self.sub_lens;
+        let deliveries = self.deliveries;
+        match crate::store::find_free(&lens) {
+            Search::At(k) => deliveries.with_mode(k, mode),
+            Search::Nowhere => deliveries,
+        }
+    }
+
+    // A SUBSCRIBE whose id was settled: the ack mode that it asks for, or 49.
+    fn keep_mode(self, named: Outcome, block: &[u8]) -> Outcome
+        requires { ⌜ (is-valid self ≡ true) × (is-block (now block) ≡ true) ⌝ }
+        ensures { λ r. ⌜ GivesMode self (listed (entries (now (block .entry)))) named r ⌝ }
+    {
+        let answer = named.answer;
+        if let SessionAnswer::Refused(n) = answer {
+            return named;
+        }
+        match crate::locate::mode_asked(block) {
+            ModeRead::Mode(mode) => named.with_deliveries(self.with_mode(mode)),
+            ModeRead::Unknown => self.refused(refusals::UNKNOWN_MODE),
+        }
+    }
+
+    // The place of a subscription's id.
+    fn find_subscription(self, id: &[u8]) -> Search
+        requires { ⌜ is-valid self ≡ true ⌝ }
+        ensures { λ r. ⌜ search-says r ≡ place-named self (some (now (id .entry))) ⌝ }
+    {
+        let subs = self.subs;
+        let lens = self.sub_lens;
+        crate::store::find(&subs, &lens, Session::SUBSCRIPTIONS, Session::ID, id)
+    }
+
+    // The deliveries without those of a subscription, by its id.
+    fn unsubscribed(self, id: &[u8]) -> Deliveries
+        requires { ⌜ is-valid self ≡ true ⌝ }
+        ensures { λ r. ⌜ r ≡ unsubscribe (place-named self (some (now (id .entry)))) (self .deliveries) ⌝ }
+    {
+        let deliveries = self.deliveries;
+        match self.find_subscription(id) {
+            Search::At(k) => deliveries.unsubscribed(k),
+            Search::Nowhere => deliveries,
+        }
+    }
+
+    // An UNSUBSCRIBE whose id was settled: the deliveries of the subscription are dropped.
+    fn drop_deliveries(self, named: Outcome, block: &[u8]) -> Outcome
+        requires { ⌜ (is-valid self ≡ true) × (is-block (now block) ≡ true) × (has Id (listed (entries (now block))) ≡ true) ⌝ }
+        ensures { λ r. ⌜ GivesDropped self (listed (entries (now (block .entry)))) named r ⌝ }
+    {
+        let answer = named.answer;
+        if let SessionAnswer::Refused(n) = answer {
+            return named;
+        }
+        let l = crate::locate::locate(block, Header::Id);
+        let start = l.start;
+        let end = l.end;
+        named.with_deliveries(self.unsubscribed(&block[start..end]))
+    }
+
+    // A pending delivery settled, by its label, in an outcome that was accepted; or 60.
+    fn settle_label(self, named: Outcome, label: &[u8]) -> Outcome
+        requires { ⌜ is-valid self ≡ true ⌝ }
+        ensures { λ r. ⌜ GivesLabel self (some (now (label .entry))) named r ⌝ }
+    {
+        let answer = named.answer;
+        if let SessionAnswer::Refused(n) = answer {
+            return named;
+        }
+        let deliveries = self.deliveries;
+        match deliveries.find(label) {
+            Search::At(i) => named.with_deliveries(deliveries.settled(i)),
+            Search::Nowhere => self.refused(refusals::NOT_PENDING),
+        }
+    }
+
+    // An ACK or NACK whose transaction was settled: the delivery that its id names is settled, or 60.
+    fn settle_delivery(self, named: Outcome, block: &[u8]) -> Outcome
+        requires { ⌜ (is-valid self ≡ true) × (is-block (now block) ≡ true) × (has Id (listed (entries (now block))) ≡ true) ⌝ }
+        ensures { λ r. ⌜ GivesLabel self (label-named (listed (entries (now (block .entry))))) named r ⌝ }
+    {
+        let l = crate::locate::locate(block, Header::Id);
+        let start = l.start;
+        let end = l.end;
+        self.settle_label(named, &block[start..end])
     }
 
     // A frame of a known command in its phase, with a well-formed block, of a valid session.
@@ -365,14 +543,24 @@ impl Session {
         if crate::locate::lacks_needed(command, block) {
             return self.refused(refusals::MISSING);
         }
+        let acceptance = crate::locate::acceptance(command, block);
         if crate::command::opens(command) {
-            return self.open(block, time);
+            return self.open(block, acceptance, time);
         }
-        let receipt = crate::locate::has(block, Header::Receipt);
         if command == commands::DISCONNECT {
-            return self.closed().accepted(receipt, time);
+            return self.closed().accepted(acceptance, time);
         }
-        self.look_up_id(command, block, receipt, time)
+        let named = self.look_up_id(command, block, acceptance, time);
+        if command == commands::SUBSCRIBE {
+            return self.keep_mode(named, block);
+        }
+        if command == commands::UNSUBSCRIBE {
+            return self.drop_deliveries(named, block);
+        }
+        if crate::command::settles(command) {
+            return self.settle_delivery(named, block);
+        }
+        named
     }
 
     // A frame: its command's number, its header block and when it came.
@@ -393,5 +581,108 @@ impl Session {
             return self.refused(number);
         }
         self.act(command, block, time)
+    }
+    // No delivery recorded, the session as it was.
+    fn unrecorded(self, number: u32) -> Recording
+        ensures { λ r. ⌜ r ≡ unrecorded-by self number ⌝ }
+    {
+        Recording {
+            session: self,
+            answer: DeliveryAnswer::Refused(number),
+        }
+    }
+
+    // A delivery recorded; it is pending where the mode of its subscription, in a place, is not auto.
+    fn recorded(mut self, place: usize, label: &[u8]) -> Recording
+        requires { ⌜ MayRecord self place (now label) ⌝ }
+        ensures { λ r. ⌜ r ≡ recorded-as (with-deliveries self (record-label (some place) (now (label .entry)) (self .deliveries))) ⌝ }
+    {
+        let deliveries = self.deliveries;
+        let modes = deliveries.modes;
+        if modes[place] != Deliveries::AUTO {
+            self.deliveries = deliveries.entered((place % 256) as u8, label);
+        }
+        Recording {
+            session: self,
+            answer: DeliveryAnswer::Recorded,
+        }
+    }
+
+    // A delivery to the subscription in a place: 62, 61, or recorded.
+    fn record_at(self, place: usize, label: &[u8]) -> Recording
+        requires { ⌜ (is-valid self ≡ true) × (place < subscriptions-max) ⌝ }
+        ensures { λ r. ⌜ RecordsAt self place (now (label .entry)) r ⌝ }
+    {
+        let deliveries = self.deliveries;
+        if (label.len() == 0) | (Session::ID < label.len()) {
+            return self.unrecorded(refusals::BAD_LABEL);
+        }
+        if crate::store::is_found(deliveries.find(label)) {
+            return self.unrecorded(refusals::BAD_LABEL);
+        }
+        let modes = deliveries.modes;
+        if (modes[place] != Deliveries::AUTO) & (64 <= deliveries.count) {
+            return self.unrecorded(refusals::ALL_PENDING);
+        }
+        self.recorded(place, label)
+    }
+
+    // A delivery that the daemon makes is recorded, for a subscription's id and under a label; a refusal leaves the session as it was.
+    pub fn deliver(self, subscription: &[u8], label: &[u8]) -> Recording
+        ensures { λ r. ⌜
+            (delivery-says (r .answer) ≡ deliver-answer self (now (subscription .entry)) (now (label .entry)))
+            × (r .session ≡ deliver-session self (now (subscription .entry)) (now (label .entry)))
+            ⌝ }
+    {
+        if !self.is_valid() {
+            return self.unrecorded(refusals::INVALID);
+        }
+        if self.phase != Session::OPEN {
+            return self.unrecorded(refusals::NOT_OPEN);
+        }
+        if subscription.len() == 0 {
+            return self.unrecorded(refusals::NO_SUBSCRIPTION);
+        }
+        match self.find_subscription(subscription) {
+            Search::At(k) => self.record_at(k, label),
+            Search::Nowhere => self.unrecorded(refusals::NO_SUBSCRIPTION),
+        }
+    }
+
+    // What is told of a pending delivery that is held.
+    fn told(self, index: usize) -> PendingAt
+        requires { ⌜ (is-valid self ≡ true) × (index < self .deliveries .count) ⌝ }
+        ensures { λ r. ⌜ r ≡ told-of (nth index (held-deliveries self)) ⌝ }
+    {
+        let deliveries = self.deliveries;
+        let places = deliveries.places;
+        let modes = deliveries.modes;
+        let labels = deliveries.labels;
+        let lens = deliveries.lens;
+        let subs = self.subs;
+        let sub_lens = self.sub_lens;
+        let place = crate::delivery::wide(places[index]);
+        PendingAt {
+            answer: PendingAnswer::Held,
+            subscription: crate::store::row(&subs, place),
+            subscription_len: sub_lens[place],
+            mode: modes[place],
+            label: crate::store::row(&labels, index),
+            label_len: lens[index],
+        }
+    }
+
+    // The pending delivery with a number, the oldest being 0.
+    pub fn pending_at(self, index: usize) -> PendingAt
+        ensures { λ r. ⌜ r ≡ pending-answer self index ⌝ }
+    {
+        if !self.is_valid() {
+            return nothing_told(PendingAnswer::Invalid);
+        }
+        let deliveries = self.deliveries;
+        if crate::delivery::wide(deliveries.count) <= index {
+            return nothing_told(PendingAnswer::Absent);
+        }
+        self.told(index)
     }
 }

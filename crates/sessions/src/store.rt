@@ -3,7 +3,7 @@
 ghost use mathlib.Core.Path.{_≡_};
 ghost use Prim.Native.Nat.{_+_, _*_, _≤_, _<_};
 ghost use lib.Dec.{eqb};
-ghost use lib.ListN.{length, getD};
+ghost use lib.ListN.{length, take, drop, getD};
 ghost use Rattle.headers.specs.Rows.{same};
 ghost use Rattle.sessions.specs.Stores.{ids, padded, short, is-zero, clean, distinct, valid-store, first-from};
 ghost use Rattle.sessions.specs.Places.{Fits, Clean, Keyed, again, search-says, is-at, when-needed, when-freed, when-entered, stored, put-in, Settles};
@@ -31,7 +31,7 @@ pub(crate) enum Settled {
 }
 
 // Whether each octet is 0. No octet ends the loop, so that it is compiled to look at many at a time.
-fn is_zero(s: &[u8]) -> bool
+pub(crate) fn is_zero(s: &[u8]) -> bool
     ensures { λ r. ⌜ r ≡ is-zero (now (s .entry)) ⌝ }
 {
     let mut zero = true;
@@ -99,7 +99,7 @@ fn is_clean(store: &[u8], lens: &[u8], count: usize, width: usize) -> bool
 }
 
 // The first place that holds the id.
-fn find(store: &[u8], lens: &[u8], count: usize, width: usize, id: &[u8]) -> Search
+pub(crate) fn find(store: &[u8], lens: &[u8], count: usize, width: usize, id: &[u8]) -> Search
     requires { ⌜ Fits width count (now store) (now lens) ⌝ }
     ensures { λ r. ⌜ search-says r ≡ first-from (λ x. same x (now (id .entry))) 0 (ids width (now (store .entry)) (now (lens .entry))) ⌝ }
 {
@@ -117,7 +117,7 @@ fn find(store: &[u8], lens: &[u8], count: usize, width: usize, id: &[u8]) -> Sea
 }
 
 // The first free place.
-fn find_free(lens: &[u8]) -> Search
+pub(crate) fn find_free(lens: &[u8]) -> Search
     ensures { λ r. ⌜ search-says r ≡ first-from (λ l. eqb l 0) 0 (now (lens .entry)) ⌝ }
 {
     let mut k = 0usize;
@@ -130,7 +130,7 @@ fn find_free(lens: &[u8]) -> Search
     Search::Nowhere
 }
 
-fn is_found(s: Search) -> bool
+pub(crate) fn is_found(s: Search) -> bool
     ensures { λ r. ⌜ r ≡ is-at s ⌝ }
 {
     match s {
@@ -277,7 +277,7 @@ pub(crate) fn stored_length(usage: Use, len: usize) -> usize
 }
 
 // An octet of an id, or 0 behind it.
-fn octet_at(id: &[u8], i: usize) -> u8
+pub(crate) fn octet_at(id: &[u8], i: usize) -> u8
     ensures { λ r. ⌜ r ≡ getD (now (id .entry)) i 0 ⌝ }
 {
     if i < id.len() { id[i] } else { 0 }
@@ -303,4 +303,16 @@ pub(crate) fn put(store: &mut [u8], index: usize, width: usize, id: &[u8])
     let at = index * width;
     let end = at + width;
     fill(&mut store[at..end], id);
+}
+
+// The octets of a place of 32.
+pub(crate) fn row(store: &[u8], index: usize) -> [u8; 32]
+    requires { ⌜ index * 32 + 32 ≤ length (now store) ⌝ }
+    ensures { λ r. ⌜ r ≡ take 32 (drop (index * 32) (now (store .entry))) ⌝ }
+{
+    let at = index * 32;
+    let end = at + 32;
+    let mut out = [0u8; 32];
+    crate::compaction::copy_front(&mut out, &store[at..end]);
+    out
 }

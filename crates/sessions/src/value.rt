@@ -1,12 +1,14 @@
-// Header values with parts: accept-version and heart-beat.
+// Header values: accept-version, heart-beat and ack.
 ghost use mathlib.Core.Path.{_≡_};
-ghost use mathlib.Core.Option.{none};
+ghost use mathlib.Core.Option.{none, some};
 ghost use Prim.Native.Nat.{_+_, _≤_};
 ghost use lib.ListN.{length, drop};
 ghost use Rattle.headers.specs.Rows.{same};
 ghost use Rattle.sessions.specs.Values.{before, some-digits, is-item, versions, heart-beats};
 ghost use Rattle.sessions.specs.Opening.{shared-flags, none-shared, may-offer, interval as interval-of};
-ghost use Rattle.sessions.specs.Reads.{version, counted, versions-say, heart-beats-say};
+ghost use Rattle.sessions.specs.Headers.{mode-named};
+ghost use Rattle.sessions.specs.Reads.{version, counted, versions-say, heart-beats-say, mode-says};
+use crate::delivery::Deliveries;
 use headers::DecimalRead;
 
 // The versions of an accept-version value, as flags for 1.0, 1.1 and 1.2, and whether it is well formed.
@@ -20,6 +22,12 @@ pub(crate) struct HeartBeatsRead {
     pub sends: u32,
     pub wants: u32,
     pub valid: bool,
+}
+
+// An ack value: a mode, or none that is known.
+pub(crate) enum ModeRead {
+    Mode(u8),
+    Unknown,
 }
 
 // No offer and no interval is larger.
@@ -185,4 +193,20 @@ pub(crate) fn interval(a: u32, b: u32) -> u32
         return 0;
     }
     if a < b { b } else { a }
+}
+
+// The ack mode that a word names.
+pub(crate) fn read_mode(word: &[u8]) -> ModeRead
+    ensures { λ r. ⌜ mode-says r ≡ mode-named (some (now (word .entry))) ⌝ }
+{
+    if headers::equal(word, b"auto") {
+        return ModeRead::Mode(Deliveries::AUTO);
+    }
+    if headers::equal(word, b"client") {
+        return ModeRead::Mode(Deliveries::CLIENT);
+    }
+    if headers::equal(word, b"client-individual") {
+        return ModeRead::Mode(Deliveries::INDIVIDUAL);
+    }
+    ModeRead::Unknown
 }

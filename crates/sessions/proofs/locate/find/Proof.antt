@@ -75,6 +75,15 @@ slice-aggregate-find-8 c = search needs
 find-requires-8 : tie.Need-find-requires-8
 find-requires-8 c κs = search needs
 
+enum-told-9 : tie.Need-enum-told-9
+enum-told-9 c = search needs
+
+slice-aggregate-find-9 : tie.Need-slice-aggregate-find-9
+slice-aggregate-find-9 c = search needs
+
+find-requires-9 : tie.Need-find-requires-9
+find-requires-9 c κs = search needs
+
 returns : tie.Need-returns
 returns c = rw (c .before .before .enum-told .given .1) (c .find .ensures)
 
@@ -98,6 +107,9 @@ returns-7 c = rw (c .before .before .enum-told7 .given .1) (c .find7 .ensures)
 
 returns-8 : tie.Need-returns-8
 returns-8 c = rw (c .before .before .enum-told8 .given .1) (c .find8 .ensures)
+
+returns-9 : tie.Need-returns-9
+returns-9 c = rw (c .before .before .enum-told9 .given .1) (c .find9 .ensures)
 
 pub find-spec : {M : Type 1} → statement M
 find-spec =
@@ -127,6 +139,9 @@ find-spec =
     enum-told-8
     slice-aggregate-find-8
     find-requires-8
+    enum-told-9
+    slice-aggregate-find-9
+    find-requires-9
     returns
     returns-2
     returns-3
@@ -134,4 +149,5 @@ find-spec =
     returns-5
     returns-6
     returns-7
-    returns-8)
+    returns-8
+    returns-9)

@@ -3,6 +3,7 @@ use mathlib.Core.Path.{refl, sym, ap, _∙_}
 use mathlib.Core.Bool.{false, not}
 use mathlib.Core.List.{[]}
 use borrow.Author.Tests.{eq-eqb, ne-eqb}
+use Rattle.sessions.specs.Calls.{no-receipt}
 use Rattle.sessions.proofs.Steps.{gives-on, gives-kept, gives-closed, gives-accepted, heart-beat-gives}
 use borrow.Author.Needs.{needs}
 use Rattle.sessions.proofs.session.Session.heart_beat.Statement.{statement}
@@ -27,7 +28,7 @@ accepted-requires : tie.Need-accepted-requires
 accepted-requires c κs = search needs
 
 returns-3 : tie.Need-returns-3
-returns-3 c = heart-beat-gives (c .before .before .before .before .before .args .self) (c .before .before .before .before .before .args .time) _ (gives-on _ _ (ap not (sym (c .before .before .before .before .is-valid .ensures)) ∙ c .before .before .before .if1 .left) (gives-on _ _ (ne-eqb _ _ (c .before .if2 .left)) (gives-accepted [] false (c .before .before .before .before .before .args .self) (c .before .before .before .before .before .args .self) (c .before .before .before .before .before .args .time) _ refl (c .accepted .ensures))))
+returns-3 c = heart-beat-gives (c .before .before .before .before .before .args .self) (c .before .before .before .before .before .args .time) _ (gives-on _ _ (ap not (sym (c .before .before .before .before .is-valid .ensures)) ∙ c .before .before .before .if1 .left) (gives-on _ _ (ne-eqb _ _ (c .before .if2 .left)) (gives-accepted [] no-receipt (c .before .before .before .before .before .args .self) (c .before .before .before .before .before .args .self) (c .before .before .before .before .before .args .time) _ refl (c .accepted .ensures))))
 
 pub heart-beat-spec : {M : Type 1} → statement M
 heart-beat-spec =

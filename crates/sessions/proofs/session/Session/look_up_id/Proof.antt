@@ -17,7 +17,7 @@ accepted-requires : tie.Need-accepted-requires
 accepted-requires c κs = search needs
 
 returns : tie.Need-returns
-returns c = naming-unused (c .before .before .before .before .before .args .self) (c .before .before .before .before .before .args .command) (now (c .before .before .before .before .before .args .block)) (c .before .before .before .before .before .args .receipt) (c .before .before .before .before .before .args .time) _ (c .before .before .before .naming-of .result) (c .before .before .before .naming-of .ensures) (sym (c .before .before .names-id .ensures) ∙ not-true _ (c .before .if1 .taken)) (c .accepted .ensures)
+returns c = naming-unused (c .before .before .before .before .before .args .self) (c .before .before .before .before .before .args .command) (now (c .before .before .before .before .before .args .block)) (c .before .before .before .before .before .args .acceptance) (c .before .before .before .before .before .args .time) _ (c .before .before .before .naming-of .result) (c .before .before .before .naming-of .ensures) (sym (c .before .before .names-id .ensures) ∙ not-true _ (c .before .if1 .taken)) (c .accepted .ensures)
 
 header-of-requires : tie.Need-header-of-requires
 header-of-requires c κs = search needs
@@ -29,7 +29,7 @@ accepted-requires-2 : tie.Need-accepted-requires-2
 accepted-requires-2 c κs = search needs
 
 returns-2 : tie.Need-returns-2
-returns-2 c = naming-missing (c .before .before .before .before .before .before .before .before .before .args .self) (c .before .before .before .before .before .before .before .before .before .args .command) (now (c .before .before .before .before .before .before .before .before .before .args .block)) (c .before .before .before .before .before .before .before .before .before .args .receipt) (c .before .before .before .before .before .before .before .before .before .args .time) _ (c .before .before .before .before .before .before .before .naming-of .result) (c .before .before .before .before .before .before .before .naming-of .ensures) (sym (c .before .before .before .before .before .before .names-id .ensures) ∙ not-false _ (c .before .before .before .before .before .if1 .left)) (c .before .before .before .locate .result) (c .before .before .before .before .header-of .result) (c .before .before .before .before .header-of .ensures) (c .before .before .before .locate .ensures) (not-true _ (c .before .if2 .taken)) (c .accepted2 .ensures)
+returns-2 c = naming-missing (c .before .before .before .before .before .before .before .before .before .args .self) (c .before .before .before .before .before .before .before .before .before .args .command) (now (c .before .before .before .before .before .before .before .before .before .args .block)) (c .before .before .before .before .before .before .before .before .before .args .acceptance) (c .before .before .before .before .before .before .before .before .before .args .time) _ (c .before .before .before .before .before .before .before .naming-of .result) (c .before .before .before .before .before .before .before .naming-of .ensures) (sym (c .before .before .before .before .before .before .names-id .ensures) ∙ not-false _ (c .before .before .before .before .before .if1 .left)) (c .before .before .before .locate .result) (c .before .before .before .before .header-of .result) (c .before .before .before .before .header-of .ensures) (c .before .before .before .locate .ensures) (not-true _ (c .before .if2 .taken)) (c .accepted2 .ensures)
 
 sub-use-id : tie.Need-sub-use-id
 sub-use-id c = search needs
@@ -44,7 +44,7 @@ use-id-requires : tie.Need-use-id-requires
 use-id-requires c κs = search needs
 
 returns-3 : tie.Need-returns-3
-returns-3 c = naming-found (c .before .before .before .before .before .before .before .before .before .before .args .self) (c .before .before .before .before .before .before .before .before .before .before .args .command) (now (c .before .before .before .before .before .before .before .before .before .before .args .block)) (c .before .before .before .before .before .before .before .before .before .before .args .receipt) (c .before .before .before .before .before .before .before .before .before .before .args .time) _ (c .before .before .before .before .before .before .before .before .naming-of .result) (c .before .before .before .before .before .before .before .before .naming-of .ensures) (sym (c .before .before .before .before .before .before .before .names-id .ensures) ∙ not-false _ (c .before .before .before .before .before .before .if1 .left)) (c .before .before .before .before .locate .result) (c .before .before .before .before .before .header-of .result) (c .before .before .before .before .before .header-of .ensures) (c .before .before .before .before .locate .ensures) (not-false _ (c .before .before .if2 .left)) (c .use-id .ensures)
+returns-3 c = naming-found (c .before .before .before .before .before .before .before .before .before .before .args .self) (c .before .before .before .before .before .before .before .before .before .before .args .command) (now (c .before .before .before .before .before .before .before .before .before .before .args .block)) (c .before .before .before .before .before .before .before .before .before .before .args .acceptance) (c .before .before .before .before .before .before .before .before .before .before .args .time) _ (c .before .before .before .before .before .before .before .before .naming-of .result) (c .before .before .before .before .before .before .before .before .naming-of .ensures) (sym (c .before .before .before .before .before .before .before .names-id .ensures) ∙ not-false _ (c .before .before .before .before .before .before .if1 .left)) (c .before .before .before .before .locate .result) (c .before .before .before .before .before .header-of .result) (c .before .before .before .before .before .header-of .ensures) (c .before .before .before .before .locate .ensures) (not-false _ (c .before .before .if2 .left)) (c .use-id .ensures)
 
 pub look-up-id-spec : {M : Type 1} → statement M
 look-up-id-spec =

@@ -45,19 +45,19 @@ part-with-id-end : tie.Need-part-with-id-end
 part-with-id-end c = omega (arith, c .stored-length .ensures, stored-small (c .before .before .before .before .before .before .args .naming .usage) (length (now (c .before .before .before .before .before .before .args .id))))
 
 with-id-requires : tie.Need-with-id-requires
-with-id-requires c κs = put-asked (c .before .before .before .before .before .before .before .args .naming .kind) (c .before .before .before .before .before .before .before .args .self) (c .before .before .before .before .before .before .before .args .naming .usage) (now (c .before .before .before .before .before .before .before .args .id)) (c .before .before .before .before .before .before .before .args .receipt) (c .before .before .before .before .before .before .before .args .time) (accepted-by (c .before .before .before .before .before .before .before .args .self) (c .before .before .before .before .before .before .before .args .receipt) (c .before .before .before .before .before .before .before .args .time)) (sized (c .before .before .before .before .before .before .before)) (c .before .before .before .before .before .before .before .pre) _ _ (rw (c .before .before .before .k .given .1) at (c .before .before .before .before .before .settle .ensures)) (c .before .stored-length .ensures)
+with-id-requires c κs = put-asked (c .before .before .before .before .before .before .before .args .naming .kind) (c .before .before .before .before .before .before .before .args .self) (c .before .before .before .before .before .before .before .args .naming .usage) (now (c .before .before .before .before .before .before .before .args .id)) (c .before .before .before .before .before .before .before .args .acceptance) (c .before .before .before .before .before .before .before .args .time) (accepted-by (c .before .before .before .before .before .before .before .args .self) (c .before .before .before .before .before .before .before .args .acceptance) (c .before .before .before .before .before .before .before .args .time)) (sized (c .before .before .before .before .before .before .before)) (c .before .before .before .before .before .before .before .pre) _ _ (rw (c .before .before .before .k .given .1) at (c .before .before .before .before .before .settle .ensures)) (c .before .stored-length .ensures)
 
 accepted-requires-2 : tie.Need-accepted-requires-2
 accepted-requires-2 c κs = search needs
 
 returns : tie.Need-returns
-returns c = use-refused (c .before .before .before .before .before .before .args .naming .kind) (c .before .before .before .before .before .before .args .self) (c .before .before .before .before .before .before .args .naming .usage) (now (c .before .before .before .before .before .before .args .id)) (c .before .before .before .before .before .before .args .receipt) (c .before .before .before .before .before .before .args .time) _ _ (rw (c .before .before .n .given .1) at (c .before .before .before .before .settle .ensures)) (c .refused .ensures)
+returns c = use-refused (c .before .before .before .before .before .before .args .naming .kind) (c .before .before .before .before .before .before .args .self) (c .before .before .before .before .before .before .args .naming .usage) (now (c .before .before .before .before .before .before .args .id)) (c .before .before .before .before .before .before .args .acceptance) (c .before .before .before .before .before .before .args .time) _ _ (rw (c .before .before .n .given .1) at (c .before .before .before .before .settle .ensures)) (c .refused .ensures)
 
 returns-2 : tie.Need-returns-2
-returns-2 c = use-kept (c .before .before .before .before .before .args .naming .kind) (c .before .before .before .before .before .args .self) (c .before .before .before .before .before .args .naming .usage) (now (c .before .before .before .before .before .args .id)) (c .before .before .before .before .before .args .receipt) (c .before .before .before .before .before .args .time) _ (sized (c .before .before .before .before .before)) (c .before .before .before .before .before .pre) (rw (c .before .enum-told .given .1) at (c .before .before .before .settle .ensures)) (c .accepted .ensures)
+returns-2 c = use-kept (c .before .before .before .before .before .args .naming .kind) (c .before .before .before .before .before .args .self) (c .before .before .before .before .before .args .naming .usage) (now (c .before .before .before .before .before .args .id)) (c .before .before .before .before .before .args .acceptance) (c .before .before .before .before .before .args .time) _ (sized (c .before .before .before .before .before)) (c .before .before .before .before .before .pre) (rw (c .before .enum-told .given .1) at (c .before .before .before .settle .ensures)) (c .accepted .ensures)
 
 returns-3 : tie.Need-returns-3
-returns-3 c = use-put (c .before .before .before .before .before .before .before .before .before .args .naming .kind) (c .before .before .before .before .before .before .before .before .before .args .self) (c .before .before .before .before .before .before .before .before .before .args .naming .usage) (now (c .before .before .before .before .before .before .before .before .before .args .id)) (c .before .before .before .before .before .before .before .before .before .args .receipt) (c .before .before .before .before .before .before .before .before .before .args .time) _ (sized (c .before .before .before .before .before .before .before .before .before)) (c .before .before .before .before .before .before .before .before .before .pre) _ _ (rw (c .before .before .before .before .before .k .given .1) at (c .before .before .before .before .before .before .before .settle .ensures)) (stored-part (c .before .before .before .before .before .before .before .before .before .args .naming .usage) (now (c .before .before .before .before .before .before .before .before .before .args .id)) _ (c .before .before .before .stored-length .ensures)) (c .accepted2 .ensures ∙ ap (λ z. accepted-by z (c .before .before .before .before .before .before .before .before .before .args .receipt) (c .before .before .before .before .before .before .before .before .before .args .time)) (c .before .with-id .ensures))
+returns-3 c = use-put (c .before .before .before .before .before .before .before .before .before .args .naming .kind) (c .before .before .before .before .before .before .before .before .before .args .self) (c .before .before .before .before .before .before .before .before .before .args .naming .usage) (now (c .before .before .before .before .before .before .before .before .before .args .id)) (c .before .before .before .before .before .before .before .before .before .args .acceptance) (c .before .before .before .before .before .before .before .before .before .args .time) _ (sized (c .before .before .before .before .before .before .before .before .before)) (c .before .before .before .before .before .before .before .before .before .pre) _ _ (rw (c .before .before .before .before .before .k .given .1) at (c .before .before .before .before .before .before .before .settle .ensures)) (stored-part (c .before .before .before .before .before .before .before .before .before .args .naming .usage) (now (c .before .before .before .before .before .before .before .before .before .args .id)) _ (c .before .before .before .stored-length .ensures)) (c .accepted2 .ensures ∙ ap (λ z. accepted-by z (c .before .before .before .before .before .before .before .before .before .args .acceptance) (c .before .before .before .before .before .before .before .before .before .args .time)) (c .before .with-id .ensures))
 
 pub use-id-spec : {M : Type 1} → statement M
 use-id-spec =

@@ -1,0 +1,373 @@
+-- A session stays a valid record: made, and after each call and each history of calls. Assumes nothing.
+--     Kept, kept-..                 a valid session with the sizes of its arrays; each change, call and history keeps that
+--     valid-after, made-after       the same, said of Sized and is-valid
+use mathlib.Core.Path.{_≡_, refl, sym, _∙_, ap, ap₂, subst}
+use mathlib.Core.Logic.{_≢_}
+use mathlib.Core.Bool.{Bool, true, false, cond, _&&_, _||_, not, true≢false}
+use mathlib.Core.Option.{Option, none, some}
+use mathlib.Core.List.{List, [], _∷_, _++_}
+use Prim.Native.Nat.{ℕ, suc, _+_, _≤_, _<_}
+use native.Mathlib.Omega.{arith}
+use lib.ListN.{length, getD, set, replicate, length-replicate, List·getD-map}
+use lib.Dec.{eqb, leb, ltb}
+use borrow.Author.Tests.{eqb-true, not-false, not-true, leb-true, leb-false, ltb-false, le-leb, ne-eqb}
+use Rattle.headers.specs.Rows.{octets-of, any, empty, same, All, first-of}
+use Rattle.headers.specs.Block.{Entry, entries, listed}
+use Rattle.headers.specs.Answers.{Answer, accepted, refused, settle}
+use Rattle.headers.proofs.Rows.{cond-case, and-left, and-right, or-false-left, or-false-right, same-eq, or-yes, and-false, empty-zero, empty-eqb, every-replicate}
+use Rattle.frames.specs.Grammar.{ABORT, ACK, BEGIN, COMMIT, DISCONNECT, NACK, SEND, SUBSCRIBE, UNSUBSCRIBE}
+use Rattle.sessions.specs.Stores.{ids, lengths, clean, distinct, valid-store, live, used, use-checks, bad-length, replaced, first-from}
+use Rattle.sessions.specs.Values.{HeartBeats}
+use Rattle.sessions.specs.Headers.{value-of, is, opens, naming, mode-named, mode-asked, settles, is-some, naming-of}
+use Rattle.sessions.specs.Deliveries.{individual-mode, auto-mode, label-max, Pending, pending, labelled, is-pending, mode-of, goes-with, with-pending, with-modes, settled-as, settle-label, subscribe, unsubscribe, record-label, acknowledging, valid-deliveries, no-deliveries}
+use Rattle.sessions.specs.Sessions.{id-max, fresh-phase, open-phase, closed-phase, in-phase, fresh, ids-of, with-ids, with-phase, with-deliveries, closed, opened, heard, valid-numbers, valid-ids, right-deliveries, is-valid, Sized, SizedDeliveries}
+use Rattle.sessions.specs.Calls.{left-by, out-of-phase, lacks-needed, opening, shared-by, client-versions, client-heart-beats, opened-by, named-id, frame-answer, naming-effect, effect, frame-session, heart-beat-answer, heart-beat-session, place-named, free-place, mode-or-auto, settle-named, label-named, delivery-effect, deliver-checks, deliver-answer, recorded-by, deliver-session, is-auto, making-answer, made-by, made}
+use Rattle.sessions.specs.Histories.{Call, frame, heart-beat, deliver, next, after}
+use Rattle.sessions.specs.declared.command.Header.the-variants.{Id, Ack, Destination, HeartBeat}
+use Rattle.sessions.specs.declared.command.Kind.{Kind}
+use Rattle.sessions.specs.declared.command.Kind.the-variants.{Subscriptions, Transactions}
+use Rattle.sessions.specs.declared.store.Use.{Use}
+use Rattle.sessions.specs.declared.store.Use.the-variants.{Nothing, Need, Enter, Free}
+use Rattle.sessions.specs.declared.command.Naming.{Naming}
+use Rattle.sessions.specs.declared.delivery.Deliveries.{Deliveries}
+use Rattle.sessions.specs.declared.session.Session.{Session}
+use Rattle.sessions.proofs.Checks.{Passes, all-pass, Passed, frame-passed, naming-settles, left-case}
+use Rattle.sessions.proofs.Searching.{found-at, any-first, first-at}
+use Rattle.sessions.proofs.Stores.{lengths-ids, lengths-set, use-some, use-new, use-live, use-room, zeros-ids}
+use Rattle.sessions.proofs.Pending.{Holds, Proper, good, holds-emptied, holds-settled, holds-snoc, holds-unsubscribed, holds-subscribed}
+use Rattle.sessions.proofs.Keeping.{Held, Valid, valid-record, record-valid, subscriptions-fit, held-closed, held-heard, held-opened, held-effect, held-deliver, held-frame, held-heart-beat, held-made, held-deliveries, held-naming, OfSome, Small, of-small}
+
+-- two sessions with the same subscriptions
+abbrev pub SameSubscriptions : Session → Session → Type 0
+SameSubscriptions r s = (r .subs ≡ s .subs) × (r .«sub_lens» ≡ s .«sub_lens»)
+
+-- ids that are used leave the phase
+naming-phase : (s : Session) (n : ℕ) (o : Option (List ℕ)) → (naming-effect s n o) .phase ≡ s .phase
+naming-phase s n none = refl
+naming-phase s n (some id) = by (naming n .kind)
+  where
+    by : (k : Kind) → (with-ids k s (used (naming n .usage) id (ids-of k s))) .phase ≡ s .phase
+    by Subscriptions = refl
+    by Transactions = refl
+
+-- ---- the place of an id
+
+pub first-passes : {A : Type 0} (p : A → Bool) (d : A) (k : ℕ) (xs : List A) → first-from p 0 xs ≡ some k → (k < length xs) × (p (getD xs k d) ≡ true)
+first-passes p d k xs e =
+    let (i, a, b, c) = first-at p d 0 k xs e in
+    let s : i ≡ k = omega (arith, a) in
+    (omega (arith, b, s), ap (λ z. p (getD xs z d)) (sym s) ∙ c)
+
+some-first : {A : Type 0} (p : A → Bool) (xs : List A) → any p xs ≡ true → (k : ℕ) × (first-from p 0 xs ≡ some k)
+some-first p xs h = by (first-from p 0 xs) refl
+  where
+    by : (o : Option ℕ) → first-from p 0 xs ≡ o → (k : ℕ) × (o ≡ some k)
+    by none e = absurd (true≢false (sym h ∙ any-first p 0 xs ∙ ap Rattle.sessions.proofs.Searching.is-some e))
+    by (some k) e = (k, refl)
+
+-- ---- a session with the sizes of its arrays, and valid
+
+pub record Kept (s : Session) : Type 0 where
+  pub ids : Held s
+  pub holds : Holds (s .«sub_lens») (s .deliveries)
+  pub only-open : in-phase open-phase s || eqb (s .deliveries .count) 0 ≡ true
+
+pub kept-valid : (s : Session) → Kept s → is-valid s ≡ true
+kept-valid s k = record-valid s (k .ids .valid) (ap₂ (_&&_) (k .holds .valid) (k .only-open))
+
+pub kept-of : (s : Session) → Sized s → SizedDeliveries (s .deliveries) → is-valid s ≡ true → Kept s
+unfolding is-valid
+kept-of s z y v =
+    let o = and-right (valid-ids s) (right-deliveries s) (and-right (valid-numbers s) (valid-ids s && right-deliveries s) v) in
+    let a = valid-deliveries (s .«sub_lens») (s .deliveries) in
+    let b = in-phase open-phase s || eqb (s .deliveries .count) 0 in
+    record {
+      ids = record { sized = z; valid = valid-record s v };
+      holds = record { sized = y; valid = and-left a b o };
+      only-open = and-right a b o;
+    }
+
+module _ (s : Session) (kept : Kept s) where
+  pub kept-closed : Kept (closed s)
+  kept-closed = record { ids = held-closed s (kept .ids); holds = holds-emptied (s .«sub_lens») (s .deliveries) (kept .holds) .0; only-open = or-yes (in-phase open-phase (closed s)) }
+
+  pub kept-heard : (time : ℕ) → Kept (heard s time)
+  kept-heard time = record { ids = held-heard s (kept .ids) time; holds = kept .holds; only-open = kept .only-open }
+
+  -- the lengths are those of the ids
+  pub lens-are : lengths (ids-of Subscriptions s) ≡ s .«sub_lens»
+  lens-are = lengths-ids id-max 16 (s .subs) (s .«sub_lens») (subscriptions-fit s (kept .ids))
+
+  -- an id entered in place k, or freed there
+  pub lens-put : (p : List ℕ → Bool) (y : List ℕ) (k : ℕ) → first-from p 0 (ids-of Subscriptions s) ≡ some k
+      → lengths (replaced p y (ids-of Subscriptions s)) ≡ set (s .«sub_lens») k (length y)
+  lens-put p y k e =
+      ap lengths (found-at p y k (ids-of Subscriptions s) (sym e) .1) ∙ lengths-set (ids-of Subscriptions s) k y ∙ ap (λ z. set z k (length y)) lens-are
+
+  -- a free place
+  pub lens-free : (k : ℕ) → first-from empty 0 (ids-of Subscriptions s) ≡ some k → getD (s .«sub_lens») k 0 ≡ 0
+  lens-free k e =
+      ap (λ z. getD z k 0) (sym lens-are) ∙ List·getD-map length (ids-of Subscriptions s) k [] ∙ none (getD (ids-of Subscriptions s) k []) (first-passes empty [] k (ids-of Subscriptions s) e .1)
+    where
+      none : (x : List ℕ) → empty x ≡ true → length x ≡ 0
+      none [] h = refl
+      none (y ∷ x) h = absurd (true≢false (sym h))
+
+  -- ---- the opening
+
+  pub kept-opened : in-phase fresh-phase s ≡ true → (shared : List Bool) (o : Option HeartBeats) → OfSome Small o → Kept (opened-by s shared o)
+  kept-opened f shared none small = kept
+  kept-opened f shared (some b) small = record { ids = held-opened s (kept .ids) f shared (some b) small; holds = kept .holds; only-open = refl }
+
+  -- ---- a frame that may name an id
+
+  -- what each effect leaves: the ids' lengths and the deliveries go together
+  abbrev Together : ℕ → List Entry → Type 0
+  Together n es = Holds ((naming-effect s n (named-id n es)) .«sub_lens») (delivery-effect s n es)
+
+  mode-known : (o : Option (List ℕ)) (m : Option ℕ) → mode-named o ≡ m → leb (mode-or-auto m) individual-mode ≡ true
+  mode-known none m e = ap (λ z. leb (mode-or-auto z) individual-mode) (sym e)
+  mode-known (some w) m e =
+      ap (λ z. leb (mode-or-auto z) individual-mode) (sym e)
+      ∙ cond-case (λ z. leb (mode-or-auto z) individual-mode ≡ true) (same w (octets-of "auto")) (λ h. refl)
+      (λ h. cond-case (λ z. leb (mode-or-auto z) individual-mode ≡ true) (same w (octets-of "client")) (λ h. refl)
+      (λ h. cond-case (λ z. leb (mode-or-auto z) individual-mode ≡ true) (same w (octets-of "client-individual")) (λ h. refl) (λ h. refl)))
+
+  some-long : (id : List ℕ) → id ≢ [] → length id ≡ 0 → ⊥
+  some-long [] n h = n refl
+  some-long (x ∷ id) n h = omega arith
+
+  -- SUBSCRIBE's place, and UNSUBSCRIBE's
+  pub enter-place : (id : List ℕ) → settle (use-checks id-max Enter id (ids-of Subscriptions s)) [] ≡ accepted [] → (k : ℕ) × (free-place s ≡ some k)
+  enter-place id e = some-first empty (ids-of Subscriptions s) (not-false (any empty (ids-of Subscriptions s)) (use-room id-max Enter id (ids-of Subscriptions s) [] [] e))
+
+  pub free-there : (id : List ℕ) → settle (use-checks id-max Free id (ids-of Subscriptions s)) [] ≡ accepted [] → (k : ℕ) × (place-named s (some id) ≡ some k)
+  free-there id e = some-first (λ x. same x id) (ids-of Subscriptions s) (not-false (live id (ids-of Subscriptions s)) (use-live id-max Free id (ids-of Subscriptions s) [] [] e))
+
+  together-subscribe : (es : List Entry) (id : List ℕ) (m : ℕ) → leb m individual-mode ≡ true → settle (use-checks id-max Enter id (ids-of Subscriptions s)) [] ≡ accepted []
+      → Holds (lengths (used Enter id (ids-of Subscriptions s))) (subscribe (free-place s) m (s .deliveries))
+  together-subscribe es id m known e =
+      let (k, f) = enter-place id e in
+      subst (λ z. Holds z (subscribe (free-place s) m (s .deliveries))) (sym (lens-put empty id k f))
+      (subst (λ o. Holds (set (s .«sub_lens») k (length id)) (subscribe o m (s .deliveries))) (sym f)
+      (holds-subscribed (s .«sub_lens») (s .deliveries) (kept .holds) k (length id) m (lens-free k f) (some-long id (use-some id-max Enter id (ids-of Subscriptions s) [] [] e)) known))
+
+  together-unsubscribe : (id : List ℕ) → settle (use-checks id-max Free id (ids-of Subscriptions s)) [] ≡ accepted []
+      → Holds (lengths (used Free id (ids-of Subscriptions s))) (unsubscribe (place-named s (some id)) (s .deliveries))
+  together-unsubscribe id e =
+      let (k, f) = free-there id e in
+      subst (λ z. Holds z (unsubscribe (place-named s (some id)) (s .deliveries))) (sym (lens-put (λ x. same x id) [] k f))
+      (subst (λ o. Holds (set (s .«sub_lens») k 0) (unsubscribe o (s .deliveries))) (sym f) (holds-unsubscribed (s .«sub_lens») (s .deliveries) (kept .holds) k .0))
+
+  together-settled : (o : Option (List ℕ)) → Holds (s .«sub_lens») (settle-named o (s .deliveries))
+  together-settled none = kept .holds
+  together-settled (some l) = by (first-of (labelled l) (pending (s .deliveries)))
+    where
+      by : (o : Option Pending) → Holds (s .«sub_lens») (settled-as l (s .deliveries) o)
+      by none = kept .holds
+      by (some p) = holds-settled (s .«sub_lens») (s .deliveries) (kept .holds) (labelled l) (goes-with (s .deliveries) p) .0
+
+  -- ids of transactions leave the subscriptions as they are
+  pub other-lens : (n : ℕ) (o : Option (List ℕ)) → is SUBSCRIBE n ≡ false → is UNSUBSCRIBE n ≡ false → SameSubscriptions (naming-effect s n o) s
+  other-lens n none a b = (refl, refl)
+  other-lens n (some id) a b = by (naming n .kind) kind
+    where
+      kind : naming n .kind ≡ Transactions
+      kind =
+          ap (λ t. cond t (naming-of Subscriptions Enter) (cond (is UNSUBSCRIBE n) (naming-of Subscriptions Free) others) .kind) a
+          ∙ ap (λ t. cond t (naming-of Subscriptions Free) others .kind) b
+          ∙ cond-case (λ (z : Naming). z .kind ≡ Transactions) (is BEGIN n) (λ e. refl)
+          (λ e. cond-case (λ (z : Naming). z .kind ≡ Transactions) (is COMMIT n || is ABORT n) (λ e. refl)
+          (λ e. cond-case (λ (z : Naming). z .kind ≡ Transactions) (is SEND n || (is ACK n || is NACK n)) (λ e. refl) (λ e. refl)))
+        where
+          others : Naming
+          others = cond (is BEGIN n) (naming-of Transactions Enter) (cond (is COMMIT n || is ABORT n) (naming-of Transactions Free)
+              (cond (is SEND n || (is ACK n || is NACK n)) (naming-of Transactions Need) (naming-of Transactions Nothing)))
+
+      by : (k : Kind) → k ≡ Transactions → SameSubscriptions (with-ids k s (used (naming n .usage) id (ids-of k s))) s
+      by Subscriptions e = absurd (let z : _≡_ {A = ℕ} 0 1 = cc in omega arith)
+      by Transactions e = (refl, refl)
+
+  -- the id that SUBSCRIBE and UNSUBSCRIBE need
+  needs-id : (o : Option (List ℕ)) → not (is-some o) ≡ false → (id : List ℕ) × (o ≡ some id)
+  needs-id none h = absurd (true≢false h)
+  needs-id (some id) h = (id, refl)
+
+  pub subscribe-id : (es : List Entry) → lacks-needed 14 es ≡ false → (id : List ℕ) × (value-of Id es ≡ some id)
+  subscribe-id es h = needs-id (value-of Id es) (or-false-right (not (is-some (value-of Destination es))) (not (is-some (value-of Id es))) h)
+
+  pub unsubscribe-id : (es : List Entry) → lacks-needed 15 es ≡ false → (id : List ℕ) × (value-of Id es ≡ some id)
+  unsubscribe-id es h = needs-id (value-of Id es) (or-false-left (not (is-some (value-of Id es))) false h)
+
+  together : (n : ℕ) (es : List Entry) → Passed s n es → Together n es
+  together n es p = by (is SUBSCRIBE n) (is UNSUBSCRIBE n) refl refl
+    where
+      others : is SUBSCRIBE n ≡ false → is UNSUBSCRIBE n ≡ false → Holds (s .«sub_lens») (cond (settles n) (settle-named (label-named es) (s .deliveries)) (s .deliveries)) → Together n es
+      others a b h =
+          subst (λ z. Holds z (delivery-effect s n es)) (sym (other-lens n (named-id n es) a b .1))
+          (subst (λ t. Holds (s .«sub_lens») (cond t (subscribe (free-place s) (mode-or-auto (mode-asked es)) (s .deliveries)) (cond (is UNSUBSCRIBE n) (unsubscribe (place-named s (value-of Id es)) (s .deliveries)) (cond (settles n) (settle-named (label-named es) (s .deliveries)) (s .deliveries))))) (sym a)
+          (subst (λ t. Holds (s .«sub_lens») (cond t (unsubscribe (place-named s (value-of Id es)) (s .deliveries)) (cond (settles n) (settle-named (label-named es) (s .deliveries)) (s .deliveries)))) (sym b) h))
+
+      entering : n ≡ 14 → Passed s 14 es → Together 14 es
+      entering e q =
+          let (id, v) = subscribe-id es (q .needs) in
+          subst (λ o. Holds ((naming-effect s 14 o) .«sub_lens») (delivery-effect s 14 es)) (sym v)
+          (together-subscribe es id (mode-or-auto (mode-asked es)) (mode-known (value-of Ack es) (mode-asked es) refl) (naming-settles s 14 es id (q .named) v))
+
+      freeing : n ≡ 15 → Passed s 15 es → Together 15 es
+      freeing e q =
+          let (id, v) = unsubscribe-id es (q .needs) in
+          subst (λ o. Holds ((naming-effect s 15 o) .«sub_lens») (unsubscribe (place-named s o) (s .deliveries))) (sym v) (together-unsubscribe id (naming-settles s 15 es id (q .named) v))
+
+      by : (a b : Bool) → is SUBSCRIBE n ≡ a → is UNSUBSCRIBE n ≡ b → Together n es
+      by true b e f = let k : n ≡ 14 = eqb-true n 14 e in subst (λ z. Passed s z es → Together z es) (sym k) (entering k) p
+      by false true e f = let k : n ≡ 15 = eqb-true n 15 f in subst (λ z. Passed s z es → Together z es) (sym k) (freeing k) p
+      by false false e f = others e f (cond-case (Holds (s .«sub_lens»)) (settles n) (λ t. together-settled (label-named es)) (λ t. kept .holds))
+
+  -- a frame that is not the opening one comes in an open session
+  open-yet : (n : ℕ) → opens n ≡ false → out-of-phase s n ≡ false → in-phase open-phase s ≡ true
+  open-yet n o t = not-false (in-phase open-phase s) (sym (ap (λ z. cond z (not (in-phase fresh-phase s)) (not (in-phase open-phase s))) o) ∙ t)
+
+  pub kept-effect : (n : ℕ) (es : List Entry) → Passed s n es → Kept (effect s n es)
+  kept-effect n es p = by (opens n) (is DISCONNECT n) refl refl (held-effect s (kept .ids) n es p)
+    where
+      by : (a b : Bool) → opens n ≡ a → is DISCONNECT n ≡ b → Held (effect s n es)
+          → Kept (cond a (opening s es) (cond b (closed s) (with-deliveries (naming-effect s n (named-id n es)) (delivery-effect s n es))))
+      by true b o d h =
+          kept-opened (not-false (in-phase fresh-phase s) (sym (ap (λ t. cond t (not (in-phase fresh-phase s)) (not (in-phase open-phase s))) o) ∙ p .in-turn))
+          (shared-by s (client-versions es)) (client-heart-beats es) (of-small (value-of HeartBeat es))
+      by false true o d h = kept-closed
+      by false false o d h =
+          record {
+            ids = held-deliveries (naming-effect s n (named-id n es)) (held-naming s (kept .ids) n es (p .named)) (delivery-effect s n es);
+            holds = together n es p;
+            only-open = ap (_|| eqb (delivery-effect s n es .count) 0) (ap (λ z. eqb z open-phase) (naming-phase s n (named-id n es)) ∙ open-yet n o (p .in-turn));
+          }
+
+  -- ---- a delivery
+
+  module _ (id label v : List ℕ) (e : settle (deliver-checks s id label) [] ≡ accepted v) where
+    passes : All Passes (deliver-checks s id label)
+    passes = all-pass (deliver-checks s id label) [] v e
+
+    pub deliver-open : in-phase open-phase s ≡ true
+    deliver-open = not-false (in-phase open-phase s) (passes .1 .0)
+
+    pub deliver-id : empty id ≡ false
+    deliver-id = or-false-left (empty id) (not (live id (ids-of Subscriptions s))) (passes .1 .1 .0)
+
+    pub deliver-place : (k : ℕ) × (place-named s (some id) ≡ some k)
+    deliver-place =
+        some-first (λ x. same x id) (ids-of Subscriptions s) (not-false (live id (ids-of Subscriptions s)) (or-false-right (empty id) (not (live id (ids-of Subscriptions s))) (passes .1 .1 .0)))
+
+    good-label : bad-length label-max label ≡ false
+    good-label = or-false-left (bad-length label-max label) (is-pending label (s .deliveries)) (passes .1 .1 .1 .0)
+
+    module _ (k : ℕ) (f : place-named s (some id) ≡ some k) where
+      pub deliver-at : getD (ids-of Subscriptions s) k [] ≡ id
+      deliver-at = same-eq (getD (ids-of Subscriptions s) k []) id (first-passes (λ x. same x id) [] k (ids-of Subscriptions s) f .1)
+
+      there : getD (s .«sub_lens») k 0 ≢ 0
+      there z =
+          let long : length id ≡ 0 = ap length (sym deliver-at) ∙ sym (List·getD-map length (ids-of Subscriptions s) k []) ∙ ap (λ z. getD z k 0) lens-are ∙ z in
+          true≢false (sym (empty-zero id long) ∙ deliver-id)
+
+      module _ (a : eqb (mode-of (s .deliveries) k) auto-mode ≡ false) where
+        room : s .deliveries .count < 64
+        room =
+            leb-false 64 (s .deliveries .count)
+            (and-false (not (is-auto s (place-named s (some id)))) (leb 64 (s .deliveries .count)) (passes .1 .1 .1 .1 .0) (ap (λ o. not (is-auto s o)) f ∙ ap not a))
+
+        sound : Proper (s .«sub_lens») (s .deliveries .modes) (record { place = k; label = label })
+        sound =
+            record {
+              short = le-leb (length label) label-max (ltb-false label-max (length label) (or-false-right (empty label) (ltb label-max (length label)) good-label));
+              there = ap not (sym (empty-eqb label) ∙ or-false-left (empty label) (ltb label-max (length label)) good-label);
+              acks = ap₂ (λ x y. not x && not y) (ne-eqb (getD (s .«sub_lens») k 0) 0 there) a;
+            }
+
+        pub deliver-entered : Holds (s .«sub_lens») (with-pending (s .deliveries) (pending (s .deliveries) ++ (record { place = k; label = label } ∷ [])))
+            × (pending (with-pending (s .deliveries) (pending (s .deliveries) ++ (record { place = k; label = label } ∷ []))) ≡ pending (s .deliveries) ++ (record { place = k; label = label } ∷ []))
+        deliver-entered =
+            holds-snoc (s .«sub_lens») (s .deliveries) (kept .holds) (record { place = k; label = label }) room sound
+            (or-false-right (bad-length label-max label) (is-pending label (s .deliveries)) (passes .1 .1 .1 .0))
+
+  kept-with : in-phase open-phase s ≡ true → (d : Deliveries) → Holds (s .«sub_lens») d → Kept (with-deliveries s d)
+  kept-with o d h = record { ids = held-deliveries s (kept .ids) d; holds = h; only-open = ap (_|| eqb (d .count) 0) o }
+
+  kept-recorded : (id label v : List ℕ) → settle (deliver-checks s id label) [] ≡ accepted v → Kept (with-deliveries s (record-label (place-named s (some id)) label (s .deliveries)))
+  kept-recorded id label v e = placed (place-named s (some id)) refl
+    where
+      placed : (o : Option ℕ) → place-named s (some id) ≡ o → Kept (with-deliveries s (record-label o label (s .deliveries)))
+      placed none f = kept-with (deliver-open id label v e) (s .deliveries) (kept .holds)
+      placed (some k) f =
+          cond-case (λ d. Kept (with-deliveries s d)) (eqb (mode-of (s .deliveries) k) auto-mode) (λ a. kept-with (deliver-open id label v e) (s .deliveries) (kept .holds))
+          (λ a. kept-with (deliver-open id label v e) (with-pending (s .deliveries) (pending (s .deliveries) ++ (record { place = k; label = label } ∷ []))) (deliver-entered id label v e k f a .0))
+
+  pub kept-deliver : (id label : List ℕ) → Kept (deliver-session s id label)
+  unfolding deliver-session deliver-answer
+  kept-deliver id label = by (deliver-answer s id label) refl
+    where
+      by : (A : Answer) → settle (deliver-checks s id label) [] ≡ A → Kept (recorded-by A s (with-deliveries s (record-label (place-named s (some id)) label (s .deliveries))))
+      by (refused k) e = kept
+      by (accepted v) e = kept-recorded id label v e
+
+-- ---- the calls
+
+pub kept-frame : (s : Session) (n : ℕ) (block : List ℕ) (time : ℕ) → Kept s → Kept (frame-session s n block time)
+unfolding frame-session
+kept-frame s n block time k =
+    left-case Kept (frame-answer s n block) s (heard (effect s n (listed (entries block))) time) k (kept-closed s k)
+    (λ v e. kept-heard (effect s n (listed (entries block))) (kept-effect s k n (listed (entries block)) (frame-passed s n block v e)) time)
+
+pub kept-heart-beat : (s : Session) (time : ℕ) → Kept s → Kept (heart-beat-session s time)
+unfolding heart-beat-session
+kept-heart-beat s time k = left-case Kept (heart-beat-answer s) s (heard s time) k (kept-closed s k) (λ v e. kept-heard s k time)
+
+pub kept-next : (s : Session) (c : Call) → Kept s → Kept (next s c)
+kept-next s (frame n block time) k = kept-frame s n block time k
+kept-next s (heart-beat time) k = kept-heart-beat s time k
+kept-next s (deliver id label) k = kept-deliver s k id label
+
+pub kept-after : (s : Session) (cs : List Call) → Kept s → Kept (after s cs)
+kept-after s [] k = k
+kept-after s (c ∷ cs) k = kept-after (next s c) cs (kept-next s c k)
+
+-- ---- a session that is made
+
+pub made-none : (sends wants : ℕ) (offered : List Bool) → (made sends wants offered .deliveries ≡ no-deliveries) × (made sends wants offered .«sub_lens» ≡ replicate 16 0)
+unfolding made
+made-none sends wants offered = by (making-answer sends wants offered)
+  where
+    by : (A : Answer) → (made-by A sends wants offered .deliveries ≡ no-deliveries) × (made-by A sends wants offered .«sub_lens» ≡ replicate 16 0)
+    by (accepted v) = (refl, refl)
+    by (refused k) = (refl, refl)
+
+pub made-ids : (sends wants : ℕ) (offered : List Bool) → ids-of Subscriptions (made sends wants offered) ≡ replicate 16 []
+unfolding made
+made-ids sends wants offered = by (making-answer sends wants offered)
+  where
+    by : (A : Answer) → ids-of Subscriptions (made-by A sends wants offered) ≡ replicate 16 []
+    by (accepted v) = zeros-ids id-max 16
+    by (refused k) = zeros-ids id-max 16
+
+none-holds : Holds (replicate 16 0) no-deliveries
+unfolding valid-deliveries valid-store clean ids distinct
+none-holds =
+    record {
+      sized = record { labels-long = length-replicate {A = ℕ} 2048 0; lens-long = length-replicate {A = ℕ} 64 0; places-long = length-replicate {A = ℕ} 64 0; modes-long = length-replicate {A = ℕ} 16 0 };
+      valid = ap₂ (λ a b. (a && true) && (b && true)) (every-replicate (λ x. eqb x 0) 2048 0 refl) (every-replicate (λ x. eqb x 0) 64 0 refl);
+    }
+
+pub kept-made : (sends wants : ℕ) (offered : List Bool) → Kept (made sends wants offered)
+kept-made sends wants offered =
+    let (d, l) = made-none sends wants offered in
+    record {
+      ids = held-made sends wants offered;
+      holds = subst (λ z. Holds z (made sends wants offered .deliveries)) (sym l) (subst (Holds (replicate 16 0)) (sym d) none-holds);
+      only-open = ap (λ (z : Deliveries). in-phase open-phase (made sends wants offered) || eqb (z .count) 0) d ∙ or-yes (in-phase open-phase (made sends wants offered));
+    }
+
+-- every history leaves a valid record: 38's rule "refuses nothing that calls from a fresh session leave"
+pub made-after : (sends wants : ℕ) (offered : List Bool) (cs : List Call) → is-valid (after (made sends wants offered) cs) ≡ true
+made-after sends wants offered cs = kept-valid (after (made sends wants offered) cs) (kept-after (made sends wants offered) cs (kept-made sends wants offered))

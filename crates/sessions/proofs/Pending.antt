@@ -1,0 +1,481 @@
+-- Pending deliveries as a list and laid out. Assumes nothing.
+--     pending-with                 deliveries laid out are those that the record holds
+use mathlib.Core.Path.{_≡_, refl, sym, ap, ap₂, _∙_}
+use mathlib.Core.Bool.{Bool, true, false, cond, _&&_, _||_, not, true≢false}
+use mathlib.Core.Option.{some}
+use mathlib.Core.List.{List, [], _∷_, _++_, map}
+use Prim.Native.Nat.{ℕ, zero, suc, _+_, _-_, _*_, _≤_, _<_}
+use native.Mathlib.Omega.{arith}
+use lib.Dec.{eqb, leb}
+use lib.ListN.{length, take, drop, getD, set, replicate, length-append, length-map, length-replicate, length-set}
+use lib.Seq.{take-at, drop-at, length-take-le, getD-set-other}
+use borrow.Author.Tests.{leb-true, le-leb, not-true, eqb-false, ne-eqb}
+use Rattle.headers.specs.Rows.{every, any, empty, same, All}
+use Rattle.headers.proofs.Rows.{and-left, and-right, cond-case, every-replicate, empty-eqb, or-yes, or-false-left, or-false-right}
+use Rattle.sessions.specs.Stores.{ids, laid, lengths, is-zero, distinct, live, valid-store}
+use Rattle.sessions.specs.Sessions.{SizedDeliveries}
+use Rattle.sessions.specs.Deliveries.{deliveries-max, label-max, auto-mode, individual-mode, Pending, paired, pending, labels-of, places-of, filled, labelled, with-pending, with-modes, without, settled, emptied, unsubscribe, Laid, known-modes, idle-modes, valid-labels, acknowledging, valid-places, valid-modes, valid-pending, valid-deliveries}
+use Rattle.sessions.specs.Places.{Fits}
+use Rattle.sessions.specs.declared.delivery.Deliveries.{Deliveries}
+use Rattle.sessions.proofs.Rows.{same-apart}
+use Rattle.sessions.proofs.Stores.{are-short, ids-laid, length-laid, laid-valid, valid-distinct, valid-clean, valid-short, valid-fits, ids-short, length-ids, lengths-ids, zeros}
+
+-- ---- a view laid out
+
+filled-front : (n k : ℕ) (xs : List ℕ) → length xs ≡ k → take k (filled n xs) ≡ xs
+filled-front n k xs e = take-at xs (replicate (n - length xs) 0) k e
+
+filled-behind : (n k : ℕ) (xs : List ℕ) → length xs ≡ k → is-zero (drop k (filled n xs)) ≡ true
+filled-behind n k xs e = ap is-zero (drop-at xs (replicate (n - length xs) 0) k e) ∙ every-replicate (λ x. eqb x 0) (n - length xs) 0 refl
+
+filled-long : (n : ℕ) (xs : List ℕ) → length xs ≤ n → length (filled n xs) ≡ n
+filled-long n xs h = simp (length-append, length-replicate) (omega arith)
+
+paired-again : (ps : List Pending) → paired (places-of ps) (labels-of ps) ≡ ps
+paired-again [] = refl
+paired-again (p ∷ ps) = ap (p ∷_) (paired-again ps)
+
+module _ (ps : List Pending) (few : length ps ≤ 64) (short : are-short label-max (labels-of ps) ≡ true) where
+  labels-count : length (labels-of ps) ≡ length ps
+  labels-count = length-map ps (λ (p : Pending). p .label)
+
+  octets-long : length (laid label-max (labels-of ps)) ≡ length ps * label-max
+  octets-long = length-laid label-max (labels-of ps) short ∙ ap (_* label-max) labels-count
+
+  lens-long : length (lengths (labels-of ps)) ≡ length ps
+  lens-long = length-map (labels-of ps) length ∙ labels-count
+
+  places-long : length (places-of ps) ≡ length ps
+  places-long = length-map ps (λ (p : Pending). p .place)
+
+  pub pending-with : (d : Deliveries) → pending (with-pending d ps) ≡ ps
+  unfolding with-pending
+  pending-with d =
+      ap₂ paired (filled-front 64 (length ps) (places-of ps) places-long)
+      (ap₂ (ids label-max) (filled-front 2048 (length ps * label-max) (laid label-max (labels-of ps)) octets-long) (filled-front 64 (length ps) (lengths (labels-of ps)) lens-long)
+      ∙ ids-laid label-max (labels-of ps) short)
+      ∙ paired-again ps
+
+  pub sized-with : (d : Deliveries) → length (d .modes) ≡ 16 → SizedDeliveries (with-pending d ps)
+  unfolding with-pending
+  sized-with d h =
+      record {
+        labels-long = filled-long 2048 (laid label-max (labels-of ps)) (omega (arith, octets-long));
+        lens-long = filled-long 64 (lengths (labels-of ps)) (omega (arith, lens-long));
+        places-long = filled-long 64 (places-of ps) (omega (arith, places-long));
+        modes-long = h;
+      }
+
+  there-lengths : every (λ (x : List ℕ). not (eqb (length x) 0)) (labels-of ps) ≡ true → every (λ l. not (eqb l 0)) (lengths (labels-of ps)) ≡ true
+  there-lengths = by (labels-of ps)
+    where
+      by : (xs : List (List ℕ)) → every (λ (x : List ℕ). not (eqb (length x) 0)) xs ≡ true → every (λ l. not (eqb l 0)) (lengths xs) ≡ true
+      by [] h = refl
+      by (x ∷ xs) h = ap₂ (_&&_) (and-left (not (eqb (length x) 0)) (every (λ (y : List ℕ). not (eqb (length y) 0)) xs) h) (by xs (and-right (not (eqb (length x) 0)) (every (λ (y : List ℕ). not (eqb (length y) 0)) xs) h))
+
+  -- such a record is valid where its labels are there and distinct, and each is of a subscription that acknowledges
+  pub valid-with : (lens : List ℕ) (d : Deliveries) → known-modes (d .modes) ≡ true → idle-modes lens (d .modes) ≡ true
+      → every (λ (x : List ℕ). not (eqb (length x) 0)) (labels-of ps) ≡ true → distinct (labels-of ps) ≡ true
+      → every (acknowledging lens (d .modes)) (places-of ps) ≡ true → valid-deliveries lens (with-pending d ps) ≡ true
+  unfolding with-pending valid-deliveries
+  valid-with lens d known idle there apart places =
+      ap₂ (_&&_) (le-leb (length ps) 64 few) (ap₂ (_&&_) (ap₂ (_&&_) known idle) (ap₂ (_&&_) labels
+      (ap₂ (_&&_) (ap (every (acknowledging lens (d .modes))) (filled-front 64 (length ps) (places-of ps) places-long) ∙ places) (filled-behind 64 (length ps) (places-of ps) places-long))))
+    where
+      labels : valid-labels (length ps) (filled 2048 (laid label-max (labels-of ps))) (filled 64 (lengths (labels-of ps))) ≡ true
+      labels =
+          ap₂ (_&&_) (ap₂ (valid-store label-max) (filled-front 2048 (length ps * label-max) (laid label-max (labels-of ps)) octets-long) (filled-front 64 (length ps) (lengths (labels-of ps)) lens-long)
+          ∙ laid-valid label-max (labels-of ps) short apart)
+          (ap₂ (_&&_) (ap (every (λ l. not (eqb l 0))) (filled-front 64 (length ps) (lengths (labels-of ps)) lens-long) ∙ there-lengths there)
+          (ap₂ (_&&_) (filled-behind 2048 (length ps * label-max) (laid label-max (labels-of ps)) octets-long) (filled-behind 64 (length ps) (lengths (labels-of ps)) lens-long)))
+
+-- ---- what the pending deliveries of a valid record are
+
+-- each passes a test, as a boolean and as a fact of each
+every-all : {A : Type 0} (f : A → Bool) (xs : List A) → every f xs ≡ true → All (λ x. f x ≡ true) xs
+every-all f [] h = tt
+every-all f (x ∷ xs) h = (and-left (f x) (every f xs) h, every-all f xs (and-right (f x) (every f xs) h))
+
+all-every : {A : Type 0} (f : A → Bool) (xs : List A) → All (λ x. f x ≡ true) xs → every f xs ≡ true
+all-every f [] h = refl
+all-every f (x ∷ xs) (h, more) = ap₂ (_&&_) h (all-every f xs more)
+
+every-map : {A B : Type 0} (f : B → Bool) (g : A → B) (xs : List A) → every f (map g xs) ≡ every (λ x. f (g x)) xs
+every-map f g [] = refl
+every-map f g (x ∷ xs) = ap (f (g x) &&_) (every-map f g xs)
+
+pub any-map : {A B : Type 0} (f : B → Bool) (g : A → B) (xs : List A) → any f (map g xs) ≡ any (λ x. f (g x)) xs
+any-map f g [] = refl
+any-map f g (x ∷ xs) = ap (f (g x) ||_) (any-map f g xs)
+
+pub all-with : {A : Type 0} {P Q : A → Type 0} → ((x : A) → P x → Q x) → (xs : List A) → All P xs → All Q xs
+all-with f [] h = tt
+all-with f (x ∷ xs) (h, more) = (f x h, all-with f xs more)
+
+-- a label that is there, and its subscription acknowledges
+pub record Proper (lens ms : List ℕ) (p : Pending) : Type 0 where
+  pub short : leb (length (p .label)) label-max ≡ true
+  pub there : not (eqb (length (p .label)) 0) ≡ true
+  pub acks : acknowledging lens ms (p .place) ≡ true
+
+-- each has another label than those behind it
+abbrev pub Apart : List Pending → Type 0
+Apart [] = Unit {0}
+Apart (p ∷ ps) = (any (labelled (p .label)) ps ≡ false) × Apart ps
+
+pub record Good (lens ms : List ℕ) (ps : List Pending) : Type 0 where
+  pub few : length ps ≤ 64
+  pub each : All (Proper lens ms) ps
+  pub apart : Apart ps
+
+some-label : (l : List ℕ) → not (eqb (length l) 0) ≡ true → empty l ≡ false
+some-label l h = empty-eqb l ∙ not-true (eqb (length l) 0) h
+
+distinct-apart : (ps : List Pending) → All (λ p. not (eqb (length (p .label)) 0) ≡ true) ps → distinct (labels-of ps) ≡ true → Apart ps
+unfolding distinct
+distinct-apart [] a h = tt
+distinct-apart (p ∷ ps) (a, more) h =
+    let first : empty (p .label) || not (live (p .label) (labels-of ps)) ≡ true = and-left (empty (p .label) || not (live (p .label) (labels-of ps))) (distinct (labels-of ps)) h in (
+      sym (any-map (λ x. same x (p .label)) (λ (q : Pending). q .label) ps)
+          ∙ not-true (live (p .label) (labels-of ps)) (sym (ap (_|| not (live (p .label) (labels-of ps))) (some-label (p .label) a)) ∙ first),
+      distinct-apart ps more (and-right (empty (p .label) || not (live (p .label) (labels-of ps))) (distinct (labels-of ps)) h),
+    )
+
+apart-distinct : (ps : List Pending) → Apart ps → distinct (labels-of ps) ≡ true
+unfolding distinct
+apart-distinct [] a = refl
+apart-distinct (p ∷ ps) (a, more) =
+    ap₂ (_&&_) (ap (λ t. empty (p .label) || not t) (any-map (λ x. same x (p .label)) (λ (q : Pending). q .label) ps ∙ a) ∙ or-yes (empty (p .label))) (apart-distinct ps more)
+
+-- deliveries that are good, laid out, are valid
+pub good-with : (lens : List ℕ) (d : Deliveries) (ps : List Pending) → known-modes (d .modes) ≡ true → idle-modes lens (d .modes) ≡ true → Good lens (d .modes) ps
+    → (valid-deliveries lens (with-pending d ps) ≡ true) × (pending (with-pending d ps) ≡ ps)
+good-with lens d ps known idle g =
+    let short : are-short label-max (labels-of ps) ≡ true = every-map (λ (x : List ℕ). leb (length x) label-max) (λ (p : Pending). p .label) ps ∙ all-every (λ (p : Pending). leb (length (p .label)) label-max) ps (all-with (λ p s. s .short) ps (g .each)) in (
+      valid-with ps (g .few) short lens d known idle
+          (every-map (λ (x : List ℕ). not (eqb (length x) 0)) (λ (p : Pending). p .label) ps ∙ all-every (λ (p : Pending). not (eqb (length (p .label)) 0)) ps (all-with (λ p s. s .there) ps (g .each)))
+          (apart-distinct ps (g .apart))
+          (every-map (acknowledging lens (d .modes)) (λ (p : Pending). p .place) ps ∙ all-every (λ (p : Pending). acknowledging lens (d .modes) (p .place)) ps (all-with (λ p s. s .acks) ps (g .each))),
+      pending-with ps (g .few) short d,
+    )
+
+good-short : (lens ms : List ℕ) (ps : List Pending) → Good lens ms ps → are-short label-max (labels-of ps) ≡ true
+good-short lens ms ps g =
+    every-map (λ (x : List ℕ). leb (length x) label-max) (λ (p : Pending). p .label) ps ∙ all-every (λ (p : Pending). leb (length (p .label)) label-max) ps (all-with (λ p s. s .short) ps (g .each))
+
+pub good-sized : (lens : List ℕ) (d : Deliveries) (ps : List Pending) → Good lens (d .modes) ps → length (d .modes) ≡ 16 → SizedDeliveries (with-pending d ps)
+good-sized lens d ps g h = sized-with ps (g .few) (good-short lens (d .modes) ps g) d h
+
+pub places-paired : (ps : List ℕ) (ls : List (List ℕ)) → length ps ≡ length ls → places-of (paired ps ls) ≡ ps
+places-paired [] ls h = refl
+places-paired (p ∷ ps) [] h = absurd (omega arith)
+places-paired (p ∷ ps) (l ∷ ls) h = ap (p ∷_) (places-paired ps ls (omega arith))
+
+pub labels-paired : (ps : List ℕ) (ls : List (List ℕ)) → length ps ≡ length ls → labels-of (paired ps ls) ≡ ls
+labels-paired [] [] h = refl
+labels-paired [] (l ∷ ls) h = absurd (omega arith)
+labels-paired (p ∷ ps) [] h = absurd (omega arith)
+labels-paired (p ∷ ps) (l ∷ ls) h = ap (l ∷_) (labels-paired ps ls (omega arith))
+
+module _ (lens : List ℕ) (d : Deliveries) (sized : SizedDeliveries d) (valid : valid-deliveries lens d ≡ true) where
+  parts : (leb (d .count) deliveries-max ≡ true) × (known-modes (d .modes) ≡ true) × (idle-modes lens (d .modes) ≡ true)
+      × (valid-labels (d .count) (d .labels) (d .lens) ≡ true) × (valid-places (d .count) (d .places) lens (d .modes) ≡ true)
+  unfolding valid-deliveries
+  parts =
+      let a = and-right (leb (d .count) deliveries-max) (valid-modes lens d && valid-pending lens d (d .count)) valid in
+      let b = and-left (valid-modes lens d) (valid-pending lens d (d .count)) a in
+      let c = and-right (valid-modes lens d) (valid-pending lens d (d .count)) a in (
+        and-left (leb (d .count) deliveries-max) (valid-modes lens d && valid-pending lens d (d .count)) valid,
+        and-left (known-modes (d .modes)) (idle-modes lens (d .modes)) b,
+        and-right (known-modes (d .modes)) (idle-modes lens (d .modes)) b,
+        and-left (valid-labels (d .count) (d .labels) (d .lens)) _ c,
+        and-right (valid-labels (d .count) (d .labels) (d .lens)) _ c,
+      )
+
+  pub held-few : d .count ≤ 64
+  held-few = leb-true (d .count) 64 (parts .0)
+
+  pub held-known : known-modes (d .modes) ≡ true
+  held-known = parts .1
+
+  pub held-idle : idle-modes lens (d .modes) ≡ true
+  held-idle = parts .2
+
+  store-valid : valid-store label-max (take (d .count * label-max) (d .labels)) (take (d .count) (d .lens)) ≡ true
+  store-valid = and-left (valid-store label-max (take (d .count * label-max) (d .labels)) (take (d .count) (d .lens))) _ (parts .3)
+
+  lens-there : every (λ l. not (eqb l 0)) (take (d .count) (d .lens)) ≡ true
+  lens-there = and-left (every (λ l. not (eqb l 0)) (take (d .count) (d .lens))) _ (and-right (valid-store label-max (take (d .count * label-max) (d .labels)) (take (d .count) (d .lens))) _ (parts .3))
+
+  pub places-ack : every (acknowledging lens (d .modes)) (take (d .count) (d .places)) ≡ true
+  places-ack = and-left (every (acknowledging lens (d .modes)) (take (d .count) (d .places))) _ (parts .4)
+
+  front-fits : Fits label-max (d .count) (take (d .count * label-max) (d .labels)) (take (d .count) (d .lens))
+  front-fits =
+      valid-fits label-max (take (d .count * label-max) (d .labels)) (take (d .count) (d .lens)) store-valid (d .count)
+      (length-take-le (d .count) (d .lens) (omega (arith, held-few, sized .lens-long)))
+      (length-take-le (d .count * label-max) (d .labels) (omega (arith, held-few, sized .labels-long)))
+
+  alike-long : length (take (d .count) (d .places)) ≡ length (ids label-max (take (d .count * label-max) (d .labels)) (take (d .count) (d .lens)))
+  alike-long =
+      length-take-le (d .count) (d .places) (omega (arith, held-few, sized .places-long))
+      ∙ sym (length-ids label-max (take (d .count * label-max) (d .labels)) (take (d .count) (d .lens)) ∙ length-take-le (d .count) (d .lens) (omega (arith, held-few, sized .lens-long)))
+
+  pub held-places : places-of (pending d) ≡ take (d .count) (d .places)
+  held-places = places-paired (take (d .count) (d .places)) _ alike-long
+
+  held-labels : labels-of (pending d) ≡ ids label-max (take (d .count * label-max) (d .labels)) (take (d .count) (d .lens))
+  held-labels = labels-paired (take (d .count) (d .places)) _ alike-long
+
+  pub held-count : length (pending d) ≡ d .count
+  held-count = sym (length-map (pending d) (λ (p : Pending). p .place)) ∙ ap length held-places ∙ length-take-le (d .count) (d .places) (omega (arith, held-few, sized .places-long))
+
+  there-all : All (λ (p : Pending). not (eqb (length (p .label)) 0) ≡ true) (pending d)
+  there-all =
+      every-all (λ (p : Pending). not (eqb (length (p .label)) 0)) (pending d)
+      (sym (every-map (λ l. not (eqb l 0)) length (labels-of (pending d)) ∙ every-map (λ (x : List ℕ). not (eqb (length x) 0)) (λ (p : Pending). p .label) (pending d))
+      ∙ ap (λ z. every (λ l. not (eqb l 0)) (lengths z)) held-labels ∙ ap (every (λ l. not (eqb l 0))) (lengths-ids label-max (d .count) _ _ front-fits) ∙ lens-there)
+
+  short-all : All (λ (p : Pending). leb (length (p .label)) label-max ≡ true) (pending d)
+  short-all =
+      every-all (λ (p : Pending). leb (length (p .label)) label-max) (pending d)
+      (sym (every-map (λ (x : List ℕ). leb (length x) label-max) (λ (p : Pending). p .label) (pending d)) ∙ ap (are-short label-max) held-labels ∙ ids-short label-max (d .count) _ _ front-fits)
+
+  acks-all : All (λ (p : Pending). acknowledging lens (d .modes) (p .place) ≡ true) (pending d)
+  acks-all =
+      every-all (λ (p : Pending). acknowledging lens (d .modes) (p .place)) (pending d)
+      (sym (every-map (acknowledging lens (d .modes)) (λ (p : Pending). p .place) (pending d)) ∙ ap (every (acknowledging lens (d .modes))) held-places ∙ places-ack)
+
+  -- those of a valid record are good
+  pub held-good : Good lens (d .modes) (pending d)
+  held-good =
+      record {
+        few = omega (arith, held-count, held-few);
+        each = sounds (pending d) short-all there-all acks-all;
+        apart = distinct-apart (pending d) there-all (ap distinct held-labels ∙ valid-distinct label-max _ _ store-valid);
+      }
+    where
+      sounds : (ps : List Pending) → All (λ (p : Pending). leb (length (p .label)) label-max ≡ true) ps → All (λ (p : Pending). not (eqb (length (p .label)) 0) ≡ true) ps
+          → All (λ (p : Pending). acknowledging lens (d .modes) (p .place) ≡ true) ps → All (Proper lens (d .modes)) ps
+      sounds [] a b c = tt
+      sounds (p ∷ ps) (a, x) (b, y) (c, z) = (record { short = a; there = b; acks = c }, sounds ps x y z)
+
+  behind-zero : (is-zero (drop (d .count * label-max) (d .labels)) ≡ true) × (is-zero (drop (d .count) (d .lens)) ≡ true) × (is-zero (drop (d .count) (d .places)) ≡ true)
+  behind-zero =
+      let rest = and-right (every (λ l. not (eqb l 0)) (take (d .count) (d .lens))) _ (and-right (valid-store label-max (take (d .count * label-max) (d .labels)) (take (d .count) (d .lens))) _ (parts .3)) in (
+        and-left (is-zero (drop (d .count * label-max) (d .labels))) _ rest,
+        and-right (is-zero (drop (d .count * label-max) (d .labels))) _ rest,
+        and-right (every (acknowledging lens (d .modes)) (take (d .count) (d .places))) _ (parts .4),
+      )
+
+  -- with other modes and subscriptions
+  pub valid-again : (lens′ ms : List ℕ) → known-modes ms ≡ true → idle-modes lens′ ms ≡ true → Good lens′ ms (pending d) → valid-deliveries lens′ (with-modes d ms) ≡ true
+  unfolding valid-deliveries
+  valid-again lens′ ms known idle g =
+      ap₂ (_&&_) (parts .0) (ap₂ (_&&_) (ap₂ (_&&_) known idle) (ap₂ (_&&_) (parts .3)
+      (ap₂ (_&&_) (ap (every (acknowledging lens′ ms)) (sym held-places) ∙ every-map (acknowledging lens′ ms) (λ (p : Pending). p .place) (pending d)
+      ∙ all-every (λ (p : Pending). acknowledging lens′ ms (p .place)) (pending d) (all-with (λ p s. s .acks) (pending d) (g .each)))
+      (and-right (every (acknowledging lens (d .modes)) (take (d .count) (d .places))) _ (parts .4)))))
+
+-- a record that holds none is emptied
+pub emptied-laid : (d : Deliveries) → SizedDeliveries d → is-zero (drop (d .count * label-max) (d .labels)) ≡ true → is-zero (drop (d .count) (d .lens)) ≡ true
+    → is-zero (drop (d .count) (d .places)) ≡ true → d .count ≡ 0 → emptied d ≡ d
+emptied-laid d sized labels-zero lens-zero places-zero e =
+    let a : d .labels ≡ replicate 2048 0 = zeros (d .labels) (sym (ap (λ n. is-zero (drop (n * label-max) (d .labels))) e) ∙ labels-zero) ∙ ap (λ n. replicate n 0) (sized .labels-long) in
+    let b : d .lens ≡ replicate 64 0 = zeros (d .lens) (sym (ap (λ n. is-zero (drop n (d .lens))) e) ∙ lens-zero) ∙ ap (λ n. replicate n 0) (sized .lens-long) in
+    let c : d .places ≡ replicate 64 0 = zeros (d .places) (sym (ap (λ n. is-zero (drop n (d .places))) e) ∙ places-zero) ∙ ap (λ n. replicate n 0) (sized .places-long) in
+    ap₂ (λ x y. record { labels = x; lens = y; places = replicate 64 0; modes = d .modes; count = 0 }) (sym a) (sym b)
+    ∙ ap₂ (λ x y. record { labels = d .labels; lens = d .lens; places = x; modes = d .modes; count = y }) (sym c) (sym e)
+
+pub emptied-same : (lens : List ℕ) (d : Deliveries) → SizedDeliveries d → valid-deliveries lens d ≡ true → d .count ≡ 0 → emptied d ≡ d
+emptied-same lens d sized valid e =
+    let (labels-zero, lens-zero, places-zero) = behind-zero lens d sized valid in
+    emptied-laid d sized labels-zero lens-zero places-zero e
+
+-- ---- fewer deliveries
+
+module _ (f : Pending → Bool) where
+  all-without : (P : Pending → Type 0) (ps : List Pending) → All P ps → All P (without f ps)
+  all-without P [] h = tt
+  all-without P (p ∷ ps) (h, more) = cond-case (All P) (f p) (λ e. all-without P ps more) (λ e. (h, all-without P ps more))
+
+  -- those that stay fail the test
+  pub without-fail : (ps : List Pending) → All (λ p. f p ≡ false) (without f ps)
+  without-fail [] = tt
+  without-fail (p ∷ ps) = cond-case (All (λ q. f q ≡ false)) (f p) (λ e. without-fail ps) (λ e. (e, without-fail ps))
+
+  any-without : (g : Pending → Bool) (ps : List Pending) → any g ps ≡ false → any g (without f ps) ≡ false
+  any-without g [] h = refl
+  any-without g (p ∷ ps) h =
+      let rest = any-without g ps (or-false-right (g p) (any g ps) h) in
+      cond-case (λ z. any g z ≡ false) (f p) (λ e. rest) (λ e. ap₂ (_||_) (or-false-left (g p) (any g ps) h) rest)
+
+  apart-without : (ps : List Pending) → Apart ps → Apart (without f ps)
+  apart-without [] a = tt
+  apart-without (p ∷ ps) (a, more) = cond-case Apart (f p) (λ e. apart-without ps more) (λ e. (any-without (labelled (p .label)) ps a, apart-without ps more))
+
+  few-without : (ps : List Pending) → length (without f ps) ≤ length ps
+  few-without [] = omega arith
+  few-without (p ∷ ps) = let rest = few-without ps in cond-case (λ (z : List Pending). length z ≤ suc (length ps)) (f p) (λ e. omega arith) (λ e. omega arith)
+
+  pub good-without : (lens ms : List ℕ) (ps : List Pending) → Good lens ms ps → Good lens ms (without f ps)
+  good-without lens ms ps g =
+      record { few = omega (arith, few-without ps, g .few); each = all-without (Proper lens ms) ps (g .each); apart = apart-without ps (g .apart) }
+
+module _ (f g : Pending → Bool) where
+  all-settled : (P : Pending → Type 0) (ps : List Pending) → All P ps → All P (settled f g ps)
+  all-settled P [] h = tt
+  all-settled P (p ∷ ps) (h, more) = cond-case (All P) (f p) (λ e. more) (λ e. cond-case (All P) (g p) (λ e. all-settled P ps more) (λ e. (h, all-settled P ps more)))
+
+  any-settled : (t : Pending → Bool) (ps : List Pending) → any t ps ≡ false → any t (settled f g ps) ≡ false
+  any-settled t [] h = refl
+  any-settled t (p ∷ ps) h =
+      let rest = any-settled t ps (or-false-right (t p) (any t ps) h) in
+      cond-case (λ z. any t z ≡ false) (f p) (λ e. or-false-right (t p) (any t ps) h)
+      (λ e. cond-case (λ z. any t z ≡ false) (g p) (λ e. rest) (λ e. ap₂ (_||_) (or-false-left (t p) (any t ps) h) rest))
+
+  apart-settled : (ps : List Pending) → Apart ps → Apart (settled f g ps)
+  apart-settled [] a = tt
+  apart-settled (p ∷ ps) (a, more) =
+      cond-case Apart (f p) (λ e. more) (λ e. cond-case Apart (g p) (λ e. apart-settled ps more) (λ e. (any-settled (labelled (p .label)) ps a, apart-settled ps more)))
+
+  few-settled : (ps : List Pending) → length (settled f g ps) ≤ length ps
+  few-settled [] = omega arith
+  few-settled (p ∷ ps) =
+      let rest = few-settled ps in
+      cond-case (λ (z : List Pending). length z ≤ suc (length ps)) (f p) (λ e. omega arith)
+      (λ e. cond-case (λ (z : List Pending). length z ≤ suc (length ps)) (g p) (λ e. omega arith) (λ e. omega arith))
+
+  pub good-settled : (lens ms : List ℕ) (ps : List Pending) → Good lens ms ps → Good lens ms (settled f g ps)
+  good-settled lens ms ps h =
+      record { few = omega (arith, few-settled ps, h .few); each = all-settled (Proper lens ms) ps (h .each); apart = apart-settled ps (h .apart) }
+
+-- ---- one more
+
+all-snoc : (P : Pending → Type 0) (ps : List Pending) (p : Pending) → All P ps → P p → All P (ps ++ (p ∷ []))
+all-snoc P [] p a h = (h, tt)
+all-snoc P (q ∷ ps) p (a, more) h = (a, all-snoc P ps p more h)
+
+any-snoc : (t : Pending → Bool) (ps : List Pending) (p : Pending) → any t ps ≡ false → t p ≡ false → any t (ps ++ (p ∷ [])) ≡ false
+any-snoc t [] p a h = ap (_|| false) h
+any-snoc t (q ∷ ps) p a h = ap₂ (_||_) (or-false-left (t q) (any t ps) a) (any-snoc t ps p (or-false-right (t q) (any t ps) a) h)
+
+apart-snoc : (ps : List Pending) (p : Pending) → Apart ps → any (labelled (p .label)) ps ≡ false → Apart (ps ++ (p ∷ []))
+apart-snoc [] p a h = (refl, tt)
+apart-snoc (q ∷ ps) p (a, more) h = (
+  any-snoc (labelled (q .label)) ps p a (same-apart (q .label) (p .label) (or-false-left (labelled (p .label) q) (any (labelled (p .label)) ps) h)),
+  apart-snoc ps p more (or-false-right (labelled (p .label) q) (any (labelled (p .label)) ps) h),
+)
+
+pub good-snoc : (lens ms : List ℕ) (ps : List Pending) (p : Pending) → Good lens ms ps → length ps < 64 → Proper lens ms p → any (labelled (p .label)) ps ≡ false
+    → Good lens ms (ps ++ (p ∷ []))
+good-snoc lens ms ps p g room s new =
+    record { few = omega (arith, length-append ps (p ∷ []), room); each = all-snoc (Proper lens ms) ps p (g .each) s; apart = apart-snoc ps p (g .apart) new }
+
+-- ---- another subscription in a place that no delivery is of
+
+abbrev pub Elsewhere : ℕ → Pending → Type 0
+Elsewhere k p = p .place ≡ k → ⊥
+
+sound-elsewhere : (lens ms : List ℕ) (k l m : ℕ) (p : Pending) → Elsewhere k p → Proper lens ms p → Proper (set lens k l) (set ms k m) p
+sound-elsewhere lens ms k l m p e s =
+    record {
+      short = s .short;
+      there = s .there;
+      acks = ap₂ (λ a b. not (eqb a 0) && not (eqb b auto-mode)) (getD-set-other lens k (p .place) l 0 e) (getD-set-other ms k (p .place) m 0 e) ∙ s .acks;
+    }
+
+pub good-elsewhere : (lens ms : List ℕ) (k l m : ℕ) (ps : List Pending) → All (Elsewhere k) ps → Good lens ms ps → Good (set lens k l) (set ms k m) ps
+good-elsewhere lens ms k l m ps e g = record { few = g .few; each = by ps e (g .each); apart = g .apart }
+  where
+    by : (xs : List Pending) → All (Elsewhere k) xs → All (Proper lens ms) xs → All (Proper (set lens k l) (set ms k m)) xs
+    by [] a b = tt
+    by (x ∷ xs) (a, as₁) (b, bs) = (sound-elsewhere lens ms k l m x a b, by xs as₁ bs)
+
+-- a free place has none
+pub free-elsewhere : (lens ms : List ℕ) (k : ℕ) (ps : List Pending) → getD lens k 0 ≡ 0 → All (Proper lens ms) ps → All (Elsewhere k) ps
+free-elsewhere lens ms k ps free = all-with (λ p s e. true≢false (sym (s .acks) ∙ ap (λ z. not (eqb z 0) && not (eqb (getD ms (p .place) auto-mode) auto-mode)) (ap (λ z. getD lens z 0) e ∙ free))) ps
+
+known-set : (ms : List ℕ) (k m : ℕ) → known-modes ms ≡ true → leb m individual-mode ≡ true → known-modes (set ms k m) ≡ true
+known-set [] k m h e = refl
+known-set (x ∷ ms) zero m h e = ap₂ (_&&_) e (and-right (leb x individual-mode) (known-modes ms) h)
+known-set (x ∷ ms) (suc k) m h e = ap₂ (_&&_) (and-left (leb x individual-mode) (known-modes ms) h) (known-set ms k m (and-right (leb x individual-mode) (known-modes ms) h) e)
+
+idle-set : (lens ms : List ℕ) (k l m : ℕ) → idle-modes lens ms ≡ true → not (eqb l 0) || eqb m auto-mode ≡ true → idle-modes (set lens k l) (set ms k m) ≡ true
+idle-set [] ms k l m h e = refl
+idle-set (x ∷ lens) [] k l m h e = by k
+  where
+    by : (j : ℕ) → idle-modes (set (x ∷ lens) j l) [] ≡ true
+    by zero = refl
+    by (suc j) = refl
+idle-set (x ∷ lens) (y ∷ ms) zero l m h e = ap₂ (_&&_) e (and-right (not (eqb x 0) || eqb y auto-mode) (idle-modes lens ms) h)
+idle-set (x ∷ lens) (y ∷ ms) (suc k) l m h e =
+    ap₂ (_&&_) (and-left (not (eqb x 0) || eqb y auto-mode) (idle-modes lens ms) h) (idle-set lens ms k l m (and-right (not (eqb x 0) || eqb y auto-mode) (idle-modes lens ms) h) e)
+
+-- ---- the deliveries of a session that is kept valid
+
+pub record Holds (lens : List ℕ) (d : Deliveries) : Type 0 where
+  pub sized : SizedDeliveries d
+  pub valid : valid-deliveries lens d ≡ true
+
+holds-with : (lens : List ℕ) (d : Deliveries) (ps : List Pending) → length (d .modes) ≡ 16 → known-modes (d .modes) ≡ true → idle-modes lens (d .modes) ≡ true → Good lens (d .modes) ps
+    → Holds lens (with-pending d ps) × (pending (with-pending d ps) ≡ ps)
+holds-with lens d ps long known idle g =
+    let (v, e) = good-with lens d ps known idle g in (record { sized = good-sized lens d ps g long; valid = v }, e)
+
+module _ (lens : List ℕ) (d : Deliveries) (h : Holds lens d) where
+  abbrev known : known-modes (d .modes) ≡ true
+  known = held-known lens d (h .sized) (h .valid)
+
+  abbrev idle : idle-modes lens (d .modes) ≡ true
+  idle = held-idle lens d (h .sized) (h .valid)
+
+  pub good : Good lens (d .modes) (pending d)
+  good = held-good lens d (h .sized) (h .valid)
+
+  pub holds-emptied : Holds lens (emptied d) × (pending (emptied d) ≡ [])
+  unfolding with-pending laid
+  holds-emptied = holds-with lens d [] (h .sized .modes-long) known idle (record { few = omega arith; each = tt; apart = tt })
+
+  pub holds-settled : (f g : Pending → Bool) → Holds lens (with-pending d (settled f g (pending d))) × (pending (with-pending d (settled f g (pending d))) ≡ settled f g (pending d))
+  holds-settled f g = holds-with lens d (settled f g (pending d)) (h .sized .modes-long) known idle (good-settled f g lens (d .modes) (pending d) good)
+
+  pub holds-snoc : (p : Pending) → d .count < 64 → Proper lens (d .modes) p → any (labelled (p .label)) (pending d) ≡ false
+      → Holds lens (with-pending d (pending d ++ (p ∷ []))) × (pending (with-pending d (pending d ++ (p ∷ []))) ≡ pending d ++ (p ∷ []))
+  holds-snoc p room s new =
+      holds-with lens d (pending d ++ (p ∷ [])) (h .sized .modes-long) known idle
+      (good-snoc lens (d .modes) (pending d) p good (omega (arith, room, held-count lens d (h .sized) (h .valid))) s new)
+
+  -- UNSUBSCRIBE
+  pub holds-unsubscribed : (k : ℕ)
+      → Holds (set lens k 0) (unsubscribe (some k) d) × (pending (unsubscribe (some k) d) ≡ without (λ (p : Pending). eqb (p .place) k) (pending d))
+  unfolding with-pending
+  holds-unsubscribed k =
+      holds-with (set lens k 0) (with-modes d (set (d .modes) k auto-mode)) (without (λ (p : Pending). eqb (p .place) k) (pending d))
+      (length-set (d .modes) k auto-mode ∙ h .sized .modes-long) (known-set (d .modes) k auto-mode known refl) (idle-set lens (d .modes) k 0 auto-mode idle refl)
+      (good-elsewhere lens (d .modes) k 0 auto-mode (without (λ (p : Pending). eqb (p .place) k) (pending d))
+      (all-with (λ p e. eqb-false (p .place) k e) (without (λ (p : Pending). eqb (p .place) k) (pending d)) (without-fail (λ (p : Pending). eqb (p .place) k) (pending d)))
+      (good-without (λ (p : Pending). eqb (p .place) k) lens (d .modes) (pending d) good))
+
+  -- SUBSCRIBE: the layout stays
+  pub holds-subscribed : (k l m : ℕ) → getD lens k 0 ≡ 0 → (l ≡ 0 → ⊥) → leb m individual-mode ≡ true → Holds (set lens k l) (with-modes d (set (d .modes) k m))
+  holds-subscribed k l m free some-l m-known =
+      record {
+        sized = record { labels-long = h .sized .labels-long; lens-long = h .sized .lens-long; places-long = h .sized .places-long; modes-long = length-set (d .modes) k m ∙ h .sized .modes-long };
+        valid = valid-again lens d (h .sized) (h .valid) (set lens k l) (set (d .modes) k m) (known-set (d .modes) k m known m-known)
+            (idle-set lens (d .modes) k l m idle (ap (λ t. not t || eqb m auto-mode) (ne-eqb l 0 some-l)))
+            (good-elsewhere lens (d .modes) k l m (pending d) (free-elsewhere lens (d .modes) k (pending d) free (good .each)) good);
+      }
+
+-- what the code that moves deliveries relies on
+pub holds-laid : (lens : List ℕ) (d : Deliveries) → Holds lens d → Laid d
+holds-laid lens d h =
+    let (a, b, c) = behind-zero lens d (h .sized) (h .valid) in
+    record {
+      few = held-few lens d (h .sized) (h .valid);
+      clean-yes = valid-clean label-max _ _ (store-valid lens d (h .sized) (h .valid));
+      short-yes = valid-short label-max _ _ (store-valid lens d (h .sized) (h .valid));
+      labels-zero = a;
+      lens-zero = b;
+      places-zero = c;
+    }

@@ -1,0 +1,13 @@
+-- `session::Session::fresh` meets its contract.
+use borrow.Author.Needs.{needs}
+use Rattle.sessions.proofs.session.Session.fresh.Statement.{statement}
+use Rattle.sessions.proofs.session.Session.fresh.Tie as tie
+
+none-requires : tie.Need-none-requires
+none-requires c κs = search needs
+
+returns : tie.Need-returns
+returns c = rw (c .none .ensures)
+
+pub fresh-spec : {M : Type 1} → statement M
+fresh-spec = tie.close (tie.spec none-requires returns)

@@ -1,0 +1,183 @@
+-- What a session keeps for deliveries (document 02, C-15): the ack modes of its subscriptions and the pending deliveries as a list,
+-- oldest first; what is left of them when some are settled or dropped; what makes the record valid. Assumes nothing.
+use mathlib.Core.Bool.{Bool, true, false, cond, _&&_, _||_, not}
+use mathlib.Core.Option.{Option, none, some}
+use mathlib.Core.List.{List, [], _∷_, _++_, map}
+use Prim.Native.Nat.{ℕ, _-_, _*_, _≤_}
+use mathlib.Core.Path.{_≡_}
+use lib.ListN.{length, take, drop, getD, set, replicate}
+use lib.Dec.{eqb, leb}
+use Rattle.headers.specs.Rows.{every, any, first-of, same}
+use Rattle.sessions.specs.Stores.{ids, laid, lengths, short, is-zero, clean, valid-store}
+use Rattle.sessions.specs.declared.delivery.Deliveries.{Deliveries}
+
+-- "up to 64 outstanding deliveries, each with a label of 1 to 32 octets"
+abbrev pub deliveries-max : ℕ
+deliveries-max = 64
+
+abbrev pub label-max : ℕ
+label-max = 32
+
+-- the octets of 64 labels
+abbrev pub labels-size : ℕ
+labels-size = 2048
+
+-- one ack mode for each of the 16 subscriptions that a session keeps
+abbrev pub modes-max : ℕ
+modes-max = 16
+
+-- "each subscription's mode from the ack header (auto, client, client-individual; absent means auto)", numbered in this order
+abbrev pub auto-mode : ℕ
+auto-mode = 0
+
+abbrev pub client-mode : ℕ
+client-mode = 1
+
+abbrev pub individual-mode : ℕ
+individual-mode = 2
+
+-- an pending delivery: the place of its subscription, and its label
+pub record Pending : Type 0 where
+  pub place : ℕ
+  pub label : List ℕ
+
+-- The view: the pending deliveries, oldest first.
+abbrev pub paired : List ℕ → List (List ℕ) → List Pending
+paired [] ls = []
+paired (p ∷ ps) [] = []
+paired (p ∷ ps) (l ∷ ls) = record { place = p; label = l } ∷ paired ps ls
+
+abbrev pub pending : Deliveries → List Pending
+pending d = paired (take (d .count) (d .places)) (ids label-max (take (d .count * label-max) (d .labels)) (take (d .count) (d .lens)))
+
+-- The layout of a view: labels, their lengths and the places one behind another, and 0 behind them.
+abbrev pub labels-of : List Pending → List (List ℕ)
+labels-of ps = map (λ (p : Pending). p .label) ps
+
+abbrev pub places-of : List Pending → List ℕ
+places-of ps = map (λ (p : Pending). p .place) ps
+
+abbrev pub filled : ℕ → List ℕ → List ℕ
+filled n xs = xs ++ replicate (n - length xs) 0
+
+unfoldable pub with-pending : Deliveries → List Pending → Deliveries
+with-pending d ps = record {
+  labels = filled labels-size (laid label-max (labels-of ps));
+  lens = filled deliveries-max (lengths (labels-of ps));
+  places = filled deliveries-max (places-of ps);
+  modes = d .modes;
+  count = length ps;
+}
+
+abbrev pub with-modes : Deliveries → List ℕ → Deliveries
+with-modes d ms = record { labels = d .labels; lens = d .lens; places = d .places; modes = ms; count = d .count }
+
+-- of a fresh session: none, and every mode auto
+abbrev pub no-deliveries : Deliveries
+no-deliveries = record {
+  labels = replicate labels-size 0;
+  lens = replicate deliveries-max 0;
+  places = replicate deliveries-max 0;
+  modes = replicate modes-max auto-mode;
+  count = 0;
+}
+
+-- "Any close now empties these places."
+abbrev pub emptied : Deliveries → Deliveries
+emptied d = record {
+  labels = replicate labels-size 0;
+  lens = replicate deliveries-max 0;
+  places = replicate deliveries-max 0;
+  modes = d .modes;
+  count = 0;
+}
+
+-- ---- what is left
+
+-- without those that pass the test
+abbrev pub without : {A : Type 0} → (A → Bool) → List A → List A
+without p [] = []
+without p (d ∷ ds) = cond (p d) (without p ds) (d ∷ without p ds)
+
+-- Settled: the first that is named goes, and those before it that go with it.
+abbrev pub settled : {A : Type 0} → (A → Bool) → (A → Bool) → List A → List A
+settled named goes [] = []
+settled named goes (d ∷ ds) = cond (named d) ds (cond (goes d) (settled named goes ds) (d ∷ settled named goes ds))
+
+abbrev pub mode-of : Deliveries → ℕ → ℕ
+mode-of d place = getD (d .modes) place auto-mode
+
+abbrev pub labelled : List ℕ → Pending → Bool
+labelled l p = same (p .label) l
+
+-- the label is pending
+abbrev pub is-pending : List ℕ → Deliveries → Bool
+is-pending l d = any (labelled l) (pending d)
+
+-- "In client mode ACK or NACK settles the named delivery and all earlier outstanding ones of that subscription; in client-individual
+-- only the named one."
+abbrev pub goes-with : Deliveries → Pending → Pending → Bool
+goes-with d named p = eqb (mode-of d (named .place)) client-mode && eqb (p .place) (named .place)
+
+abbrev pub settled-as : List ℕ → Deliveries → Option Pending → Deliveries
+settled-as l d none = d
+settled-as l d (some p) = with-pending d (settled (labelled l) (goes-with d p) (pending d))
+
+abbrev pub settle-label : List ℕ → Deliveries → Deliveries
+settle-label l d = settled-as l d (first-of (labelled l) (pending d))
+
+-- a subscription entered in a place, with its mode; one that is freed, "dropped at UNSUBSCRIBE"
+abbrev pub subscribe : Option ℕ → ℕ → Deliveries → Deliveries
+subscribe none m d = d
+subscribe (some k) m d = with-modes d (set (d .modes) k m)
+
+abbrev pub unsubscribe : Option ℕ → Deliveries → Deliveries
+unsubscribe none d = d
+unsubscribe (some k) d = with-modes (with-pending d (without (λ (p : Pending). eqb (p .place) k) (pending d))) (set (d .modes) k auto-mode)
+
+-- a delivery recorded: "Auto counts as acknowledged at once and takes no place."
+abbrev pub record-label : Option ℕ → List ℕ → Deliveries → Deliveries
+record-label none l d = d
+record-label (some k) l d = cond (eqb (mode-of d k) auto-mode) d (with-pending d (pending d ++ (record { place = k; label = l } ∷ [])))
+
+-- ---- A valid record: 38 "at least for an unknown mode, more than 64 deliveries, bad or equal labels, and a delivery of no live
+-- subscription or an auto one". A free place has mode auto, and all octets behind the outstanding deliveries are 0.
+abbrev pub known-modes : List ℕ → Bool
+known-modes ms = every (λ m. leb m individual-mode) ms
+
+abbrev pub idle-modes : List ℕ → List ℕ → Bool
+idle-modes [] ms = true
+idle-modes (l ∷ ls) [] = true
+idle-modes (l ∷ ls) (m ∷ ms) = (not (eqb l 0) || eqb m auto-mode) && idle-modes ls ms
+
+abbrev pub some-lengths : List ℕ → Bool
+some-lengths ls = every (λ l. not (eqb l 0)) ls
+
+abbrev pub valid-labels : ℕ → List ℕ → List ℕ → Bool
+valid-labels n labels lens =
+    valid-store label-max (take (n * label-max) labels) (take n lens)
+    && (some-lengths (take n lens) && (is-zero (drop (n * label-max) labels) && is-zero (drop n lens)))
+
+abbrev pub acknowledging : List ℕ → List ℕ → ℕ → Bool
+acknowledging sub-lens ms p = not (eqb (getD sub-lens p 0) 0) && not (eqb (getD ms p auto-mode) auto-mode)
+
+abbrev pub valid-places : ℕ → List ℕ → List ℕ → List ℕ → Bool
+valid-places n places sub-lens ms = every (acknowledging sub-lens ms) (take n places) && is-zero (drop n places)
+
+abbrev pub valid-modes : List ℕ → Deliveries → Bool
+valid-modes sub-lens d = known-modes (d .modes) && idle-modes sub-lens (d .modes)
+
+abbrev pub valid-pending : List ℕ → Deliveries → ℕ → Bool
+valid-pending sub-lens d n = valid-labels n (d .labels) (d .lens) && valid-places n (d .places) sub-lens (d .modes)
+
+unfoldable pub valid-deliveries : List ℕ → Deliveries → Bool
+valid-deliveries sub-lens d = leb (d .count) deliveries-max && (valid-modes sub-lens d && valid-pending sub-lens d (d .count))
+
+-- What the code that moves them relies on: a record whose labels are laid out, as a valid one's are.
+pub record Laid (d : Deliveries) : Type 0 where
+  pub few : d .count ≤ deliveries-max
+  pub clean-yes : clean label-max (take (d .count * label-max) (d .labels)) (take (d .count) (d .lens)) ≡ true
+  pub short-yes : short label-max (take (d .count) (d .lens)) ≡ true
+  pub labels-zero : is-zero (drop (d .count * label-max) (d .labels)) ≡ true
+  pub lens-zero : is-zero (drop (d .count) (d .lens)) ≡ true
+  pub places-zero : is-zero (drop (d .count) (d .places)) ≡ true

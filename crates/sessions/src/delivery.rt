@@ -1,0 +1,313 @@
+// What a session keeps for deliveries: the ack mode of each subscription, and the pending deliveries, oldest first. A delivery has
+// a label, and the place of its subscription. Modes are 0 auto, 1 client, 2 client-individual.
+ghost use mathlib.Core.Path.{_≡_};
+ghost use mathlib.Core.List.{List, [], _∷_, _++_};
+ghost use mathlib.Core.Option.{some};
+ghost use Prim.Native.Nat.{ℕ, _≤_, _<_};
+ghost use lib.ListN.{length, set};
+ghost use Rattle.sessions.specs.Stores.{first-from};
+ghost use Rattle.sessions.specs.Places.{search-says};
+ghost use Rattle.sessions.specs.Compaction.{kept};
+ghost use Rattle.sessions.specs.Sessions.{subscriptions-max};
+ghost use Rattle.sessions.specs.Deliveries.{Pending, pending, labelled, places-of, with-pending, with-modes, unsubscribe, settle-label, no-deliveries, emptied, known-modes, some-lengths, idle-modes, acknowledging, valid-labels, valid-places, valid-modes, valid-pending, valid-deliveries, Laid};
+ghost use Rattle.headers.specs.Rows.{every};
+use crate::compaction::Range;
+use crate::session::Session;
+use crate::store::Search;
+
+pub struct Deliveries {
+    pub labels: [u8; Deliveries::MAX * Session::ID],
+    pub lens: [u8; Deliveries::MAX],
+    pub places: [u8; Deliveries::MAX],
+    pub modes: [u8; Session::SUBSCRIPTIONS],
+    pub count: u8,
+}
+
+impl Deliveries {
+    pub const MAX: usize = 64;
+
+    pub const AUTO: u8 = 0;
+
+    pub const CLIENT: u8 = 1;
+
+    pub const INDIVIDUAL: u8 = 2;
+
+    // Of a fresh session: none, and every mode auto.
+    pub(crate) fn none() -> Deliveries
+        ensures { λ r. ⌜ r ≡ no-deliveries ⌝ }
+    {
+        Deliveries {
+            labels: [0; Deliveries::MAX * Session::ID],
+            lens: [0; Deliveries::MAX],
+            places: [0; Deliveries::MAX],
+            modes: [0; Session::SUBSCRIPTIONS],
+            count: 0,
+        }
+    }
+
+    // None pending; the modes stay.
+    pub(crate) fn emptied(self) -> Deliveries
+        ensures { λ r. ⌜ r ≡ emptied self ⌝ }
+    {
+        let modes = self.modes;
+        Deliveries {
+            labels: [0; Deliveries::MAX * Session::ID],
+            lens: [0; Deliveries::MAX],
+            places: [0; Deliveries::MAX],
+            modes,
+            count: 0,
+        }
+    }
+
+    // Whether modes are known, and auto where no subscription is.
+    fn has_valid_modes(self, lens: [u8; Session::SUBSCRIPTIONS]) -> bool
+        ensures { λ r. ⌜ r ≡ valid-modes lens self ⌝ }
+    {
+        let modes = self.modes;
+        if !are_known(&modes) {
+            return false;
+        }
+        are_idle(&lens, &modes)
+    }
+
+    // Whether the pending deliveries are valid, n of them.
+    fn has_valid_pending(self, lens: [u8; Session::SUBSCRIPTIONS], n: usize) -> bool
+        requires { ⌜ n ≤ 64 ⌝ }
+        ensures { λ r. ⌜ r ≡ valid-pending lens self n ⌝ }
+    {
+        let labels = self.labels;
+        let label_lens = self.lens;
+        if !are_valid_labels(&labels, &label_lens, n) {
+            return false;
+        }
+        let places = self.places;
+        let modes = self.modes;
+        are_valid_places(&places, n, &lens, &modes)
+    }
+
+    // Whether the record is valid, over the lengths of the subscriptions' ids.
+    pub(crate) fn is_valid(self, lens: [u8; Session::SUBSCRIPTIONS]) -> bool
+        ensures { λ r. ⌜ r ≡ valid-deliveries lens self ⌝ }
+    {
+        let n = wide(self.count);
+        if 64 < n {
+            return false;
+        }
+        if !self.has_valid_modes(lens) {
+            return false;
+        }
+        self.has_valid_pending(lens, n)
+    }
+
+    // Those that stay, in their order; the modes stay.
+    pub(crate) fn without(self, range: Range) -> Deliveries
+        requires { ⌜ Laid self ⌝ }
+        ensures { λ r. ⌜ r ≡ with-pending self (kept range 0 (places-of (pending self)) (pending self)) ⌝ }
+    {
+        let n = wide(self.count);
+        let end = n * 32;
+        let labels = self.labels;
+        let lens = self.lens;
+        let places = self.places;
+        let same = self.places;
+        let modes = self.modes;
+        let mut kept_labels = [0u8; 2048];
+        let mut kept_lens = [0u8; 64];
+        let mut kept_places = [0u8; 64];
+        crate::compaction::keep_rows(&mut kept_labels, &labels[0..end], 32, &places[0..n], range);
+        crate::compaction::keep_rows(&mut kept_lens, &lens[0..n], 1, &places[0..n], range);
+        let count = crate::compaction::keep_rows(
+            &mut kept_places,
+            &same[0..n],
+            1,
+            &places[0..n],
+            range,
+        );
+        Deliveries {
+            labels: kept_labels,
+            lens: kept_lens,
+            places: kept_places,
+            modes,
+            count: (count % 256) as u8,
+        }
+    }
+
+    // With a mode for the subscription in a place.
+    pub(crate) fn with_mode(mut self, place: usize, mode: u8) -> Deliveries
+        requires { ⌜ place < subscriptions-max ⌝ }
+        ensures { λ r. ⌜ r ≡ with-modes self (set (self .modes) place mode) ⌝ }
+    {
+        self.modes[place] = mode;
+        self
+    }
+
+    // Without those of the subscription in a place, and its mode.
+    pub(crate) fn unsubscribed(self, place: usize) -> Deliveries
+        requires { ⌜ (Laid self) × (place < subscriptions-max) ⌝ }
+        ensures { λ r. ⌜ r ≡ unsubscribe (some place) self ⌝ }
+    {
+        let n = wide(self.count);
+        if n == 0 {
+            return self.with_mode(place, Deliveries::AUTO);
+        }
+        let range = Range {
+            from: 0,
+            to: n,
+            of: (place % 256) as u8,
+        };
+        self.without(range).with_mode(place, Deliveries::AUTO)
+    }
+
+    // The number of the pending delivery with a label, the oldest being 0.
+    pub(crate) fn find(self, label: &[u8]) -> Search
+        requires { ⌜ Laid self ⌝ }
+        ensures { λ r. ⌜ search-says r ≡ first-from (labelled (now (label .entry))) 0 (pending self) ⌝ }
+    {
+        let n = wide(self.count);
+        let end = n * 32;
+        let labels = self.labels;
+        let lens = self.lens;
+        crate::store::find(&labels[0..end], &lens[0..n], n, 32, label)
+    }
+
+    // The one with a number settled, and where its subscription's mode is client the earlier ones of that subscription.
+    pub(crate) fn settled(self, index: usize) -> Deliveries
+        requires { ⌜ (Laid self) × (index < self .count) ⌝ }
+        ensures { λ r. ⌜ ((l : List ℕ) → first-from (labelled l) 0 (pending self) ≡ some index → r ≡ settle-label l self) ⌝ }
+    {
+        let places = self.places;
+        let modes = self.modes;
+        let of = places[index];
+        let mode = crate::store::octet_at(&modes, wide(of));
+        if mode == Deliveries::CLIENT {
+            return self.without(Range {
+                from: 0,
+                to: index + 1,
+                of,
+            });
+        }
+        self.without(Range {
+            from: index,
+            to: index + 1,
+            of,
+        })
+    }
+
+    // One more, the youngest.
+    pub(crate) fn entered(mut self, place: u8, label: &[u8]) -> Deliveries
+        requires { ⌜ (Laid self) × (self .count < 64) × (length (now label) ≤ 32) ⌝ }
+        ensures { λ r. ⌜ r ≡ with-pending self (pending self ++ (record { place = place; label = now (label .entry) } ∷ [])) ⌝ }
+    {
+        let n = wide(self.count);
+        let mut labels = self.labels;
+        crate::store::put(&mut labels, n, 32, label);
+        self.labels = labels;
+        self.lens[n] = (label.len() % 256) as u8;
+        self.places[n] = place;
+        self.count = self.count + 1;
+        self
+    }
+}
+
+pub(crate) fn wide(x: u8) -> usize
+    ensures { λ r. ⌜ (r ≡ x) × (r < 256) ⌝ }
+{
+    x as usize
+}
+
+// Whether each mode is known.
+fn are_known(modes: &[u8]) -> bool
+    ensures { λ r. ⌜ r ≡ known-modes (now (modes .entry)) ⌝ }
+{
+    let mut known = true;
+    let mut i = 0usize;
+    while i < modes.len() {
+        known = known & (modes[i] <= 2);
+        i += 1;
+    }
+    known
+}
+
+// Whether each length is above 0.
+fn are_some(lens: &[u8]) -> bool
+    ensures { λ r. ⌜ r ≡ some-lengths (now (lens .entry)) ⌝ }
+{
+    let mut some = true;
+    let mut i = 0usize;
+    while i < lens.len() {
+        some = some & (lens[i] != 0);
+        i += 1;
+    }
+    some
+}
+
+// Whether the mode of each free place is auto.
+fn are_idle(lens: &[u8], modes: &[u8]) -> bool
+    requires { ⌜ length (now lens) ≡ length (now modes) ⌝ }
+    ensures { λ r. ⌜ r ≡ idle-modes (now (lens .entry)) (now (modes .entry)) ⌝ }
+{
+    let mut idle = true;
+    let mut i = 0usize;
+    while i < lens.len() {
+        idle = idle & ((lens[i] != 0) | (modes[i] == 0));
+        i += 1;
+    }
+    idle
+}
+
+// Whether the subscription in a place is live and not an auto one.
+fn acknowledges(place: u8, lens: &[u8], modes: &[u8]) -> bool
+    ensures { λ r. ⌜ r ≡ acknowledging (now (lens .entry)) (now (modes .entry)) place ⌝ }
+{
+    let p = wide(place);
+    if lens.len() <= p {
+        return false;
+    }
+    if modes.len() <= p {
+        return false;
+    }
+    (lens[p] != 0) & (modes[p] != 0)
+}
+
+// Whether that holds of each place.
+fn all_acknowledge(places: &[u8], lens: &[u8], modes: &[u8]) -> bool
+    ensures { λ r. ⌜ r ≡ every (acknowledging (now (lens .entry)) (now (modes .entry))) (now (places .entry)) ⌝ }
+{
+    let mut i = 0usize;
+    while i < places.len() {
+        if !acknowledges(places[i], lens, modes) {
+            return false;
+        }
+        i += 1;
+    }
+    true
+}
+
+// Whether the first n places of labels hold labels, no two the same, and all behind them is 0.
+fn are_valid_labels(labels: &[u8], lens: &[u8], n: usize) -> bool
+    requires { ⌜ (length (now labels) ≡ 2048) × (length (now lens) ≡ 64) × (n ≤ 64) ⌝ }
+    ensures { λ r. ⌜ r ≡ valid-labels n (now (labels .entry)) (now (lens .entry)) ⌝ }
+{
+    let end = n * 32;
+    if !crate::store::is_valid(&labels[0..end], &lens[0..n], n, 32) {
+        return false;
+    }
+    if !are_some(&lens[0..n]) {
+        return false;
+    }
+    if !crate::store::is_zero(&labels[end..]) {
+        return false;
+    }
+    crate::store::is_zero(&lens[n..])
+}
+
+// Whether the first n deliveries are of subscriptions that acknowledge, and all behind them is 0.
+fn are_valid_places(places: &[u8], n: usize, lens: &[u8], modes: &[u8]) -> bool
+    requires { ⌜ (length (now places) ≡ 64) × (n ≤ 64) ⌝ }
+    ensures { λ r. ⌜ r ≡ valid-places n (now (places .entry)) (now (lens .entry)) (now (modes .entry)) ⌝ }
+{
+    if !all_acknowledge(&places[0..n], lens, modes) {
+        return false;
+    }
+    crate::store::is_zero(&places[n..])
+}
