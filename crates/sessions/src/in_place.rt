@@ -1,7 +1,8 @@
 // The calls of a session on one where it lies: each calls the one by value and stores the session that it gives.
 ghost use mathlib.Core.Path.{_≡_};
-ghost use Rattle.sessions.specs.Answers.{answer-says, timed-out-says};
-ghost use Rattle.sessions.specs.Calls.{frame-answer, frame-session, heart-beat-answer, heart-beat-session, timed-out-answer};
+ghost use Rattle.sessions.specs.Answers.{answer-says, timed-out-says, delivery-says};
+ghost use Rattle.sessions.specs.Calls.{frame-answer, frame-session, heart-beat-answer, heart-beat-session, timed-out-answer, deliver-answer, deliver-session};
+use crate::session::DeliveryAnswer;
 use crate::session::Session;
 use crate::session::SessionAnswer;
 use crate::session::TimedOut;
@@ -32,4 +33,16 @@ pub fn timed_out_in_place(s: &mut Session, time: u32) -> TimedOut
     ensures { λ r. ⌜ (timed-out-says r ≡ timed-out-answer (now (s .entry)) time) × (now (s .exit) ≡ now (s .entry)) ⌝ }
 {
     (*s).timed_out(time)
+}
+
+// A delivery is recorded.
+pub fn deliver_in_place(s: &mut Session, subscription: &[u8], label: &[u8]) -> DeliveryAnswer
+    ensures { λ r. ⌜
+        (delivery-says r ≡ deliver-answer (now (s .entry)) (now (subscription .entry)) (now (label .entry)))
+        × (now (s .exit) ≡ deliver-session (now (s .entry)) (now (subscription .entry)) (now (label .entry)))
+        ⌝ }
+{
+    let out = (*s).deliver(subscription, label);
+    *s = out.session;
+    out.answer
 }
