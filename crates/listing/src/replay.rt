@@ -1,4 +1,5 @@
-// The replay of a client's stream: its items drive one session, and each gets a line with the session's answer.
+// The replay of a client's stream: its items drive one session, and each gets a line with the session's answer. Where the stream is the
+// log of both sides, a MESSAGE is one that the server sent: it is recorded as a delivery.
 ghost use mathlib.Core.Path.{_≡_};
 ghost use Prim.Native.Nat.{_+_, _≤_};
 ghost use lib.ListN.{length};
@@ -8,17 +9,34 @@ use crate::line::put_word;
 use crate::stream::Progress;
 use frames::parse::Item;
 use frames::parse::Parsed;
+use headers::Found;
 use sessions::commands::CONNECT;
+use sessions::commands::MESSAGE;
 use sessions::commands::STOMP;
+use sessions::session::Acceptance;
+use sessions::session::DeliveryAnswer;
 use sessions::session::MakingAnswer;
 use sessions::session::Outcome;
 use sessions::session::Session;
 use sessions::session::SessionAnswer;
 
-// How far a stream is replayed, and the session by then.
+// How far a stream is replayed, the session by then, and whether the stream is a log of both sides.
 struct Replaying {
     progress: Progress,
     session: Session,
+    log: bool,
+}
+
+// What an item came to, and whether it was a delivery that is recorded.
+struct Taken {
+    outcome: Outcome,
+    delivered: bool,
+}
+
+// A part of a header block.
+struct Part {
+    start: usize,
+    end: usize,
 }
 
 // How a replay ended: the last line is written; no session was made (34); or reading or writing failed.
@@ -28,20 +46,78 @@ pub enum Replayed {
     Failed,
 }
 
+// The first value of a header, or nothing.
+fn first_value(block: &[u8], name: &[u8]) -> Part
+    ensures { λ r. ⌜ (r .start ≤ r .end) × (r .end ≤ length (now (block .entry))) ⌝ }
+{
+    let Found::Value(p) = headers::find(block, name) else {
+        return Part { start: 0, end: 0 };
+    };
+    if block.len() < p.start {
+        return Part { start: 0, end: 0 };
+    }
+    if block.len() - p.start < p.len {
+        return Part { start: 0, end: 0 };
+    }
+    Part {
+        start: p.start,
+        end: p.start + p.len,
+    }
+}
+
+// No delivery is recorded, with this outcome.
+fn answered(outcome: Outcome) -> Taken {
+    Taken {
+        outcome,
+        delivered: false,
+    }
+}
+
+// A MESSAGE that the server sent: a delivery for its subscription, under its ack.
+fn deliver(session: Session, block: &[u8]) -> Taken {
+    let id = first_value(block, b"subscription");
+    let label = first_value(block, b"ack");
+    let id_start = id.start;
+    let id_end = id.end;
+    let start = label.start;
+    let end = label.end;
+    let recording = session.deliver(&block[id_start..id_end], &block[start..end]);
+    let after = recording.session;
+    let answer = recording.answer;
+    match answer {
+        DeliveryAnswer::Recorded => Taken {
+            outcome: Outcome {
+                session: after,
+                answer: SessionAnswer::Accepted(Acceptance { receipt: false }),
+            },
+            delivered: true,
+        },
+        DeliveryAnswer::Refused(n) => answered(Outcome {
+            session: after,
+            answer: SessionAnswer::Refused(n),
+        }),
+    }
+}
+
 // An item given to the session, or the refusal of a frame whose block was not decoded.
-fn give(session: Session, item: Item, octets: &[u8], block: &mut [u8]) -> Outcome {
+fn give(session: Session, item: Item, octets: &[u8], block: &mut [u8], log: bool) -> Taken
+    ensures { λ _. ⌜ length (now (block .exit)) ≡ length (now (block .entry)) ⌝ }
+{
     if item.kind == 1 {
-        return session.heart_beat(0);
+        return answered(session.heart_beat(0));
     }
     let decoded = crate::packed::decode(octets, block);
     if decoded.code != 0 {
-        return Outcome {
+        return answered(Outcome {
             session,
             answer: SessionAnswer::Refused(decoded.code),
-        };
+        });
     }
     let n = decoded.len;
-    session.frame(item.command, &block[0..n], 0)
+    if log & (item.command == MESSAGE) {
+        return deliver(session, &block[0..n]);
+    }
+    answered(session.frame(item.command, &block[0..n], 0))
 }
 
 // Whether an item is a frame that opens a session.
@@ -126,13 +202,16 @@ fn put_answer(d: &mut [u8], answer: SessionAnswer, opening: bool, session: Sessi
 }
 
 // The line of an item.
-fn put_turn(d: &mut [u8], start: u64, item: Item, outcome: Outcome) -> usize
+fn put_turn(d: &mut [u8], start: u64, item: Item, outcome: Outcome, delivered: bool) -> usize
     requires { ⌜ 171 ≤ length (now d) ⌝ }
     ensures { λ r. ⌜ (r ≤ 171) × (length (now (d .exit)) ≡ length (now (d .entry))) ⌝ }
 {
     let answer = outcome.answer;
     let session = outcome.session;
     let k = put_start(d, start, item);
+    if delivered {
+        return k + put_word(&mut d[k..], b"delivered\n");
+    }
     k + put_answer(&mut d[k..], answer, is_opening(item), session)
 }
 
@@ -156,14 +235,17 @@ fn replay_item(
 {
     let p = at.progress;
     let session = at.session;
+    let log = at.log;
     let lo = p.lo;
-    let outcome = give(session, item, &buf[lo..end], block);
+    let taken = give(session, item, &buf[lo..end], block, log);
+    let outcome = taken.outcome;
     let after = outcome.session;
     let used = p.used;
-    let k = put_turn(&mut out[used..], p.start, item, outcome);
+    let k = put_turn(&mut out[used..], p.start, item, outcome, taken.delivered);
     Replaying {
         progress: crate::stream::advance(p, end - lo, k, false),
         session: after,
+        log,
     }
 }
 
@@ -178,11 +260,13 @@ fn turn(fd: i32, buf: &mut [u8], block: &mut [u8], out: &mut [u8], at: Replaying
 {
     let p = at.progress;
     let session = at.session;
+    let log = at.log;
     let used = p.used;
     if out.len() - used < 192 {
         return Replaying {
             progress: crate::stream::flush(out, p),
             session,
+            log,
         };
     }
     let lo = p.lo;
@@ -192,16 +276,25 @@ fn turn(fd: i32, buf: &mut [u8], block: &mut [u8], out: &mut [u8], at: Replaying
         return Replaying {
             progress: crate::stream::tell(fd, buf, out, p, reply, 0),
             session,
+            log,
         };
     };
     replay_item(buf, end, block, out, at, item)
 }
 
 // Replays the octets of fd with a session, with three buffers: whether the last line is written.
-fn replay_in(fd: i32, buf: &mut [u8], block: &mut [u8], out: &mut [u8], session: Session) -> bool {
+fn replay_in(
+    fd: i32,
+    buf: &mut [u8],
+    block: &mut [u8],
+    out: &mut [u8],
+    session: Session,
+    log: bool,
+) -> bool {
     let mut at = Replaying {
         progress: crate::stream::nothing_listed(),
         session,
+        log,
     };
     let mut turns = u64::MAX;
     while turns > 0 && !(at.progress.failed | at.progress.done) {
@@ -214,8 +307,8 @@ fn replay_in(fd: i32, buf: &mut [u8], block: &mut [u8], out: &mut [u8], session:
 }
 
 // Replays the octets of fd with a session of these offers and version 1.2, at time 0: a line on standard output for each item, and
-// the last one as a listing has it.
-pub fn replay(fd: i32, sends: u32, wants: u32) -> Replayed {
+// the last one as a listing has it. In a log of both sides a MESSAGE is a delivery.
+pub fn replay(fd: i32, sends: u32, wants: u32, log: bool) -> Replayed {
     let made = Session::new(sends, wants, [false, false, true]);
     let answer = made.answer;
     let MakingAnswer::Made = answer else {
@@ -225,7 +318,7 @@ pub fn replay(fd: i32, sends: u32, wants: u32) -> Replayed {
     let mut octets = io::large_buffer();
     let mut block = io::large_buffer();
     let mut lines = io::large_buffer();
-    if replay_in(fd, &mut octets, &mut block, &mut lines, session) {
+    if replay_in(fd, &mut octets, &mut block, &mut lines, session, log) {
         return Replayed::Whole;
     }
     Replayed::Failed

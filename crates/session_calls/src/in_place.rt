@@ -1,12 +1,14 @@
 // The calls of a session where it lies, for a session by value: the session is lent to the call, and given back with the answer. What they
 // promise is what the calls by value promise.
 ghost use mathlib.Core.Path.{_≡_};
-ghost use Rattle.sessions.specs.Answers.{answer-says, timed-out-says};
-ghost use Rattle.sessions.specs.Calls.{frame-answer, frame-session, heart-beat-answer, heart-beat-session, timed-out-answer};
+ghost use Rattle.sessions.specs.Answers.{answer-says, timed-out-says, delivery-says};
+ghost use Rattle.sessions.specs.Calls.{frame-answer, frame-session, heart-beat-answer, heart-beat-session, timed-out-answer, deliver-answer, deliver-session};
+use sessions::in_place::deliver_in_place;
 use sessions::in_place::frame_in_place;
 use sessions::in_place::heart_beat_in_place;
 use sessions::in_place::timed_out_in_place;
 use sessions::session::Outcome;
+use sessions::session::Recording;
 use sessions::session::Session;
 use sessions::session::TimedOut;
 
@@ -38,4 +40,14 @@ pub fn timed_out(mut session: Session, time: u32) -> TimedOutcome
 {
     let answer = timed_out_in_place(&mut session, time);
     TimedOutcome { session, answer }
+}
+
+pub fn deliver(mut session: Session, subscription: &[u8], label: &[u8]) -> Recording
+    ensures { λ r. ⌜
+        (delivery-says (r .answer) ≡ deliver-answer session (now (subscription .entry)) (now (label .entry)))
+        × (r .session ≡ deliver-session session (now (subscription .entry)) (now (label .entry)))
+        ⌝ }
+{
+    let answer = deliver_in_place(&mut session, subscription, label);
+    Recording { session, answer }
 }

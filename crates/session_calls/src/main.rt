@@ -1,8 +1,9 @@
 // Calls on one session record, read from standard input, each as an octet, its kind, and what the kind asks; numbers have four octets,
 // high first. 0 make: the offers sends and wants, and three flags; 1 frame: command, time, length of the header block, and the block;
 // 2 heart-beat: time; 3 timed out: time; 4 set: a whole record, which becomes the session's; 5, 6, 7 as 1, 2, 3, on the session where it
-// lies. For each call a line with its answer and the highest version shared, and the record after it, as kind 4 has it, with a line end
-// behind.
+// lies; 8 deliver: the lengths of a subscription's id and of a label, and both; 9 as 8, on the session where it lies; 10 pending: the
+// number of a pending delivery. For each call a line with its answer and the highest version shared, and the record after it, as kind 4
+// has it, and a line end.
 ghost use Prim.Native.Nat.{_≤_, _<_};
 use libc::STDERR_FILENO;
 use libc::STDIN_FILENO;
@@ -10,9 +11,14 @@ use libc::STDOUT_FILENO;
 use listing::calls::at_most;
 use listing::calls::number_at;
 use listing::calls::read_front;
+use sessions::delivery::Deliveries;
 use sessions::refusals;
+use sessions::session::DeliveryAnswer;
 use sessions::session::MakingAnswer;
 use sessions::session::Outcome;
+use sessions::session::PendingAnswer;
+use sessions::session::PendingAt;
+use sessions::session::Recording;
 use sessions::session::Session;
 use sessions::session::SessionAnswer;
 use sessions::session::TimedOut;
@@ -25,7 +31,7 @@ struct State {
     more: bool,
 }
 
-// The first octets behind a call's kind, and whether there were as many as asked for.
+// The first octets after a call's kind, and whether there were as many as asked for.
 struct Head {
     octets: [u8; 27],
     whole: bool,
@@ -69,7 +75,7 @@ fn put_flags(head: &mut [u8; 27], i: usize, flags: [bool; 3])
     head[i + 2] = bit(flags[2]);
 }
 
-// All of a record but the ids.
+// All of a record but the ids and the deliveries.
 fn head_of(s: Session) -> [u8; 27] {
     let offered = s.offered;
     let shared = s.shared;
@@ -85,7 +91,21 @@ fn head_of(s: Session) -> [u8; 27] {
     head
 }
 
-// The record, 687 octets.
+// The labels, their lengths, the places of their subscriptions, the ack modes and the count: 2,193 octets.
+fn write_deliveries(d: Deliveries) {
+    let labels = d.labels;
+    let lens = d.lens;
+    let places = d.places;
+    let modes = d.modes;
+    let count = [d.count];
+    io::write_all(STDOUT_FILENO, &labels);
+    io::write_all(STDOUT_FILENO, &lens);
+    io::write_all(STDOUT_FILENO, &places);
+    io::write_all(STDOUT_FILENO, &modes);
+    io::write_all(STDOUT_FILENO, &count);
+}
+
+// The record, 2,880 octets.
 fn write_record(s: Session) {
     let head = head_of(s);
     let subs = s.subs;
@@ -97,6 +117,8 @@ fn write_record(s: Session) {
     io::write_all(STDOUT_FILENO, &sub_lens);
     io::write_all(STDOUT_FILENO, &txs);
     io::write_all(STDOUT_FILENO, &tx_lens);
+    let deliveries = s.deliveries;
+    write_deliveries(deliveries);
 }
 
 fn say(text: &[u8]) {
@@ -114,7 +136,7 @@ fn say_version(version: u32) {
     io::print_decimal(STDOUT_FILENO, (version % 10) as u64);
 }
 
-// The rest of what a call gives, behind its answer.
+// The rest of what a call gives, after its answer.
 fn answered(session: Session) -> State {
     say(b" version ");
     say_version(session.highest_shared());
@@ -236,6 +258,108 @@ fn timed_out_in_place(session: Session, head: &[u8; 27]) -> State {
     answered(after)
 }
 
+// What recording a delivery came to.
+fn say_recorded(answer: DeliveryAnswer) {
+    match answer {
+        DeliveryAnswer::Recorded => say(b"recorded"),
+        DeliveryAnswer::Refused(n) => say_refused(n),
+    }
+}
+
+// A delivery, to the session by value, or lent.
+fn deliver_by(session: Session, subscription: &[u8], label: &[u8], lent: bool) -> Recording {
+    if lent {
+        return in_place::deliver(session, subscription, label);
+    }
+    session.deliver(subscription, label)
+}
+
+fn deliver(session: Session, head: &[u8; 27], lent: bool) -> State {
+    let mut subscription = io::large_buffer();
+    let mut label = io::large_buffer();
+    let n = at_most(number_at(head, 0));
+    let m = at_most(number_at(head, 4));
+    if !read_front(&mut subscription, n) {
+        return cut(session);
+    }
+    if !read_front(&mut label, m) {
+        return cut(session);
+    }
+    let recording = deliver_by(session, &subscription[0..n], &label[0..m], lent);
+    let answer = recording.answer;
+    let after = recording.session;
+    say_recorded(answer);
+    answered(after)
+}
+
+// The last hexadecimal digit of a number.
+fn digit(n: u8) -> u8 {
+    let d = n % 16;
+    if d < 10 { 48 + d } else { 87 + d }
+}
+
+// The first octets of a text, as many as a length says, in hexadecimal.
+fn say_hexadecimal(text: &[u8; 32], len: u8) {
+    let mut i = 0usize;
+    while i < 32 {
+        if i < len as usize {
+            say(&[digit(text[i] / 16), digit(text[i])]);
+        }
+        i += 1;
+    }
+}
+
+fn say_held(p: PendingAt) {
+    let subscription = p.subscription;
+    let label = p.label;
+    say(b"pending ");
+    io::print_decimal(STDOUT_FILENO, p.mode as u64);
+    say(b" ");
+    say_hexadecimal(&subscription, p.subscription_len);
+    say(b" ");
+    say_hexadecimal(&label, p.label_len);
+}
+
+fn pending(session: Session, head: &[u8; 27]) -> State {
+    let p = session.pending_at(number_at(head, 0) as usize);
+    let answer = p.answer;
+    match answer {
+        PendingAnswer::Held => say_held(p),
+        PendingAnswer::Absent => say(b"none"),
+        PendingAnswer::Invalid => say_refused(refusals::INVALID),
+    }
+    answered(session)
+}
+
+// The deliveries of a record, and whether they were whole.
+struct DeliveriesRead {
+    deliveries: Deliveries,
+    whole: bool,
+}
+
+fn read_deliveries() -> DeliveriesRead {
+    let mut labels = [0u8; Deliveries::MAX * Session::ID];
+    let mut lens = [0u8; Deliveries::MAX];
+    let mut places = [0u8; Deliveries::MAX];
+    let mut modes = [0u8; Session::SUBSCRIPTIONS];
+    let mut count = [0u8; 1];
+    let has_labels = read_front(&mut labels, Deliveries::MAX * Session::ID)
+        & read_front(&mut lens, Deliveries::MAX);
+    let has_places = read_front(&mut places, Deliveries::MAX)
+        & (read_front(&mut modes, Session::SUBSCRIPTIONS) & read_front(&mut count, 1));
+    let deliveries = Deliveries {
+        labels,
+        lens,
+        places,
+        modes,
+        count: count[0],
+    };
+    DeliveriesRead {
+        deliveries,
+        whole: has_labels & has_places,
+    }
+}
+
 fn set(session: Session, head: &[u8; 27]) -> State {
     let mut subs = [0u8; Session::SUBSCRIPTIONS * Session::ID];
     let mut sub_lens = [0u8; Session::SUBSCRIPTIONS];
@@ -245,9 +369,11 @@ fn set(session: Session, head: &[u8; 27]) -> State {
         & read_front(&mut sub_lens, Session::SUBSCRIPTIONS);
     let has_txs = read_front(&mut txs, Session::TRANSACTIONS * Session::ID)
         & read_front(&mut tx_lens, Session::TRANSACTIONS);
-    if !(has_subs & has_txs) {
+    let read = read_deliveries();
+    if !(has_subs & (has_txs & read.whole)) {
         return cut(session);
     }
+    let deliveries = read.deliveries;
     let offered = flags_at(head, 9);
     let shared = flags_at(head, 12);
     let after = Session {
@@ -263,24 +389,26 @@ fn set(session: Session, head: &[u8; 27]) -> State {
         offered,
         shared,
         phase: head[0],
+        deliveries,
     };
     say(b"set");
     answered(after)
 }
 
-// How many octets stand behind a call's kind, before its block or its ids.
+// How many octets are after a call's kind, before its block, its texts or its ids.
 fn head_length(kind: u8) -> usize
     ensures { λ r. ⌜ r ≤ 27 ⌝ }
 {
     match kind {
         0 => 11,
         1 | 5 => 12,
+        8 | 9 => 8,
         4 => 27,
         _ => 4,
     }
 }
 
-// What stands behind a kind up to 7, and the call.
+// What is after a kind up to 10, and the call.
 fn call_of(session: Session, kind: u8) -> State {
     let h = read_head(head_length(kind));
     let head = h.octets;
@@ -295,7 +423,10 @@ fn call_of(session: Session, kind: u8) -> State {
         4 => set(session, &head),
         5 => frame(session, &head, true),
         6 => heart_beat_in_place(session, &head),
-        _ => timed_out_in_place(session, &head),
+        7 => timed_out_in_place(session, &head),
+        8 => deliver(session, &head, false),
+        9 => deliver(session, &head, true),
+        _ => pending(session, &head),
     }
 }
 
@@ -309,7 +440,7 @@ fn call(state: State) -> State {
             more: false,
         };
     }
-    if 7 < kind[0] {
+    if 10 < kind[0] {
         return stopped(session, b"a call has an unknown kind");
     }
     call_of(session, kind[0])

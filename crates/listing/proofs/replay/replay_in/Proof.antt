@@ -7,11 +7,11 @@ use Rattle.listing.proofs.replay.replay_in.Statement.{statement}
 use Rattle.listing.proofs.replay.replay_in.Tie as tie
 
 abbrev Inv-loop : tie.InvT-loop
-Inv-loop fd buf₀ block₀ out₀ at₀ turns₀ buf block out at turns =
+Inv-loop fd buf₀ block₀ out₀ log at₀ turns₀ buf block out at turns =
     Room (length buf) (length out) (at .progress) × (length buf ≡ length buf₀) × (length block ≡ length block₀) × (length out ≡ length out₀)
 
 abbrev μ-loop : tie.MeasureT-loop
-μ-loop fd buf₀ block₀ out₀ at₀ turns₀ buf block out at turns = turns
+μ-loop fd buf₀ block₀ out₀ log at₀ turns₀ buf block out at turns = turns
 
 nothing-listed-requires : tie.Need-nothing-listed-requires Inv-loop μ-loop
 nothing-listed-requires c κs = search needs
