@@ -1,6 +1,7 @@
 //! Tests of the rules against slower readings of the definitions: items are put together by the
 //! grammar instead of taken apart, and "can still be finished" is looked up among their beginnings.
 
+mod deliveries;
 mod feeding;
 mod histories;
 mod opening;

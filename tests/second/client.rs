@@ -1,6 +1,7 @@
 //! Random frames of a client, for a session as it stands: such as the session accepts, and such as it
 //! refuses with a number that is asked for.
 
+pub mod messages;
 pub mod right;
 pub mod values;
 pub mod wrong;
@@ -13,7 +14,7 @@ use crate::session::frame::{naming, needed, opens, Frame, Kind};
 use crate::session::{Places, Session};
 
 /// The headers that a session looks at in some command.
-const KNOWN: [&[u8]; 7] = [
+const KNOWN: [&[u8]; 9] = [
     b"accept-version",
     b"host",
     b"heart-beat",
@@ -21,10 +22,12 @@ const KNOWN: [&[u8]; 7] = [
     b"id",
     b"transaction",
     b"receipt",
+    b"ack",
+    b"subscription",
 ];
 
 /// Names that are almost those.
-const ALMOST: [&[u8]; 12] = [
+const ALMOST: [&[u8]; 15] = [
     b"i",
     b"ID",
     b"id ",
@@ -37,6 +40,9 @@ const ALMOST: [&[u8]; 12] = [
     b"hos",
     b"heart_beat",
     b"version",
+    b"ac",
+    b"Ack",
+    b"ack\0",
 ];
 
 /// The command of a name.
@@ -61,11 +67,23 @@ fn deciding(command: Command) -> Vec<&'static [u8]> {
     if opens(command) {
         names.push(b"heart-beat");
     }
+    match command.name() {
+        b"SUBSCRIBE" => names.push(b"ack"),
+        b"MESSAGE" => names.extend([&b"subscription"[..], b"ack"]),
+        _ => {}
+    }
     names
 }
 
+/// Gives the frame one entry of this name.
+fn set(frame: &mut Frame, name: &[u8], value: &[u8]) {
+    frame.entries.retain(|entry| entry.name != name);
+    frame.entries.push(Entry::new(name, value));
+}
+
 /// A frame with the headers that its command needs, each with a value that is accepted; it names this
-/// id, if its command names one.
+/// id, if its command names one. SUBSCRIBE has a known mode; whether the label of ACK or NACK is pending is
+/// the caller's to see to.
 fn frame(random: &mut Random, command: Command, id: Option<&[u8]>) -> Frame {
     let value = |name: &&'static [u8]| match *name {
         b"accept-version" => Entry::new(name, &values::versions(random)),
@@ -75,6 +93,9 @@ fn frame(random: &mut Random, command: Command, id: Option<&[u8]>) -> Frame {
     if let Some((naming, id)) = naming(command).zip(id) {
         entries.retain(|entry| entry.name != naming.header);
         entries.push(Entry::new(naming.header, id));
+    }
+    if command.name() == b"SUBSCRIBE" && !random.once_in(5) {
+        entries.push(Entry::new(b"ack", values::mode(random)));
     }
     Frame { command, entries }
 }

@@ -7,11 +7,16 @@ use crate::listing::End;
 use crate::lives::{life, Life};
 use crate::program::{self, Ran};
 use crate::random::Random;
-use crate::replay::{self, Replay};
+use crate::replay::{self, Replay, Said};
+use crate::session::delivery::Recorded;
+use crate::session::Answer;
 use std::io::{self, Write};
 
 /// The refusals of a session that is made and gets frames.
-const NUMBERS: [usize; 11] = [31, 32, 33, 40, 41, 42, 43, 44, 45, 46, 47];
+pub const NUMBERS: [usize; 13] = [31, 32, 33, 40, 41, 42, 43, 44, 45, 46, 47, 49, 60];
+
+/// The refusals of such a session that is told of a delivery.
+pub const RECORDING: [usize; 4] = [61, 62, 63, 64];
 
 /// How many octets the streams compared had, and how often each outcome came up; of accepted frames,
 /// first those without a receipt, then those with one.
@@ -21,23 +26,25 @@ pub struct Tally {
     beats: [usize; 2],
     accepted: [[usize; 2]; COMMANDS.len()],
     refused: [[usize; NUMBERS.len()]; COMMANDS.len()],
+    logs: usize,
+    delivered: usize,
+    unrecorded: [usize; RECORDING.len()],
     ends: [usize; 3],
+}
+
+/// Counts a number in its column.
+fn count_in(numbers: &[usize], counts: &mut [usize], number: usize) {
+    let column = numbers.iter().position(|&known| known == number);
+    counts[column.expect("a refusal that can be")] += 1;
 }
 
 impl Tally {
     fn count(&mut self, replay: &Replay) {
         for step in &replay.steps {
-            let Some(command) = step.command else {
-                self.beats[usize::from(step.answer.is_err())] += 1;
-                continue;
-            };
-            let index = command.0 - 1;
-            match step.answer {
-                Ok(accepted) => self.accepted[index][usize::from(accepted.receipt)] += 1,
-                Err(number) => {
-                    let column = NUMBERS.iter().position(|&known| known == number);
-                    self.refused[index][column.expect("a refusal of a frame")] += 1;
-                }
+            match (step.command, step.said) {
+                (_, Said::Recorded(recorded)) => self.count_delivery(recorded),
+                (None, Said::Answer(answer)) => self.beats[usize::from(answer.is_err())] += 1,
+                (Some(command), Said::Answer(answer)) => self.count_frame(command.0 - 1, answer),
             }
         }
         let end = match replay.listing.end {
@@ -46,6 +53,20 @@ impl Tally {
             End::Nothing => 2,
         };
         self.ends[end] += 1;
+    }
+
+    fn count_frame(&mut self, index: usize, answer: Answer) {
+        match answer {
+            Ok(accepted) => self.accepted[index][usize::from(accepted.receipt)] += 1,
+            Err(number) => count_in(&NUMBERS, &mut self.refused[index], number),
+        }
+    }
+
+    fn count_delivery(&mut self, recorded: Recorded) {
+        match recorded {
+            Ok(()) => self.delivered += 1,
+            Err(number) => count_in(&RECORDING, &mut self.unrecorded, number),
+        }
     }
 }
 
@@ -58,8 +79,8 @@ impl comparison::Tally for Tally {
         for number in 0..count {
             let life = life(&mut random);
             let (sends, wants) = life.offers.unwrap_or((0, 0));
-            let replay =
-                replay::replay(&life.stream, sends, wants).expect("offers that are allowed");
+            let replay = replay::replay(&life.stream, sends, wants, life.log);
+            let replay = replay.expect("offers that are allowed");
             let ours = replay::write(&replay);
             let ran = program::run(program, &arguments(&life), &life.stream)?;
             io::stderr().write_all(&ran.errors)?;
@@ -69,6 +90,7 @@ impl comparison::Tally for Tally {
                 return Ok(None);
             }
             tally.octets += life.stream.len();
+            tally.logs += usize::from(life.log);
             tally.count(&replay);
         }
         Ok(Some(tally))
@@ -100,6 +122,8 @@ impl comparison::Tally for Tally {
         }
         print!("frames refused");
         print_counts(NUMBERS.iter().zip(&all));
+        print!("logs {}, delivered {}, refused", self.logs, self.delivered);
+        print_counts(RECORDING.iter().zip(&self.unrecorded));
         let [refused, more, end] = self.ends;
         println!("stream refused {refused}, more {more}, end {end}");
     }
@@ -113,12 +137,16 @@ fn print_counts<'a>(counts: impl Iterator<Item = (&'a usize, &'a usize)>) {
     println!();
 }
 
-/// The arguments that the program gets: none, or the server's two numbers.
+/// The arguments that the program gets: none, or the server's two numbers, and `log` for a log.
 fn arguments(life: &Life) -> Vec<String> {
-    match life.offers {
+    let mut arguments = match life.offers {
         Some((sends, wants)) => vec![sends.to_string(), wants.to_string()],
         None => Vec::new(),
+    };
+    if life.log {
+        arguments.push("log".to_string());
     }
+    arguments
 }
 
 /// Keeps the stream in a file and prints both outputs from the first line that differs.

@@ -7,13 +7,14 @@ use crate::program;
 use crate::random::Random;
 use crate::session::record::{Record, LENGTH};
 use crate::session::MAX_ID;
+use crate::session_calls::accounts::{self, Totals};
 use crate::session_calls::sequence::{sequence, Step};
 use crate::session_calls::{Call, NAMES};
 use std::collections::BTreeMap;
 use std::io;
 
 /// The answers to a frame.
-const FRAME: [&str; 15] = [
+const FRAME: [&str; 17] = [
     "accepted",
     "accepted receipt",
     "refused 31",
@@ -29,14 +30,25 @@ const FRAME: [&str; 15] = [
     "refused 45",
     "refused 46",
     "refused 47",
+    "refused 49",
+    "refused 60",
 ];
 
 const HEART_BEAT: [&str; 3] = ["accepted", "refused 38", "refused 40"];
 
 const TIMED_OUT: [&str; 3] = ["yes", "no", "refused 38"];
 
-/// The answers to each kind of call, by its number.
-const ANSWERS: [&[&str]; 8] = [
+const DELIVER: [&str; 6] = [
+    "recorded",
+    "refused 38",
+    "refused 61",
+    "refused 62",
+    "refused 63",
+    "refused 64",
+];
+
+/// The answers to each kind of call, by its number; of `pending` without the texts.
+pub const ANSWERS: [&[&str]; 11] = [
     &["made", "refused 34"],
     &FRAME,
     &HEART_BEAT,
@@ -45,10 +57,19 @@ const ANSWERS: [&[&str]; 8] = [
     &FRAME,
     &HEART_BEAT,
     &TIMED_OUT,
+    &DELIVER,
+    &DELIVER,
+    &["pending 1", "pending 2", "none", "refused 38"],
 ];
 
+/// The answer without the texts of `pending`.
+pub fn in_short(answer: &str) -> String {
+    let words: Vec<&str> = answer.split(' ').take(2).collect();
+    words.join(" ")
+}
+
 /// The parts of a record, with the octet that each begins at.
-const PARTS: [(usize, &str); 12] = [
+const PARTS: [(usize, &str); 17] = [
     (0, "phase"),
     (1, "sends"),
     (5, "wants"),
@@ -61,18 +82,25 @@ const PARTS: [(usize, &str); 12] = [
     (539, "lengths of subscription ids"),
     (555, "transaction ids"),
     (683, "lengths of transaction ids"),
+    (687, "labels"),
+    (2_735, "lengths of labels"),
+    (2_799, "places of their subscriptions"),
+    (2_863, "modes"),
+    (2_879, "count"),
 ];
 
-/// How many octets the calls compared had, and how often each answer came up, of each kind of call.
+/// How many octets the calls compared had, how often each answer came up, of each kind of call, and the
+/// accounts of the deliveries.
 #[derive(Default)]
 pub struct Tally {
     octets: usize,
     answers: BTreeMap<(&'static str, String), usize>,
+    totals: Totals,
 }
 
 impl Tally {
     fn count(&mut self, step: &Step) {
-        let key = (step.call.name(), step.reply.answer.clone());
+        let key = (step.call.name(), in_short(&step.reply.answer));
         *self.answers.entry(key).or_default() += 1;
     }
 }
@@ -85,6 +113,7 @@ impl comparison::Tally for Tally {
         let equal = comparison::in_batches(program, count, seed, |batch: &Batch, octets| {
             tally.octets += octets;
             batch.0.iter().for_each(|step| tally.count(step));
+            tally.totals.add(&accounts::of(&batch.0));
         })?;
         Ok(equal.then_some(tally))
     }
@@ -100,6 +129,13 @@ impl comparison::Tally for Tally {
                 println!("{kind}: {answer} {count}");
             }
         }
+        let totals = &self.totals;
+        print!("accounts of {} sessions made: ", totals.lives);
+        print!("{} deliveries made, ", totals.made);
+        print!("{} acknowledged, ", totals.acknowledged);
+        print!("{} refused by NACK, ", totals.refused);
+        print!("{} dropped, ", totals.dropped);
+        println!("{} pending", totals.pending);
     }
 }
 
@@ -152,9 +188,12 @@ fn report(name: &str, steps: &[Step]) -> io::Result<()> {
 
 fn print_record(record: &Record) {
     println!("record before: phase {}, {:?}", record.phase, record.state);
+    println!("  modes {:?}, count {}", record.modes, record.count);
+    println!("  places of subscriptions {:?}", record.owners);
     let stores = [
         ("subscription", &record.subscriptions),
         ("transaction", &record.transactions),
+        ("label", &record.labels),
     ];
     for (kind, store) in stores {
         let places = store.octets.chunks(MAX_ID).zip(&store.lengths);

@@ -1,37 +1,49 @@
 //! The fixed inputs of the programs `session_calls` and `replay`: document 01's examples of a session,
-//! each refusal, and the limits with one more; and those of `feed_calls`.
+//! each refusal, and the limits with one more, and deliveries; and those of `feed_calls`.
 
+mod deliveries;
 pub mod feeding;
 mod records;
 
+use self::deliveries::holding;
 use self::records::{invalid, making, valid};
 use crate::block::{self, Entry};
 use crate::client::command;
+use crate::session::delivery::Mode;
 use crate::session::opening::{Flags, MAX_INTERVAL, ONLY_1_2};
 use crate::session::record::{make, Record};
 use crate::session::{MAX_ID, SUBSCRIPTIONS, TRANSACTIONS};
 use crate::session_calls::{first_record, Call, Reply, Way};
 
-/// A client's life: what is accepted up to DISCONNECT, a frame and a heart-beat behind it, and octets
-/// that are refused.
+/// A client's life as a log: what is accepted up to DISCONNECT, messages that are recorded or not, frames and
+/// a heart-beat after it, and octets that are refused.
 pub fn stream() -> Vec<u8> {
-    let parts: [&[u8]; 18] = [
+    let parts: [&[u8]; 27] = [
         b"\n",
+        b"MESSAGE\nsubscription:b\nack:early\n\n\0",
         b"CONNECT\naccept-version:1.0,1.1,1.2\nhost:stomp\\example\nheart-beat:1000,0\nreceipt:no\n\n\0",
         b"\r\n",
         b"SUBSCRIBE\nid:a\\cb\ndestination:/queue/a\nid:later\nack:client\n\n\0",
         b"SUBSCRIBE\r\ndestination:/queue/b\r\nreceipt:r-1\r\nid:b\r\n\r\n\0",
+        b"MESSAGE\nsubscription:a\\cb\nmessage-id:1\nack:m\\c1\ndestination:/queue/a\n\none\0",
+        b"MESSAGE\nsubscription:b\nack:m\\c1\nmessage-id:2\n\n\0",
+        b"MESSAGE\nsubscription:b\nack:m\\c2\nack:m\\c1\n\n\0",
+        b"MESSAGE\r\nack:12345\r\nsubscription:a\\cb\r\ncontent-length:3\r\n\r\n\0\0\0\0",
+        b"MESSAGE\nsubscription:a\\cb\nmessage-id:3\n\n\0\n",
+        b"MESSAGE\nack:m\\c3\nmessage-id:3\n\n\0",
         b"BEGIN\ntransaction:tx1\n\n\0\n",
         b"SEND\ndestination:/queue/a\ntransaction:tx1\nreceipt:r-2\ncontent-length:3\n\na\0b\0",
         b"SEND\ndestination:\n\nno transaction\0",
-        b"ACK\nid:12345\ntransaction:tx1\n\n\0",
-        b"NACK\nid:\n\n\0",
+        b"ACK\nid:m\\c1\ntransaction:tx1\n\n\0",
+        b"NACK\nid:12345\n\n\0",
         b"COMMIT\ntransaction:tx1\nreceipt:\n\n\0\n\n",
         b"BEGIN\ntransaction:tx1\n\n\0",
         b"ABORT\ntransaction:tx1\n\n\0",
         b"UNSUBSCRIBE\nid:a\\cb\n\n\0",
-        b"SUBSCRIBE\nid:a\\\\cb\ndestination:/queue/c\n\n\0",
+        b"SUBSCRIBE\nid:a\\\\cb\ndestination:/queue/c\nack:client-individual\n\n\0",
+        b"MESSAGE\nsubscription:a\\\\cb\nack:12345\n\n\0",
         b"DISCONNECT\nreceipt:77\n\n\0",
+        b"MESSAGE\nsubscription:b\nack:late\n\n\0",
         b"SEND\ndestination:/queue/a\n\ntoo late\0\n",
         b"SENT",
     ];
@@ -62,6 +74,13 @@ fn by_value() -> Vec<Call> {
         making(),
         invalid(),
         valid(),
+        deliveries::recording(),
+        deliveries::settling(),
+        deliveries::full(),
+        deliveries::dropping(),
+        deliveries::modes(),
+        deliveries::invalid(),
+        deliveries::valid(),
     ]
     .concat()
 }
@@ -117,13 +136,16 @@ fn connect(versions: &str, numbers: &str) -> Call {
     frame_at(100, b"CONNECT", &entries)
 }
 
-/// The record of document 01's offers, opened, with these ids and last-heard 100.
+/// The record of document 01's offers, opened, with these ids, in auto mode, and last-heard 100.
 fn open(subscriptions: &[&str], transactions: &[&str]) -> Record {
     let (_, fresh) = make(500, 2_000, ONLY_1_2);
     let opened = Reply::of(&fresh, &connect("1.2", "1000,0")).record;
     let mut session = opened.session().expect("a valid session");
     for (place, id) in subscriptions.iter().enumerate() {
-        session.subscriptions[place] = (!id.is_empty()).then(|| id.as_bytes().to_vec());
+        if !id.is_empty() {
+            session.subscriptions[place] = Some(id.as_bytes().to_vec());
+            session.modes.insert(id.as_bytes().to_vec(), Mode::Auto);
+        }
     }
     for (place, id) in transactions.iter().enumerate() {
         session.transactions[place] = (!id.is_empty()).then(|| id.as_bytes().to_vec());
@@ -160,11 +182,12 @@ fn clock() -> Vec<Call> {
 
 /// Last-heard and receipts: accepted frames and heart-beats set last-heard, refused ones do not.
 fn last_heard() -> Vec<Call> {
+    let subscriptions = [("s", Mode::Individual)];
     vec![
-        set(&open(&[], &[])),
+        set(&holding(&subscriptions, &[("s", "n"), ("s", "a")])),
         heart_beat(200),
         frame_at(300, b"SEND", &[("destination", "/q"), ("receipt", "r")]),
-        frame_at(400, b"ACK", &[("receipt", ""), ("id", "")]),
+        frame_at(400, b"ACK", &[("receipt", ""), ("id", "a")]),
         frame_at(500, b"NACK", &[("id", "n"), ("receipts", "r")]),
         frame_at(600, b"SEND", &[("receipt", "r")]),
         timed_out(u32::MAX),
@@ -214,14 +237,15 @@ fn transactions() -> Vec<Call> {
     let begin = |id: &str| frame(b"BEGIN", &[("transaction", id)]);
     let ids = ["a", "b", "c", "d"];
     let send = [("destination", "/q"), ("transaction", "e")];
-    let mut calls = vec![set(&open(&["a"], &[]))];
+    let pending = [("a", "m"), ("a", "n")];
+    let mut calls = vec![set(&holding(&[("a", Mode::Client)], &pending))];
     calls.extend(ids.iter().take(TRANSACTIONS).map(|id| begin(id)));
     calls.extend([
         frame(b"COMMIT", &[("transaction", "b")]),
         frame(b"ABORT", &[("transaction", "c")]),
         begin("e"),
         frame(b"SEND", &send),
-        frame(b"ACK", &[("id", ""), ("transaction", "a")]),
+        frame(b"ACK", &[("id", "m"), ("transaction", "a")]),
         frame(b"NACK", &[("transaction", "d"), ("id", "n")]),
         begin("b"),
         begin("5th"),

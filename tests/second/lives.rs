@@ -1,7 +1,8 @@
 //! Random streams of a client's life: heart-beats and frames that are accepted for a good while, most
-//! often one that is not, and some behind it.
+//! often one that is not, and some after it. A log has the MESSAGE frames too that the client was sent.
 
 use crate::block::Entry;
+use crate::client::messages::message;
 use crate::client::right::{leaving, right, taking};
 use crate::client::wrong::wrong;
 use crate::decode::decode;
@@ -14,9 +15,10 @@ use crate::session::record::make;
 use crate::session::{Phase, Session};
 use crate::streams::{body, damage, length_line, line_end};
 
-/// A stream, and the server's heart-beat numbers; without them they are 0.
+/// A stream, the server's heart-beat numbers, which are 0 without them, and whether it is a log.
 pub struct Life {
     pub offers: Option<(u32, u32)>,
+    pub log: bool,
     pub stream: Vec<u8>,
 }
 
@@ -28,7 +30,7 @@ enum Plan {
     Stays,
 }
 
-const PLANS: [Plan; 15] = [
+const PLANS: [Plan; 19] = [
     Plan::Refused(31),
     Plan::Refused(32),
     Plan::Refused(33),
@@ -42,6 +44,10 @@ const PLANS: [Plan; 15] = [
     Plan::Refused(46),
     Plan::Refused(46),
     Plan::Refused(47),
+    Plan::Refused(49),
+    Plan::Refused(60),
+    Plan::Refused(60),
+    Plan::Leaves,
     Plan::Leaves,
     Plan::Stays,
 ];
@@ -49,7 +55,8 @@ const PLANS: [Plan; 15] = [
 /// One random life.
 pub fn life(random: &mut Random) -> Life {
     let offers = offers(random);
-    let mut client = Client::new(offers.unwrap_or((0, 0)));
+    let log = !random.once_in(3);
+    let mut client = Client::new(offers.unwrap_or((0, 0)), log);
     let plan = random.pick(&PLANS);
     client.beats(random);
     if !ends_fresh(random, plan) {
@@ -58,6 +65,9 @@ pub fn life(random: &mut Random) -> Life {
     }
     if random.once_in(5) || plan == Plan::Refused(47) {
         client.fills(random);
+    }
+    if log && random.once_in(6) {
+        client.gets_all(random);
     }
     if random.once_in(4) {
         client.beats(random);
@@ -68,7 +78,11 @@ pub fn life(random: &mut Random) -> Life {
         client.breaks_off(random);
     }
     let stream = client.stream;
-    Life { offers, stream }
+    Life {
+        offers,
+        log,
+        stream,
+    }
 }
 
 /// The server's two numbers, or none.
@@ -91,25 +105,52 @@ fn ends_fresh(random: &mut Random, plan: Plan) -> bool {
 /// A client that keeps its own session, so that it knows what is accepted.
 struct Client {
     session: Session,
+    log: bool,
     stream: Vec<u8>,
 }
 
 impl Client {
-    fn new((sends, wants): (u32, u32)) -> Client {
+    fn new((sends, wants): (u32, u32), log: bool) -> Client {
         let (_, record) = make(sends, wants, ONLY_1_2);
         Client {
             session: record.session().expect("a session that was made"),
+            log,
             stream: Vec::new(),
         }
     }
 
-    /// Sends the frame. The session gets what is read of it.
+    /// Sends the frame, or gets it where it is a MESSAGE of a log. The session gets what is read of it.
     fn send(&mut self, random: &mut Random, frame: &Frame) {
         let image = image(random, frame);
         let content = decode(&image).expect("a frame");
         let (command, entries) = (content.command, content.entries);
-        let _ = self.session.frame(&Frame { command, entries }, 0);
+        let frame = Frame { command, entries };
+        let text = |name: &[u8]| frame.first(name).unwrap_or_default();
+        if self.log && command.name() == b"MESSAGE" {
+            let _ = self.session.deliver(text(b"subscription"), text(b"ack"));
+        } else {
+            let _ = self.session.frame(&frame, 0);
+        }
         self.stream.extend(image);
+    }
+
+    /// Gets some messages, if there is a log.
+    fn gets(&mut self, random: &mut Random) {
+        for _ in 0..random.pick(&[0, 1, 1, 3, 6]) {
+            if self.log {
+                let frame = message(random, &self.session);
+                self.send(random, &frame);
+            }
+        }
+    }
+
+    /// Gets as many messages as can be pending, and some more, if the session has a subscription.
+    fn gets_all(&mut self, random: &mut Random) {
+        let has = self.session.phase == Phase::Open && !self.session.modes.is_empty();
+        for _ in 0..if has { 120 } else { 2 } {
+            let frame = message(random, &self.session);
+            self.send(random, &frame);
+        }
     }
 
     fn beats(&mut self, random: &mut Random) {
@@ -128,6 +169,9 @@ impl Client {
         for _ in 0..random.pick(&[0, 2, 5, 12, 30, 60]) {
             if random.once_in(8) {
                 self.beats(random);
+            }
+            if random.once_in(3) {
+                self.gets(random);
             }
             self.right(random);
         }
@@ -171,6 +215,9 @@ impl Client {
                 _ => Some(right(random, &session)),
             };
             self.beats(random);
+            if random.once_in(3) {
+                self.gets(random);
+            }
             if let Some(frame) = frame {
                 self.send(random, &frame);
             }

@@ -46,7 +46,7 @@ use std::time::Duration;
 
 const USAGE: &str = "second list
 second rewrite
-second replay [SENDS WANTS]
+second replay [SENDS WANTS] [log]
 second session
 second feed
 second compare PROGRAM COUNT SEED
@@ -68,8 +68,10 @@ fn main() -> ExitCode {
     let done = match arguments[..] {
         ["list"] => list(),
         ["rewrite"] => rewrite(),
-        ["replay"] => replay("0", "0"),
-        ["replay", sends, wants] => replay(sends, wants),
+        ["replay"] => replay("0", "0", false),
+        ["replay", "log"] => replay("0", "0", true),
+        ["replay", sends, wants] => replay(sends, wants, false),
+        ["replay", sends, wants, "log"] => replay(sends, wants, true),
         ["session"] => session(),
         ["feed"] => feed(),
         ["compare-for", seconds, seed, programs] => compare_for(seconds, seed, programs),
@@ -114,15 +116,17 @@ fn rewrite() -> io::Result<bool> {
     Ok(true)
 }
 
-/// Reads a client's stream from standard input and writes what a session answers to its items.
-fn replay(sends: &str, wants: &str) -> io::Result<bool> {
+/// Reads a client's stream from standard input, with the MESSAGE frames that it was sent if it is a log, and
+/// writes what a session answers to its items.
+fn replay(sends: &str, wants: &str, log: bool) -> io::Result<bool> {
     let offer = |text: &str| item::decimal(text.as_bytes(), MAX_INTERVAL as usize);
     let (Some(sends), Some(wants)) = (offer(sends), offer(wants)) else {
         return Err(io::Error::other("replay: no heart-beat offers"));
     };
     let mut stream = Vec::new();
     io::stdin().read_to_end(&mut stream)?;
-    let replay = replay::replay(&stream, sends as u32, wants as u32).expect("offers in the limit");
+    let replay = replay::replay(&stream, sends as u32, wants as u32, log);
+    let replay = replay.expect("offers in the limit");
     io::stdout().write_all(replay::write(&replay).as_bytes())?;
     Ok(true)
 }

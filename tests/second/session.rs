@@ -1,12 +1,15 @@
-//! One client's session, document 01: ids are held whole, each in its place, and each refusal is one
-//! question, asked in the document's order.
+//! One client's session, document 01, with the deliveries of document 02's C-15: ids are held whole, each in
+//! its place, and each refusal is one question, asked in the document's order.
 
+pub mod delivery;
 pub mod frame;
 pub mod opening;
 pub mod record;
 
+use self::delivery::{Delivery, Mode};
 use self::frame::{is_servers, naming, needed, Frame, Kind, Naming, Use};
 use self::opening::{interval, passed, shared, Flags, NO_VERSION};
+use std::collections::BTreeMap;
 
 /// The sizes.
 pub const SUBSCRIPTIONS: usize = 16;
@@ -36,13 +39,16 @@ pub struct State {
     pub last_heard: u32,
 }
 
-/// A valid session.
+/// A valid session: `modes` has the mode of each live subscription by its id, `deliveries` the pending ones,
+/// oldest first.
 #[derive(Clone, PartialEq, Eq, Debug)]
 pub struct Session {
     pub phase: Phase,
     pub state: State,
     pub subscriptions: Places,
     pub transactions: Places,
+    pub modes: BTreeMap<Vec<u8>, Mode>,
+    pub deliveries: Vec<Delivery>,
 }
 
 /// An accepted answer "says only that": whether a receipt is owed.
@@ -56,8 +62,9 @@ pub type Answer = Result<Accepted, usize>;
 
 type Check = fn(&Session, &Frame) -> bool;
 
-/// The refusals from 40 on, in their order; "at CONNECT/STOMP 31, 32, 33 after 43".
-const CHECKS: [(usize, Check); 11] = [
+/// The refusals from 40 on, in their order; "at CONNECT/STOMP 31, 32, 33 after 43", and in C-15 "49 unknown
+/// mode, after 47; 60 the id of ACK or NACK is no outstanding label, after 46".
+const CHECKS: [(usize, Check); 13] = [
     (40, |session, _| session.phase == Phase::Closed),
     (41, |_, frame| is_servers(frame.command)),
     (42, out_of_phase),
@@ -68,7 +75,9 @@ const CHECKS: [(usize, Check); 11] = [
     (44, wrong_length),
     (45, already_live),
     (46, not_live),
+    (60, not_pending),
     (47, all_places_live),
+    (49, |_, frame| frame.mode().is_none()),
 ];
 
 /// "42 not open, or a second CONNECT/STOMP"
@@ -109,6 +118,12 @@ fn not_live(session: &Session, frame: &Frame) -> bool {
     uses(frame, &[Use::Frees, Use::Mentions]) && !session.is_live(frame)
 }
 
+/// "60 the id of ACK or NACK is no outstanding label"
+fn not_pending(session: &Session, frame: &Frame) -> bool {
+    let pending = |label: &[u8]| session.pending(label).is_some();
+    frame.settles().is_some_and(|label| !pending(label))
+}
+
 /// "47 all places live"
 fn all_places_live(session: &Session, frame: &Frame) -> bool {
     let full = |naming: Naming| session.places(naming.kind).iter().all(Option::is_some);
@@ -146,16 +161,17 @@ impl Session {
     }
 
     /// Answers a frame of a known command with a well-formed header block. A refusal "closes it and
-    /// changes nothing else".
+    /// changes nothing else"; a close empties the places of deliveries.
     pub fn frame(&mut self, frame: &Frame, time: u32) -> Answer {
         if let Some((number, _)) = CHECKS.iter().find(|(_, fits)| fits(self, frame)) {
-            self.phase = Phase::Closed;
+            self.close();
             return Err(*number);
         }
         self.open(frame);
         self.take_or_free(frame);
+        self.account(frame);
         if frame.command.name() == b"DISCONNECT" {
-            self.phase = Phase::Closed;
+            self.close();
         }
         self.state.last_heard = time;
         let receipt = frame.first(b"receipt").is_some() && !frame.opens();
@@ -188,6 +204,26 @@ impl Session {
         };
         let place = self.places(kind).iter().position(|place| *place == there);
         self.places_mut(kind)[place.expect("a place")] = left;
+    }
+
+    /// What the frame changes of modes and deliveries: SUBSCRIBE sets a mode, UNSUBSCRIBE drops it with the
+    /// deliveries, ACK and NACK settle, "whatever ABORT does later".
+    fn account(&mut self, frame: &Frame) {
+        let id = frame.id().unwrap_or_default();
+        match frame.command.name() {
+            b"SUBSCRIBE" => {
+                let mode = frame.mode().expect("a known mode");
+                self.modes.insert(id.to_vec(), mode);
+            }
+            b"UNSUBSCRIBE" => {
+                self.modes.remove(id);
+                self.drop_deliveries(id);
+            }
+            _ => {}
+        }
+        if let Some(label) = frame.settles() {
+            self.settle(label);
+        }
     }
 
     /// Answers a heart-beat, the document's beat.

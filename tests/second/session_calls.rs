@@ -1,20 +1,22 @@
 //! The calls that the program `session_calls` reads, and what it writes of each: the answer, and the
-//! session record behind the call.
+//! session record after the call.
 
+pub mod accounts;
 pub mod blocks;
 pub mod records;
 pub mod sequence;
 
 use crate::reader::Reader;
 use crate::replay::written;
+use crate::session::delivery::Delivery;
 use crate::session::opening::{Flags, ONLY_1_2};
 use crate::session::record::{make, Record};
 
-/// No header block of a call is longer.
+/// No header block, subscription id or label of a call is longer.
 pub const MAX_BLOCK: usize = 65_536;
 
 /// The names of the calls, by their kind.
-pub const NAMES: [&str; 8] = [
+pub const NAMES: [&str; 11] = [
     "make",
     "frame",
     "heart-beat",
@@ -23,6 +25,9 @@ pub const NAMES: [&str; 8] = [
     "frame in place",
     "heart-beat in place",
     "timed out in place",
+    "deliver",
+    "deliver in place",
+    "pending",
 ];
 
 /// How the session is given to a call: as a value, or lent and altered where it lies. The reply is the
@@ -56,6 +61,14 @@ pub enum Call {
         time: u32,
     },
     Set(Box<Record>),
+    Deliver {
+        way: Way,
+        subscription: Vec<u8>,
+        label: Vec<u8>,
+    },
+    Pending {
+        index: u32,
+    },
 }
 
 impl Call {
@@ -67,6 +80,9 @@ impl Call {
     fn kind(&self) -> u8 {
         let in_place = |way: &Way| if *way == Way::InPlace { 4 } else { 0 };
         match self {
+            Call::Deliver { way, .. } if *way == Way::InPlace => 9,
+            Call::Deliver { .. } => 8,
+            Call::Pending { .. } => 10,
             Call::Make { .. } => 0,
             Call::Frame { way, .. } => 1 + in_place(way),
             Call::HeartBeat { way, .. } => 2 + in_place(way),
@@ -77,8 +93,10 @@ impl Call {
 
     /// The call in place, if it is one of those that can be.
     pub fn in_place(mut self) -> Call {
-        if let Call::Frame { way, .. } | Call::HeartBeat { way, .. } | Call::TimedOut { way, .. } =
-            &mut self
+        if let Call::Frame { way, .. }
+        | Call::HeartBeat { way, .. }
+        | Call::TimedOut { way, .. }
+        | Call::Deliver { way, .. } = &mut self
         {
             *way = Way::InPlace;
         }
@@ -110,13 +128,23 @@ impl Call {
                 [&kind, &time.to_be_bytes()[..]].concat()
             }
             Call::Set(record) => [&kind, &record.octets()[..]].concat(),
+            Call::Deliver {
+                subscription,
+                label,
+                ..
+            } => {
+                let lengths = [subscription, label].map(|text| (text.len() as u32).to_be_bytes());
+                [&kind, &lengths.concat()[..], subscription, label].concat()
+            }
+            Call::Pending { index } => [&kind, &index.to_be_bytes()[..]].concat(),
         }
     }
 
     /// The next call, if it is whole.
     fn read(reader: &mut Reader) -> Option<Call> {
         let kind = reader.octet()?;
-        let way = if kind > 4 { Way::InPlace } else { Way::ByValue };
+        let in_place = [5, 6, 7, 9].contains(&kind);
+        let way = if in_place { Way::InPlace } else { Way::ByValue };
         Some(match kind {
             0 => Call::Make {
                 sends: reader.number()?,
@@ -141,6 +169,17 @@ impl Call {
                 time: reader.number()?,
             },
             4 => Call::Set(Box::new(Record::read(reader)?)),
+            8 | 9 => {
+                let lengths = [reader.number()? as usize, reader.number()? as usize];
+                Call::Deliver {
+                    way,
+                    subscription: reader.octets(lengths[0])?.to_vec(),
+                    label: reader.octets(lengths[1])?.to_vec(),
+                }
+            }
+            10 => Call::Pending {
+                index: reader.number()?,
+            },
             _ => return None,
         })
     }
@@ -151,7 +190,7 @@ pub fn first_record() -> Record {
     make(0, 0, ONLY_1_2).1
 }
 
-/// The answer to a call, and the record behind it.
+/// The answer to a call, and the record after it.
 #[derive(Clone, PartialEq, Eq, Debug)]
 pub struct Reply {
     pub answer: String,
@@ -209,7 +248,35 @@ fn answer(record: &mut Record, call: &Call) -> String {
             record.clone_from(other);
             "set".to_string()
         }
+        Call::Deliver {
+            subscription,
+            label,
+            ..
+        } => match record.deliver(subscription, label) {
+            Ok(()) => "recorded".to_string(),
+            Err(number) => format!("refused {number}"),
+        },
+        Call::Pending { index } => match record.pending(*index) {
+            Ok(Some(delivery)) => pending(&delivery),
+            Ok(None) => "none".to_string(),
+            Err(number) => format!("refused {number}"),
+        },
     }
+}
+
+/// A pending delivery in words, its texts in hexadecimal.
+fn pending(delivery: &Delivery) -> String {
+    let hexadecimal = |text: &[u8]| -> String {
+        let digits = text.iter().map(|octet| format!("{octet:02x}"));
+        digits.collect()
+    };
+    let texts = [&delivery.subscription, &delivery.label].map(|text| hexadecimal(text));
+    format!(
+        "pending {} {} {}",
+        delivery.mode.number(),
+        texts[0],
+        texts[1]
+    )
 }
 
 /// The calls of an input, if all of them are whole.

@@ -1,12 +1,15 @@
 //! Tests of random calls of a session: frames are answered as they are meant, calls change what they may
-//! and no more, and ids are those that the history of calls says.
+//! and no more, and ids and deliveries are those that the history of calls says.
 
 use super::sessions::open;
 use crate::client::right::right;
 use crate::client::wrong::{wrong, FRESH, OPEN};
+use crate::compare_session::{in_short, ANSWERS};
 use crate::random::Random;
 use crate::session::opening::ONLY_1_2;
+use crate::session::record::{make, Record};
 use crate::session::{Accepted, Phase};
+use crate::session_calls::accounts::{self, Totals};
 use crate::session_calls::records;
 use crate::session_calls::sequence::{sequence, Step};
 use crate::session_calls::Call;
@@ -37,8 +40,23 @@ fn number_of(answer: &str) -> Option<usize> {
     answer.strip_prefix("refused ")?.parse().ok()
 }
 
+/// Gives a record the deliveries of another.
+fn take_deliveries(record: &mut Record, other: &Record) {
+    record.labels = other.labels.clone();
+    record.owners = other.owners.clone();
+    record.count = other.count;
+}
+
+/// Closes the record and empties its places of deliveries.
+fn close(record: &mut Record) {
+    record.phase = 2;
+    let (_, empty) = make(0, 0, ONLY_1_2);
+    take_deliveries(record, &empty);
+}
+
 /// What a call leaves of the record: "38 and 39 leave the session unchanged; every other number closes
-/// it and changes nothing else"; what is accepted sets last-heard.
+/// it and changes nothing else" but the deliveries; what is accepted sets last-heard; "a call that records a
+/// delivery and is refused leaves the session as it was".
 #[test]
 fn calls_change_only_what_they_may() {
     let mut random = Random::new(11);
@@ -49,12 +67,14 @@ fn calls_change_only_what_they_may() {
         reply,
     } in sequence(&mut random, 30_000)
     {
-        answers.insert((call.name(), reply.answer.clone()));
+        answers.insert((call.name(), in_short(&reply.answer)));
         let mut expected = before;
         match (&call, number_of(&reply.answer)) {
             (Call::Make { .. } | Call::Set(_), _) => continue,
-            (Call::TimedOut { .. }, _) | (_, Some(38 | 39)) => {}
-            (_, Some(_)) => expected.phase = 2,
+            (Call::TimedOut { .. } | Call::Pending { .. }, _) | (_, Some(38 | 39)) => {}
+            (Call::Deliver { .. }, Some(_)) => {}
+            (Call::Deliver { .. }, None) => take_deliveries(&mut expected, &reply.record),
+            (_, Some(_)) => close(&mut expected),
             (Call::HeartBeat { time, .. }, None) => expected.state.last_heard = *time,
             (Call::Frame { command, time, .. }, None) => {
                 let after = &reply.record;
@@ -66,8 +86,15 @@ fn calls_change_only_what_they_may() {
                         expected.state.client_to_server = after.state.client_to_server;
                         expected.state.server_to_client = after.state.server_to_client;
                     }
-                    7 => expected.phase = 2,
-                    14 | 15 => expected.subscriptions = after.subscriptions.clone(),
+                    7 => close(&mut expected),
+                    14 | 15 => {
+                        expected.subscriptions = after.subscriptions.clone();
+                        expected.modes = after.modes.clone();
+                        if *command == 15 {
+                            take_deliveries(&mut expected, after);
+                        }
+                    }
+                    2 | 10 => take_deliveries(&mut expected, after),
                     1 | 3 | 4 => expected.transactions = after.transactions.clone(),
                     _ => {}
                 }
@@ -75,7 +102,29 @@ fn calls_change_only_what_they_may() {
         }
         assert_eq!(reply.record, expected, "{call:?}");
     }
-    assert_eq!(answers.len(), 2 + 1 + 2 * (15 + 3 + 3));
+    let all: usize = ANSWERS.iter().map(|answers| answers.len()).sum();
+    assert_eq!(answers.len(), all);
+    assert_eq!(all, 2 + 1 + 2 * (17 + 3 + 3 + 6) + 4);
+}
+
+/// The accounts are even after each call, and what is pending is what the session holds.
+#[test]
+fn accounts_are_even() {
+    let mut random = Random::new(14);
+    let mut totals = Totals::default();
+    for _ in 0..50 {
+        totals.add(&accounts::of(&sequence(&mut random, 400)));
+    }
+    let counts = [
+        totals.made,
+        totals.acknowledged,
+        totals.refused,
+        totals.dropped,
+        totals.pending,
+    ];
+    assert_eq!(counts[0], counts[1..].iter().sum::<usize>());
+    assert!(totals.lives > 100, "{:?}", totals);
+    assert!(counts.iter().all(|&count| count > 200), "{:?}", totals);
 }
 
 /// The ids of one kind, each with its place, by what the history of accepted calls says.

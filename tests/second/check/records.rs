@@ -5,7 +5,8 @@ use crate::random::Random;
 use crate::reader::Reader;
 use crate::session::opening::ONLY_1_2;
 use crate::session::record::{make, Record, LENGTH};
-use crate::session_calls::records::{record, valid};
+use crate::session_calls::records::{put, record, valid};
+use std::collections::BTreeSet;
 
 /// The number of four octets.
 fn number(octets: &[u8]) -> u64 {
@@ -21,7 +22,24 @@ fn is_invalid(octets: &[u8]) -> bool {
         || numbers.iter().any(|&number| number > 3_600_000)
         || (octets[0] != 2 && octets[9..12] != [0, 0, 1])
         || store_is_invalid(&octets[27..539], &octets[539..555])
-        || store_is_invalid(&octets[555..683], &octets[683..])
+        || store_is_invalid(&octets[555..683], &octets[683..687])
+        || store_is_invalid(&octets[687..2735], &octets[2735..2799])
+        || deliveries_are_invalid(octets)
+}
+
+/// C-15's rule, besides what is asked of any store: each delivery is looked at by its number.
+fn deliveries_are_invalid(octets: &[u8]) -> bool {
+    let (lengths, modes, count) = (&octets[539..555], &octets[2863..2879], octets[2879]);
+    let is_live =
+        |place: usize| place < 16 && lengths[place] != 0 && [1, 2].contains(&modes[place]);
+    let delivery = |number: usize| (octets[2735 + number], usize::from(octets[2799 + number]));
+    let fits = |number: usize| match delivery(number) {
+        (length, place) if number < usize::from(count) => length != 0 && is_live(place),
+        pair => pair == (0, 0),
+    };
+    let mode_fits = |place: usize| modes[place] == 0 || (modes[place] < 3 && lengths[place] != 0);
+    let most = if octets[0] == 1 { 64 } else { 0 };
+    count > most || !(0..64).all(fits) || !(0..16).all(mode_fits)
 }
 
 fn store_is_invalid(octets: &[u8], lengths: &[u8]) -> bool {
@@ -51,6 +69,8 @@ fn invalid_records_are_those_of_38() {
             assert_eq!(changed.frame(12, b"", 7), Err(38));
             assert_eq!(changed.heart_beat(7), Err(38));
             assert_eq!(changed.timed_out(7), Err(38));
+            assert_eq!(changed.deliver(b"", b""), Err(38));
+            assert_eq!(changed.pending(0), Err(38));
             assert_eq!(changed, record);
         }
     }
@@ -63,8 +83,8 @@ fn records_are_read_as_written() {
     for _ in 0..3_000 {
         let record = record(&mut random);
         let octets = record.octets();
-        assert_eq!(octets.len(), 687);
-        assert_eq!(LENGTH, 687);
+        assert_eq!(octets.len(), 2_880);
+        assert_eq!(LENGTH, 2_880);
         assert_eq!(Record::read(&mut Reader(&octets)), Some(record));
     }
 }
@@ -78,7 +98,33 @@ fn a_valid_record_is_that_of_its_session() {
         assert_eq!(Record::of(&session), record);
         assert_eq!(session.subscriptions.len(), 16);
         assert_eq!(session.transactions.len(), 4);
+        assert_eq!(session.deliveries.len(), usize::from(record.count));
+        assert_eq!(
+            session.modes.keys().collect::<BTreeSet<_>>(),
+            session.subscriptions.iter().flatten().collect()
+        );
     }
+}
+
+/// The parts of a record, each with octets of its own.
+#[test]
+fn a_record_has_its_parts_in_order() {
+    let (_, mut record) = make(0, 0, ONLY_1_2);
+    put(&mut record.subscriptions, 15, b"s");
+    put(&mut record.labels, 0, &[b'l'; 32]);
+    put(&mut record.labels, 63, b"m");
+    (record.owners[0], record.owners[63]) = (15, 14);
+    (record.modes[0], record.modes[15]) = (2, 1);
+    record.count = 64;
+    let octets = record.octets();
+    assert_eq!(octets[27 + 15 * 32], b's');
+    assert_eq!(octets[539 + 15], 1);
+    assert_eq!(octets[687..687 + 32], [b'l'; 32]);
+    assert_eq!(octets[687 + 63 * 32], b'm');
+    assert_eq!((octets[2735], octets[2735 + 63]), (32, 1));
+    assert_eq!((octets[2799], octets[2799 + 63]), (15, 14));
+    assert_eq!((octets[2863], octets[2863 + 15]), (2, 1));
+    assert_eq!(octets[2879], 64);
 }
 
 /// "a fresh one holds 512 zero octets for the former, and 0 for its intervals and last-heard"

@@ -1,15 +1,16 @@
 //! Tests of replays and of the fixed inputs; their lines and answers were read from document 01.
 
+use crate::compare_replay::{NUMBERS, RECORDING};
 use crate::fixed;
 use crate::item::COMMANDS;
 use crate::lives::life;
 use crate::random::Random;
-use crate::replay::{replay, write};
+use crate::replay::{replay, write, Said};
 use crate::session_calls::{read, replies, Call, NAMES};
 use std::collections::BTreeSet;
 
-fn lines(stream: &[u8], sends: u32, wants: u32) -> String {
-    write(&replay(stream, sends, wants).expect("offers that are allowed"))
+fn lines(stream: &[u8], sends: u32, wants: u32, log: bool) -> String {
+    write(&replay(stream, sends, wants, log).expect("offers that are allowed"))
 }
 
 #[test]
@@ -22,25 +23,81 @@ fn examples_are_replayed() {
         97 frame 9 refused 41\n\
         107 beat refused 40\n\
         108 more\n";
-    assert_eq!(lines(stream, 500, 2_000), expected);
-    assert_eq!(lines(b"", 0, 0), "0 end\n");
-    assert_eq!(lines(b"\rS", 3_600_000, 3_600_000), "0 refused 2 1\n");
-    assert!(replay(b"", 3_600_001, 0).is_none());
-    assert!(replay(b"", 0, 3_600_001).is_none());
+    assert_eq!(lines(stream, 500, 2_000, false), expected);
+    assert_eq!(lines(b"", 0, 0, true), "0 end\n");
+    let most = 3_600_000;
+    assert_eq!(lines(b"\rS", most, most, false), "0 refused 2 1\n");
+    assert!(replay(b"", most + 1, 0, true).is_none());
+    assert!(replay(b"", 0, most + 1, false).is_none());
+}
+
+/// In a log a MESSAGE is recorded for its first `subscription` under its first `ack`; one that is missing is
+/// an empty text.
+#[test]
+fn messages_of_a_log_are_recorded() {
+    let stream = b"CONNECT\naccept-version:1.2\nhost:h\n\n\0\
+        SUBSCRIBE\nid:a\ndestination:/q\nack:client\n\n\0\
+        MESSAGE\nack:m\\c1\nack:x\nsubscription:a\nsubscription:b\n\n\0\
+        MESSAGE\nsubscription:a\n\n\0\
+        MESSAGE\nack:2\n\n\0\
+        ACK\nid:m\\c1\n\n\0\
+        MESSAGE\nsubscription:a\nack:m\\c1\n\n\0\
+        ACK\nid:1\n\n\0\
+        MESSAGE\n\n\0";
+    let answers = |log| -> Vec<String> {
+        let lines = lines(stream, 0, 0, log);
+        let words = lines.lines().map(|line| line.split(' ').skip(1).collect());
+        words.map(|words: Vec<&str>| words.join(" ")).collect()
+    };
+    let opened = "frame 5 accepted version 1.2 client 0 server 0";
+    let expected = [
+        opened,
+        "frame 14 accepted",
+        "frame 9 delivered",
+        "frame 9 refused 62",
+        "frame 9 refused 64",
+        "frame 2 accepted",
+        "frame 9 delivered",
+        "frame 2 refused 60",
+        "frame 9 refused 63",
+        "end",
+    ];
+    assert_eq!(answers(true), expected);
+    let expected = [
+        opened,
+        "frame 14 accepted",
+        "frame 9 refused 41",
+        "frame 9 refused 40",
+        "frame 9 refused 40",
+        "frame 2 refused 40",
+        "frame 9 refused 40",
+        "frame 2 refused 40",
+        "frame 9 refused 40",
+        "end",
+    ];
+    assert_eq!(answers(false), expected);
 }
 
 #[test]
 fn the_fixed_stream_is_replayed() {
-    let answers: Vec<String> = lines(&fixed::stream(), 0, 0)
+    let answers: Vec<String> = lines(&fixed::stream(), 0, 0, true)
         .lines()
         .map(|line| line.split_once(' ').expect("a blank").1.to_string())
         .collect();
     let expected = [
         "beat accepted",
+        "frame 9 refused 63",
         "frame 5 accepted version 1.2 client 0 server 0",
         "beat accepted",
         "frame 14 accepted",
         "frame 14 accepted receipt",
+        "frame 9 delivered",
+        "frame 9 refused 62",
+        "frame 9 delivered",
+        "frame 9 delivered",
+        "frame 9 refused 62",
+        "beat accepted",
+        "frame 9 refused 64",
         "frame 3 accepted",
         "beat accepted",
         "frame 12 accepted receipt",
@@ -54,7 +111,9 @@ fn the_fixed_stream_is_replayed() {
         "frame 1 accepted",
         "frame 15 accepted",
         "frame 14 accepted",
+        "frame 9 delivered",
         "frame 7 accepted receipt",
+        "frame 9 refused 63",
         "frame 12 refused 40",
         "beat refused 40",
         "refused 1 3",
@@ -63,7 +122,7 @@ fn the_fixed_stream_is_replayed() {
 }
 
 /// The answers to the fixed calls by value, group by group; a comma stands between two.
-const ANSWERS: [&str; 9] = [
+const ANSWERS: [&str; 16] = [
     "no,accepted,made,no,accepted,no,no,yes,yes,accepted,no,no,yes,set,no,yes,no",
     "set,accepted,accepted receipt,accepted receipt,accepted,refused 43,no,refused 40,refused 40,\
      set,accepted receipt,refused 40",
@@ -80,6 +139,32 @@ const ANSWERS: [&str; 9] = [
      refused 38,set,refused 38,set,refused 38,set,refused 38,set,refused 38,set,refused 38,set,\
      refused 38,set,refused 38",
     "set,no,refused 40,set,accepted,refused 45,set,no,accepted",
+    "made,refused 63,set,none,recorded,recorded,recorded,recorded,pending 1 63 6d31,\
+     pending 2 69 6d32,pending 1 63 6d33,none,refused 62,refused 62,refused 62,refused 62,\
+     refused 62,refused 62,recorded,recorded,recorded,recorded,recorded,recorded,recorded,\
+     refused 64,refused 64,refused 64,refused 64,refused 64,\
+     pending 1 63 6c6c6c6c6c6c6c6c6c6c6c6c6c6c6c6c6c6c6c6c6c6c6c6c6c6c6c6c6c6c6c6c,none,accepted,\
+     no,accepted,none,refused 63,refused 63",
+    "set,accepted,pending 2 62 32,pending 1 63 34,accepted,recorded,accepted,accepted,\
+     accepted receipt,accepted,pending 2 62 33,none,accepted,recorded,accepted,refused 60,none,\
+     set,refused 60,set,refused 60,set,recorded,refused 60,set,refused 60,set,refused 60,set,\
+     refused 46,set,refused 44,set,refused 43",
+    "set,recorded,refused 61,refused 61,refused 62,refused 62,refused 64,recorded,refused 62,\
+     pending 1 63 6c6162656c2d3633,pending 2 69 6c617374,none,accepted,accepted,recorded,accepted,\
+     pending 1 63 6c6162656c2d3633,pending 1 63 6c617374,accepted,none,recorded",
+    "set,accepted,pending 2 69 32,pending 2 69 34,accepted,recorded,recorded,accepted,none,set,\
+     accepted receipt,none,refused 40,set,refused 41,set,refused 42,set,refused 43,set,refused 46,\
+     set,refused 39,pending 2 69 34",
+    "set,accepted,accepted,accepted,accepted,accepted,accepted,accepted,accepted,accepted,\
+     accepted,accepted,refused 49,set,refused 49,set,refused 49,set,refused 49,set,refused 45,set,\
+     refused 44,set,refused 47",
+    "set,refused 38,set,refused 38,set,refused 38,set,refused 38,set,refused 38,set,refused 38,\
+     set,refused 38,set,refused 38,set,refused 38,set,refused 38,set,refused 38,set,refused 38,\
+     set,refused 38,set,refused 38,set,refused 38,set,refused 38,set,refused 38,set,refused 38,\
+     set,refused 38,set,refused 38,set,refused 38,set,refused 38,set,refused 38,set,refused 38,\
+     set,refused 38,set,refused 38,set,refused 38,set,refused 38",
+    "set,refused 63,accepted,recorded,recorded,pending 1 79 31,pending 2 78 32,set,none,\
+     refused 63,refused 40",
 ];
 
 #[test]
@@ -143,15 +228,23 @@ fn the_fixed_calls_leave_records() {
 fn lives_have_every_refusal() {
     let mut random = Random::new(13);
     let (mut met, mut numbers) = (BTreeSet::new(), BTreeSet::new());
+    let mut recordings = BTreeSet::new();
     for _ in 0..3_000 {
         let life = life(&mut random);
         let (sends, wants) = life.offers.unwrap_or((0, 0));
-        let replay = replay(&life.stream, sends, wants).expect("offers that are allowed");
+        let replay = replay(&life.stream, sends, wants, life.log);
         let mut phase = "fresh";
-        for step in &replay.steps {
+        for step in &replay.expect("offers that are allowed").steps {
+            let answer = match step.said {
+                Said::Answer(answer) => answer,
+                Said::Recorded(recorded) => {
+                    recordings.insert((phase, recorded.err()));
+                    continue;
+                }
+            };
             met.insert((phase, step.command.map(|command| command.0)));
-            numbers.extend(step.answer.err());
-            phase = match step.answer {
+            numbers.extend(answer.err());
+            phase = match answer {
                 Err(_) => "closed",
                 Ok(_) if step.opened.is_some() => "open",
                 Ok(_) if step.command.is_some_and(|command| command.0 == 7) => "closed",
@@ -160,6 +253,10 @@ fn lives_have_every_refusal() {
         }
     }
     assert_eq!(met.len(), 3 * (COMMANDS.len() + 1));
-    let all = [31, 32, 33, 40, 41, 42, 43, 44, 45, 46, 47];
-    assert_eq!(numbers.into_iter().collect::<Vec<usize>>(), all);
+    assert_eq!(numbers.into_iter().collect::<Vec<usize>>(), NUMBERS);
+    let unopened = ["closed", "fresh"].map(|phase| (phase, Some(63)));
+    let mut expected = BTreeSet::from(unopened);
+    expected.extend([None, Some(61), Some(62), Some(64)].map(|number| ("open", number)));
+    assert_eq!(recordings, expected);
+    assert_eq!(RECORDING, [61, 62, 63, 64]);
 }

@@ -6,20 +6,20 @@ use crate::session::opening::ONLY_1_2;
 use crate::session::record::{make, Record};
 use crate::session::{Accepted, Answer};
 
-const PLAIN: Answer = Ok(Accepted { receipt: false });
+pub const PLAIN: Answer = Ok(Accepted { receipt: false });
 const RECEIPT: Answer = Ok(Accepted { receipt: true });
 
 const OPENING: &[(&str, &str)] = &[("accept-version", "1.2"), ("host", "h")];
 
 /// Hands a frame to the session at time 7.
-fn tell(record: &mut Record, name: &str, entries: &[(&str, &str)]) -> Answer {
+pub fn tell(record: &mut Record, name: &str, entries: &[(&str, &str)]) -> Answer {
     let command = Command::named(name.as_bytes()).expect("a command");
     let entry = |(name, value): &(&str, &str)| Entry::new(name.as_bytes(), value.as_bytes());
     let entries: Vec<Entry> = entries.iter().map(entry).collect();
     record.frame(command.0 as u32, &block::write(&entries), 7)
 }
 
-fn fresh() -> Record {
+pub fn fresh() -> Record {
     make(500, 2_000, ONLY_1_2).1
 }
 
@@ -71,7 +71,8 @@ fn needed_headers() {
             assert_eq!(answer(name, &entries), Err(43), "{name}");
         }
         let empty = match name {
-            "SEND" | "ACK" | "NACK" => PLAIN,
+            "SEND" => PLAIN,
+            "ACK" | "NACK" => Err(60),
             _ => Err(44),
         };
         assert_eq!(answer(name, &whole), empty, "{name}");
@@ -141,16 +142,13 @@ fn transactions_that_are_carried() {
         let carrying = |id: &str| {
             let mut record = open();
             tell(&mut record, "BEGIN", &[("transaction", "t")]).expect("accepted");
-            tell(
-                &mut record,
-                "SUBSCRIBE",
-                &[("id", "s"), ("destination", "")],
-            )
-            .expect("accepted");
+            let subscribe = [("id", "s"), ("destination", ""), ("ack", "client")];
+            tell(&mut record, "SUBSCRIBE", &subscribe).expect("accepted");
+            assert_eq!(record.deliver(b"s", b"m"), Ok(()));
             tell(
                 &mut record,
                 name,
-                &[("id", ""), ("destination", ""), ("transaction", id)],
+                &[("id", "m"), ("destination", ""), ("transaction", id)],
             )
         };
         assert_eq!(carrying("t"), PLAIN);

@@ -1,6 +1,7 @@
 //! Frames that a session accepts.
 
-use super::{command, dressed, frame, live_id, new_id, values};
+use super::messages::pending_label;
+use super::{command, dressed, frame, live_id, new_id, set, values};
 use crate::block::Entry;
 use crate::item::Command;
 use crate::random::Random;
@@ -43,10 +44,11 @@ pub fn opening(random: &mut Random) -> Frame {
 pub fn in_session(random: &mut Random, session: &Session) -> Frame {
     loop {
         let kind = random.pick(&[Kind::Subscription, Kind::Subscription, Kind::Transaction]);
-        let made = match random.below(8) {
+        let made = match random.below(10) {
             0..=2 => taken(random, session, kind),
             3 | 4 => freed(random, session, kind),
-            _ => Some(mentioning(random, session)),
+            5..=7 => settling(random, session),
+            _ => Some(mentioning(random, session, b"SEND")),
         };
         if let Some(frame) = made {
             return frame;
@@ -81,9 +83,17 @@ fn freed(random: &mut Random, session: &Session, kind: Kind) -> Option<Frame> {
     Some(frame(random, command(name), Some(&id)))
 }
 
+/// ACK or NACK of a pending delivery, if there is one.
+pub fn settling(random: &mut Random, session: &Session) -> Option<Frame> {
+    let label = pending_label(random, session)?;
+    let name: &[u8] = random.pick(&[&b"ACK"[..], b"ACK", b"NACK"]);
+    let mut frame = mentioning(random, session, name);
+    set(&mut frame, b"id", &label);
+    Some(frame)
+}
+
 /// SEND, ACK or NACK, in an open transaction or in none.
-fn mentioning(random: &mut Random, session: &Session) -> Frame {
-    let name: &[u8] = random.pick(&[&b"SEND"[..], b"SEND", b"ACK", b"NACK"]);
+pub fn mentioning(random: &mut Random, session: &Session, name: &[u8]) -> Frame {
     let id = if random.once_in(3) {
         None
     } else {

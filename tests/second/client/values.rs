@@ -57,11 +57,65 @@ pub fn wrong_id(random: &mut Random) -> Vec<u8> {
     octets(random, PLAIN, length)
 }
 
+/// A known ack mode.
+pub fn mode(random: &mut Random) -> &'static [u8] {
+    random.pick(&[
+        &b"auto"[..],
+        b"client",
+        b"client",
+        b"client-individual",
+        b"client-individual",
+    ])
+}
+
+/// A value that is no ack mode.
+pub fn unknown_mode(random: &mut Random) -> Vec<u8> {
+    let values = [
+        "",
+        "Auto",
+        "aut",
+        "auto ",
+        "autoo",
+        "auto\0",
+        "CLIENT",
+        "clien",
+        " client",
+        "client\0",
+        "client-",
+        "client_individual",
+        "client-individua",
+        "client-individual ",
+        "client-individually",
+        "client-Individual",
+        "individual",
+        "none",
+        "0",
+    ];
+    match random.below(8) {
+        0 => octets(random, b"auoclient-", 4),
+        1 => octets(random, b"client-", 6),
+        _ => listed(random, &values),
+    }
+}
+
+/// A label that comes again and again, so that settled ones do.
+pub fn common_label(random: &mut Random) -> Vec<u8> {
+    let number = random.below(80);
+    match random.below(3) {
+        0 => format!("m-{number}"),
+        1 => format!("{number:032}"),
+        _ => format!("ack:{number}"),
+    }
+    .into_bytes()
+}
+
 /// A value for a header of that name, right or wrong.
 pub fn any_value(random: &mut Random, name: &[u8]) -> Vec<u8> {
     match name {
         b"accept-version" => any_versions(random),
         b"heart-beat" => any_heart_beat(random),
+        b"ack" if random.once_in(2) => mode(random).to_vec(),
+        b"ack" => unknown_mode(random),
         b"id" | b"transaction" | b"receipt" if random.once_in(3) => wrong_id(random),
         b"id" | b"transaction" => id(random),
         _ => text(random),

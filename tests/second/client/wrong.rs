@@ -1,7 +1,8 @@
 //! Frames that a session refuses.
 
-use super::right::{in_session, opening, taker};
-use super::{command_that, dressed, frame, live_id, new_id, values, ALMOST};
+use super::messages::label_not_pending;
+use super::right::{in_session, mentioning, opening, taker};
+use super::{command_that, dressed, frame, live_id, new_id, set, values, ALMOST};
 use crate::block::Entry;
 use crate::item::Command;
 use crate::random::Random;
@@ -10,10 +11,10 @@ use crate::session::{Phase, Places, Session};
 
 /// The refusals of a fresh session, and of an open one.
 pub const FRESH: [usize; 6] = [31, 32, 33, 41, 42, 43];
-pub const OPEN: [usize; 7] = [41, 42, 43, 44, 45, 46, 47];
+pub const OPEN: [usize; 9] = [41, 42, 43, 44, 45, 46, 47, 49, 60];
 
-/// A frame that the session refuses with this number; none where no place is live, for 45, or where
-/// one is free, for 47. At times it has faults with higher numbers too.
+/// A frame that the session refuses with this number; none where no place is live, for 45, where one is
+/// free, for 47, or where none is, for 49. At times it has faults that are looked at later too.
 pub fn wrong(random: &mut Random, session: &Session, number: usize) -> Option<Frame> {
     let frame = match number {
         31..=33 => badly_opening(random, number),
@@ -23,15 +24,38 @@ pub fn wrong(random: &mut Random, session: &Session, number: usize) -> Option<Fr
         44 => with_wrong_id(random),
         45 => live_again(random, session)?,
         46 => not_live(random, session),
-        _ => one_more(random, session)?,
+        47 => one_more(random, session)?,
+        49 => with_unknown_mode(random, session)?,
+        _ => not_pending(random, session),
     };
     Some(dressed(random, frame))
 }
 
-/// Gives the frame one entry of this name.
-fn set(frame: &mut Frame, name: &[u8], value: &[u8]) {
-    frame.entries.retain(|entry| entry.name != name);
-    frame.entries.push(Entry::new(name, value));
+/// Gives SUBSCRIBE at times a mode that is unknown.
+fn with_any_mode(random: &mut Random, mut frame: Frame) -> Frame {
+    if frame.command.name() == b"SUBSCRIBE" && random.once_in(3) {
+        set(&mut frame, b"ack", &values::unknown_mode(random));
+    }
+    frame
+}
+
+/// SUBSCRIBE with a new id and an unknown mode, where a place is free.
+fn with_unknown_mode(random: &mut Random, session: &Session) -> Option<Frame> {
+    if session.subscriptions.iter().all(Option::is_some) {
+        return None;
+    }
+    let id = new_id(random, session, Kind::Subscription);
+    let mut frame = frame(random, taker(Kind::Subscription), Some(&id));
+    set(&mut frame, b"ack", &values::unknown_mode(random));
+    Some(frame)
+}
+
+/// ACK or NACK of a label that is not pending, in an open transaction or in none.
+fn not_pending(random: &mut Random, session: &Session) -> Frame {
+    let name: &[u8] = random.pick(&[&b"ACK"[..], b"NACK"]);
+    let mut frame = mentioning(random, session, name);
+    set(&mut frame, b"id", &label_not_pending(random, session));
+    frame
 }
 
 /// CONNECT or STOMP with 31, 32 or 33.
@@ -110,7 +134,8 @@ fn lacking_nothing(random: &mut Random, session: &Session) -> Frame {
 fn with_wrong_id(random: &mut Random) -> Frame {
     let command = command_that(random, |command| naming(command).is_some());
     let id = values::wrong_id(random);
-    frame(random, command, Some(&id))
+    let frame = frame(random, command, Some(&id));
+    with_any_mode(random, frame)
 }
 
 /// Some kind of which the test holds for the places.
@@ -125,7 +150,8 @@ fn live_again(random: &mut Random, session: &Session) -> Option<Frame> {
     let some = |places: &Places| places.iter().any(Option::is_some);
     let kind = kind_that(random, session, some)?;
     let id = live_id(random, session.places(kind))?;
-    Some(frame(random, taker(kind), Some(&id)))
+    let frame = frame(random, taker(kind), Some(&id));
+    Some(with_any_mode(random, frame))
 }
 
 /// A command that frees or mentions an id, with one that is not live.
@@ -145,5 +171,6 @@ fn one_more(random: &mut Random, session: &Session) -> Option<Frame> {
     let full = |places: &Places| places.iter().all(Option::is_some);
     let kind = kind_that(random, session, full)?;
     let id = new_id(random, session, kind);
-    Some(frame(random, taker(kind), Some(&id)))
+    let frame = frame(random, taker(kind), Some(&id));
+    Some(with_any_mode(random, frame))
 }

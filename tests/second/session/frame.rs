@@ -1,5 +1,6 @@
 //! A client's frames: the headers that each command needs, and what each names.
 
+use super::delivery::Mode;
 use super::opening::{accept_version, heart_beat, Flags};
 use crate::block::Entry;
 use crate::item::Command;
@@ -25,6 +26,22 @@ impl Frame {
 
     pub fn opens(&self) -> bool {
         opens(self.command)
+    }
+
+    /// The ack mode that SUBSCRIBE asks for, if it is a known one; "absent means auto". Any other command
+    /// asks for none, which is auto too.
+    pub fn mode(&self) -> Option<Mode> {
+        let subscribes = self.command.name() == b"SUBSCRIBE";
+        match self.first(b"ack") {
+            Some(value) if subscribes => Mode::named(value),
+            _ => Some(Mode::Auto),
+        }
+    }
+
+    /// The label that ACK or NACK names.
+    pub fn settles(&self) -> Option<&[u8]> {
+        let settles = [&b"ACK"[..], b"NACK"].contains(&self.command.name());
+        self.first(b"id").filter(|_| settles)
     }
 
     /// What the accept-version says, where it is there and well formed.
@@ -82,7 +99,7 @@ pub struct Naming {
     pub used: Use,
 }
 
-/// How the command names one, if it does. "The id of ACK and NACK is only required": it names neither.
+/// How the command names one, if it does. The id of ACK and NACK names neither, but a delivery.
 pub fn naming(command: Command) -> Option<Naming> {
     let (kind, used) = match command.name() {
         b"SUBSCRIBE" => (Kind::Subscription, Use::Takes),

@@ -1,6 +1,7 @@
-//! The session record: a session as numbers and octets, which need not be valid. Ids lie in stores,
+//! The session record: a session as numbers and octets, which need not be valid. Ids and labels are in stores,
 //! 32 octets to a place.
 
+use super::delivery::{Delivery, Recorded, DELIVERIES, MODES};
 use super::frame::Frame;
 use super::opening::{highest, Flags, MAX_INTERVAL, ONLY_1_2};
 use super::{Answer, Phase, Places, Session, State};
@@ -9,8 +10,13 @@ use crate::block;
 use crate::item::Command;
 use crate::reader::Reader;
 
-/// The octets of a record.
-pub const LENGTH: usize = 27 + (MAX_ID + 1) * (SUBSCRIPTIONS + TRANSACTIONS);
+/// The octets of a record: of its state, its ids, its pending deliveries with their labels and places, its
+/// modes and their count.
+pub const LENGTH: usize = 27
+    + (MAX_ID + 1) * (SUBSCRIPTIONS + TRANSACTIONS)
+    + (MAX_ID + 2) * DELIVERIES
+    + SUBSCRIPTIONS
+    + 1;
 
 /// The store of one kind of ids: the octets of its places, and how many of them each id has.
 #[derive(Clone, PartialEq, Eq, Debug)]
@@ -77,13 +83,18 @@ impl Store {
     }
 }
 
-/// A session record.
+/// A session record. The first `count` places of `labels` and `owners` are the pending deliveries, oldest
+/// first: a label, and the place of its subscription. `modes` has a number for each subscription place.
 #[derive(Clone, PartialEq, Eq, Debug)]
 pub struct Record {
     pub phase: u8,
     pub state: State,
     pub subscriptions: Store,
     pub transactions: Store,
+    pub labels: Store,
+    pub owners: Vec<u8>,
+    pub modes: Vec<u8>,
+    pub count: u8,
 }
 
 /// The phases in the order of their numbers.
@@ -91,18 +102,66 @@ const PHASES: [Phase; 3] = [Phase::Fresh, Phase::Open, Phase::Closed];
 
 type Fault = fn(&Record) -> bool;
 
-/// What makes a record invalid, 38: this list is complete.
-const FAULTS: [Fault; 6] = [
+/// What makes a record invalid, 38: this list is complete. The last seven are C-15's rule.
+const FAULTS: [Fault; 13] = [
     |record| usize::from(record.phase) >= PHASES.len(),
     |record| record.stores().iter().any(|store| store.has_long_id()),
     |record| record.stores().iter().any(|store| store.has_equal_ids()),
     |record| record.stores().iter().any(|store| store.has_unused_octet()),
     |record| record.limited().iter().any(|&number| number > MAX_INTERVAL),
     |record| record.state.offered != ONLY_1_2 && record.phase != PHASE_CLOSED,
+    has_unknown_mode,
+    has_mode_without_subscription,
+    |record| usize::from(record.count) > DELIVERIES,
+    |record| record.count != 0 && record.phase != PHASE_OPEN,
+    has_empty_label,
+    has_delivery_of_none,
+    has_more_than_counted,
 ];
 
 const PHASE_FRESH: u8 = 0;
+const PHASE_OPEN: u8 = 1;
 const PHASE_CLOSED: u8 = 2;
+
+/// A mode that is over 2.
+fn has_unknown_mode(record: &Record) -> bool {
+    record
+        .modes
+        .iter()
+        .any(|&mode| usize::from(mode) >= MODES.len())
+}
+
+/// A free subscription place whose mode is not 0.
+fn has_mode_without_subscription(record: &Record) -> bool {
+    let mut places = record.subscriptions.lengths.iter().zip(&record.modes);
+    places.any(|(&length, &mode)| length == 0 && mode != 0)
+}
+
+/// A delivery below the count without a label. That labels are too long, equal, or have octets after them
+/// other than 0 is asked of the store.
+fn has_empty_label(record: &Record) -> bool {
+    record.labels.lengths[..record.counted()].contains(&0)
+}
+
+/// A delivery of no live subscription, or of one in auto mode.
+fn has_delivery_of_none(record: &Record) -> bool {
+    let of_none = |&owner: &u8| {
+        let owner = usize::from(owner);
+        owner >= SUBSCRIPTIONS
+            || record.subscriptions.lengths[owner] == 0
+            || record.modes[owner] == 0
+    };
+    record.owners[..record.counted()].iter().any(of_none)
+}
+
+/// A length or a subscription's place from the count on. Octets there are asked of the store.
+fn has_more_than_counted(record: &Record) -> bool {
+    let counted = record.counted();
+    let mut rest = record.labels.lengths[counted..]
+        .iter()
+        .chain(&record.owners[counted..]);
+    rest.any(|&octet| octet != 0)
+}
 
 /// Makes a session; a refusal "gives a closed session whose other fields are 0".
 pub fn make(sends: u32, wants: u32, offered: Flags) -> (Result<(), usize>, Record) {
@@ -111,6 +170,10 @@ pub fn make(sends: u32, wants: u32, offered: Flags) -> (Result<(), usize>, Recor
         state: State::default(),
         subscriptions: Store::empty(SUBSCRIPTIONS),
         transactions: Store::empty(TRANSACTIONS),
+        labels: Store::empty(DELIVERIES),
+        owners: vec![0; DELIVERIES],
+        modes: vec![0; SUBSCRIPTIONS],
+        count: 0,
     };
     if sends > MAX_INTERVAL || wants > MAX_INTERVAL || offered != ONLY_1_2 {
         return (Err(34), record);
@@ -123,8 +186,13 @@ pub fn make(sends: u32, wants: u32, offered: Flags) -> (Result<(), usize>, Recor
 }
 
 impl Record {
-    fn stores(&self) -> [&Store; 2] {
-        [&self.subscriptions, &self.transactions]
+    fn stores(&self) -> [&Store; 3] {
+        [&self.subscriptions, &self.transactions, &self.labels]
+    }
+
+    /// The count, where it is not too large.
+    fn counted(&self) -> usize {
+        DELIVERIES.min(self.count.into())
     }
 
     /// The numbers that have the limit: offers and intervals.
@@ -139,10 +207,21 @@ impl Record {
         if FAULTS.iter().any(|fault| fault(self)) {
             return None;
         }
+        let subscriptions = self.subscriptions.ids();
+        let modes = subscriptions.iter().zip(&self.modes);
+        let modes = modes.filter_map(|(id, &mode)| Some((id.clone()?, MODES[usize::from(mode)])));
+        let labels = self.labels.ids().into_iter().flatten().zip(&self.owners);
+        let delivery = |(label, &owner): (Vec<u8>, &u8)| Delivery {
+            subscription: subscriptions[usize::from(owner)].clone().expect("an id"),
+            mode: MODES[usize::from(self.modes[usize::from(owner)])],
+            label,
+        };
         Some(Session {
             phase: PHASES[usize::from(self.phase)],
             state: self.state,
-            subscriptions: self.subscriptions.ids(),
+            modes: modes.collect(),
+            deliveries: labels.map(delivery).collect(),
+            subscriptions: subscriptions.clone(),
             transactions: self.transactions.ids(),
         })
     }
@@ -150,11 +229,27 @@ impl Record {
     /// The record of a session: unused octets are 0.
     pub fn of(session: &Session) -> Record {
         let phase = PHASES.iter().position(|phase| *phase == session.phase);
+        let mut labels: Places = vec![None; DELIVERIES];
+        let mut owners = vec![0; DELIVERIES];
+        for (index, delivery) in session.deliveries.iter().enumerate() {
+            let owns = |id: &Option<Vec<u8>>| id.as_ref() == Some(&delivery.subscription);
+            let owner = session.subscriptions.iter().position(owns);
+            labels[index] = Some(delivery.label.clone());
+            owners[index] = owner.expect("a live subscription") as u8;
+        }
+        let mode = |id: &Option<Vec<u8>>| {
+            let mode = id.as_ref().map(|id| session.modes[id]);
+            mode.map_or(0, |mode| mode.number())
+        };
         Record {
             phase: phase.expect("a phase") as u8,
             state: session.state,
             subscriptions: Store::of(&session.subscriptions),
             transactions: Store::of(&session.transactions),
+            labels: Store::of(&labels),
+            owners,
+            modes: session.subscriptions.iter().map(mode).collect(),
+            count: session.deliveries.len() as u8,
         }
     }
 
@@ -176,6 +271,20 @@ impl Record {
         let answer = session.heart_beat(time);
         *self = Record::of(&session);
         answer
+    }
+
+    /// Records a delivery.
+    pub fn deliver(&mut self, id: &[u8], label: &[u8]) -> Recorded {
+        let mut session = self.session().ok_or(38_usize)?;
+        let recorded = session.deliver(id, label);
+        *self = Record::of(&session);
+        recorded
+    }
+
+    /// The pending delivery of this index, from the oldest on, if there is one; or 38.
+    pub fn pending(&self, index: u32) -> Result<Option<Delivery>, usize> {
+        let session = self.session().ok_or(38_usize)?;
+        Ok(session.deliveries.into_iter().nth(index as usize))
     }
 
     /// Whether the client has timed out, or 38.
@@ -204,6 +313,9 @@ impl Record {
             octets.extend(&store.octets);
             octets.extend(&store.lengths);
         }
+        octets.extend(&self.owners);
+        octets.extend(&self.modes);
+        octets.push(self.count);
         octets
     }
 
@@ -222,6 +334,10 @@ impl Record {
             },
             subscriptions: Store::read(reader, SUBSCRIPTIONS)?,
             transactions: Store::read(reader, TRANSACTIONS)?,
+            labels: Store::read(reader, DELIVERIES)?,
+            owners: reader.octets(DELIVERIES)?.to_vec(),
+            modes: reader.octets(SUBSCRIPTIONS)?.to_vec(),
+            count: reader.octet()?,
         })
     }
 }

@@ -1,11 +1,14 @@
 //! Random session records: valid ones, also such as no call leaves, and invalid ones for each reason.
 
+use crate::client::messages::deliveries;
 use crate::client::{new_id, values};
 use crate::random::Random;
+use crate::session::delivery::{Mode, DELIVERIES, MODES};
 use crate::session::frame::Kind;
 use crate::session::opening::{Flags, MAX_INTERVAL, ONLY_1_2};
 use crate::session::record::{Record, Store};
 use crate::session::{Phase, Session, State, MAX_ID, SUBSCRIPTIONS, TRANSACTIONS};
+use std::collections::BTreeMap;
 
 /// A record: most often a valid one.
 pub fn record(random: &mut Random) -> Record {
@@ -33,7 +36,7 @@ pub fn valid(random: &mut Random) -> Record {
     Record::of(&session(random, phase))
 }
 
-/// A session in this phase, with any state and ids.
+/// A session in this phase, with any state, ids and modes, and if it is open with pending deliveries.
 pub fn session(random: &mut Random, phase: Phase) -> Session {
     let (some, any) = (ONLY_1_2, flags(random));
     let offered = if phase == Phase::Closed { any } else { some };
@@ -52,12 +55,25 @@ pub fn session(random: &mut Random, phase: Phase) -> Session {
         state,
         subscriptions: vec![None; SUBSCRIPTIONS],
         transactions: vec![None; TRANSACTIONS],
+        modes: BTreeMap::new(),
+        deliveries: Vec::new(),
     };
+    let usual = random.pick(&MODES);
     for index in chosen(random, SUBSCRIPTIONS) {
-        session.subscriptions[index] = Some(new_id(random, &session, Kind::Subscription));
+        let id = new_id(random, &session, Kind::Subscription);
+        let any = random.pick(&MODES);
+        let mode = random.pick(&[usual, usual, any, Mode::Client]);
+        session.modes.insert(id.clone(), mode);
+        session.subscriptions[index] = Some(id);
     }
     for index in chosen(random, TRANSACTIONS) {
         session.transactions[index] = Some(new_id(random, &session, Kind::Transaction));
+    }
+    if phase == Phase::Open {
+        let any = random.between(0, DELIVERIES);
+        let few = random.between(0, 8);
+        let count = random.pick(&[0, 1, few, few, any, DELIVERIES - 1, DELIVERIES]);
+        deliveries(random, &mut session, count);
     }
     session
 }
@@ -111,6 +127,9 @@ pub fn time(random: &mut Random) -> u32 {
 
 /// Gives the record a reason to be invalid; flags are none in a closed session.
 fn spoil(random: &mut Random, record: &mut Record) {
+    if random.once_in(2) {
+        return spoil_deliveries(random, record);
+    }
     let subscriptions = random.once_in(2);
     let store = if subscriptions {
         &mut record.subscriptions
@@ -124,6 +143,67 @@ fn spoil(random: &mut Random, record: &mut Record) {
         5..=8 => unused(random, store),
         9 | 10 => over(random, &mut record.state),
         _ => record.state.offered = other_flags(random),
+    }
+}
+
+/// Gives the record a reason to be invalid that is of C-15's rule; at times none, where there is no delivery
+/// to spoil.
+fn spoil_deliveries(random: &mut Random, record: &mut Record) {
+    let last = usize::from(record.count).min(DELIVERIES).saturating_sub(1);
+    let some = random.between(0, last);
+    let place = random.below(SUBSCRIPTIONS);
+    match random.below(16) {
+        0 => record.modes[place] = random.pick(&[3, 3, 4, 127, 128, 254, 255]),
+        1 => mode_of_free(random, record),
+        2 => record.count = random.pick(&[65, 65, 66, 127, 128, 129, 255]),
+        3 => record.count = record.count.wrapping_add(random.pick(&[1, 255])),
+        4 => record.phase = random.pick(&[0, 2]),
+        5 => record.labels.lengths[some] = 0,
+        6 => put(&mut record.labels, some, b""),
+        7 => long(random, &mut record.labels),
+        8 => equal(random, &mut record.labels),
+        9 | 10 => unused(random, &mut record.labels),
+        11 => record.owners[some] = random.pick(&[16, 16, 17, 31, 32, 128, 255]),
+        12 => free_owner(record, some),
+        13 => auto_owner(record, some),
+        14 => after_count(random, record),
+        _ => record.owners[some] = place as u8,
+    }
+}
+
+/// Gives a free subscription place a mode.
+fn mode_of_free(random: &mut Random, record: &mut Record) {
+    let lengths = record.subscriptions.lengths.iter();
+    let free = lengths.enumerate().filter(|(_, &length)| length == 0);
+    let free: Vec<usize> = free.map(|(place, _)| place).collect();
+    if !free.is_empty() {
+        record.modes[random.pick(&free)] = random.pick(&[1, 1, 2, 3, 255]);
+    }
+}
+
+/// Frees the place of a delivery's subscription.
+fn free_owner(record: &mut Record, delivery: usize) {
+    let owner = usize::from(record.owners[delivery]).min(SUBSCRIPTIONS - 1);
+    put(&mut record.subscriptions, owner, b"");
+    record.modes[owner] = 0;
+}
+
+/// Puts a delivery's subscription into auto mode.
+fn auto_owner(record: &mut Record, delivery: usize) {
+    let owner = usize::from(record.owners[delivery]).min(SUBSCRIPTIONS - 1);
+    record.modes[owner] = 0;
+}
+
+/// Makes an octet from the count on other than 0: a whole label, a length, an octet or a place.
+fn after_count(random: &mut Random, record: &mut Record) {
+    let count = usize::from(record.count).min(DELIVERIES - 1);
+    let any = random.between(count, DELIVERIES - 1);
+    let place = random.pick(&[count, count, any, DELIVERIES - 1]);
+    match random.below(4) {
+        0 => put(&mut record.labels, place, b"after"),
+        1 => record.labels.lengths[place] = 1,
+        2 => record.labels.octets[place * MAX_ID] = 1,
+        _ => record.owners[place] = random.pick(&[1, 15, 255]),
     }
 }
 
