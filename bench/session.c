@@ -8,19 +8,19 @@
 enum { BEAT_MAX = 3600000 };
 
 /* The headers that a session looks at. */
-enum header { ACCEPT_VERSION, HEART_BEAT, HOST, DESTINATION, ID, TRANSACTION, RECEIPT, HEADERS };
+enum header { ACCEPT_VERSION, HEART_BEAT, HOST, DESTINATION, ID, TRANSACTION, RECEIPT, ACK_MODE, HEADERS };
 
-static const struct {
+struct name {
     const char *text;
     size_t length;
-} header_names[HEADERS] = {{"accept-version", 14}, {"heart-beat", 10},   {"host", 4},   {"destination", 11},
-                           {"id", 2},              {"transaction", 11}, {"receipt", 7}};
-
-/* A row of octets; none where the pointer is null. */
-struct octets {
-    const uint8_t *at;
-    size_t length;
 };
+
+static const struct name header_names[HEADERS] = {{"accept-version", 14}, {"heart-beat", 10},
+                                                  {"host", 4},            {"destination", 11},
+                                                  {"id", 2},              {"transaction", 11},
+                                                  {"receipt", 7},         {"ack", 3}};
+
+static const struct name mode_names[MODES] = {{"auto", 4}, {"client", 6}, {"client-individual", 17}};
 
 /* The ids of one kind. */
 struct store {
@@ -42,6 +42,24 @@ static inline bool equal(const uint8_t *a, const uint8_t *b, size_t length)
         if (a[i] != b[i])
             return false;
     return true;
+#endif
+}
+
+static bool is_named(const uint8_t *at, size_t length, const struct name *name)
+{
+    return length == name->length && equal(at, (const uint8_t *)name->text, length);
+}
+
+static inline bool is_zero(const uint8_t *at, size_t length)
+{
+#ifdef WITH_MEMCMP
+    static const uint8_t zeros[DELIVERIES * ID_OCTETS];
+    return memcmp(at, zeros, length) == 0;
+#else
+    unsigned seen = 0;
+    for (size_t i = 0; i < length; i++)
+        seen |= at[i];
+    return seen == 0;
 #endif
 }
 
@@ -68,6 +86,24 @@ static bool is_valid_store(const uint8_t *octets, const uint8_t *lengths, size_t
     return true;
 }
 
+/* Whether every mode is known and that of a subscription, every delivery has a label and a subscription in
+ * another mode than auto, and nothing but 0 is after the last one. */
+static bool has_valid_deliveries(const struct session *s)
+{
+    size_t n = s->pending;
+    if (n > DELIVERIES || (n != 0 && s->phase != OPEN))
+        return false;
+    for (size_t k = 0; k < SUBSCRIPTIONS; k++)
+        if (s->modes[k] >= MODES || (s->subscription_lengths[k] == 0 && s->modes[k] != AUTO))
+            return false;
+    for (size_t k = 0; k < n; k++)
+        if (s->label_lengths[k] == 0 || s->owners[k] >= SUBSCRIPTIONS || s->modes[s->owners[k]] == AUTO)
+            return false;
+    return is_zero(s->labels + n * ID_OCTETS, (DELIVERIES - n) * ID_OCTETS) &&
+           is_zero(s->label_lengths + n, DELIVERIES - n) && is_zero(s->owners + n, DELIVERIES - n) &&
+           is_valid_store(s->labels, s->label_lengths, n);
+}
+
 static bool is_valid(const struct session *s)
 {
     if (s->phase > CLOSED || s->sends > BEAT_MAX || s->wants > BEAT_MAX || s->inbound > BEAT_MAX ||
@@ -76,7 +112,7 @@ static bool is_valid(const struct session *s)
     if (s->phase != CLOSED && !is_only_1_2(s->offered))
         return false;
     return is_valid_store(s->subscriptions, s->subscription_lengths, SUBSCRIPTIONS) &&
-           is_valid_store(s->transactions, s->transaction_lengths, TRANSACTIONS);
+           is_valid_store(s->transactions, s->transaction_lengths, TRANSACTIONS) && has_valid_deliveries(s);
 }
 
 /* Passes all records of the block and keeps the first value of each header; false where it is
@@ -92,8 +128,7 @@ static bool read_block(const uint8_t *block, size_t length, struct octets values
         if (length - at < name + value)
             return false;
         for (size_t h = 0; h < HEADERS; h++) {
-            if (name == header_names[h].length && !values[h].at &&
-                equal(block + at, (const uint8_t *)header_names[h].text, name)) {
+            if (!values[h].at && is_named(block + at, name, &header_names[h])) {
                 values[h] = (struct octets){block + at + name, value};
                 break;
             }
@@ -245,43 +280,155 @@ static void put_id(struct store *in, size_t place, struct octets id)
     in->lengths[place] = (uint8_t)id.length;
 }
 
-/* 44 to 47, or 0 and the id entered or freed. */
-static unsigned use_id(struct store in, enum use use, struct octets id)
+/* 44 to 47, or 0 and the place of the id, or the one that it can have. */
+static unsigned find_place(const struct store *in, enum use use, struct octets id, size_t *place)
 {
     if (id.length == 0 || id.length > ID_OCTETS)
         return 44;
-    size_t place = find_id(&in, id);
-    if (use != ENTER) {
-        if (place == in.places)
-            return 46;
-        if (use == FREE)
-            put_id(&in, place, (struct octets){NULL, 0});
-        return 0;
-    }
-    if (place < in.places)
+    *place = find_id(in, id);
+    if (use != ENTER)
+        return *place == in->places ? 46 : 0;
+    if (*place < in->places)
         return 45;
-    place = find_free(&in);
-    if (place == in.places)
-        return 47;
-    put_id(&in, place, id);
+    *place = find_free(in);
+    return *place == in->places ? 47 : 0;
+}
+
+/* ---- deliveries */
+
+/* The mode of an ack value, auto where there is none; MODES where it is unknown. */
+static unsigned read_mode(struct octets value)
+{
+    unsigned mode = AUTO;
+    if (!value.at)
+        return AUTO;
+    while (mode < MODES && !is_named(value.at, value.length, &mode_names[mode]))
+        mode++;
+    return mode;
+}
+
+static struct store subscriptions_of(struct session *s)
+{
+    return (struct store){s->subscriptions, s->subscription_lengths, SUBSCRIPTIONS};
+}
+
+static struct store labels_of(struct session *s)
+{
+    return (struct store){s->labels, s->label_lengths, s->pending};
+}
+
+/* Moves those that stay to the front, in their order, and clears the places after them. */
+static void remove_deliveries(struct session *s, const bool gone[DELIVERIES])
+{
+    size_t kept = 0;
+    for (size_t k = 0; k < s->pending; k++) {
+        if (gone[k])
+            continue;
+        if (kept != k)
+            memcpy(s->labels + kept * ID_OCTETS, s->labels + k * ID_OCTETS, ID_OCTETS);
+        s->label_lengths[kept] = s->label_lengths[k];
+        s->owners[kept] = s->owners[k];
+        kept++;
+    }
+    memset(s->labels + kept * ID_OCTETS, 0, (s->pending - kept) * ID_OCTETS);
+    memset(s->label_lengths + kept, 0, s->pending - kept);
+    memset(s->owners + kept, 0, s->pending - kept);
+    s->pending = (uint8_t)kept;
+}
+
+/* Those of a subscription's place, up to this one; all where that is the number of them. */
+static void remove_of(struct session *s, size_t owner, size_t end)
+{
+    bool gone[DELIVERIES];
+    for (size_t k = 0; k < s->pending; k++)
+        gone[k] = k < end && s->owners[k] == owner;
+    remove_deliveries(s, gone);
+}
+
+static void close_session(struct session *s)
+{
+    bool gone[DELIVERIES];
+    memset(gone, true, sizeof gone);
+    s->phase = CLOSED;
+    remove_deliveries(s, gone);
+}
+
+/* 60, or 0 and what ACK or NACK settles removed. */
+static unsigned settle(struct session *s, struct octets label)
+{
+    struct store labels = labels_of(s);
+    if (label.length == 0 || label.length > ID_OCTETS)
+        return 60;
+    size_t named = find_id(&labels, label);
+    if (named == labels.places)
+        return 60;
+    if (s->modes[s->owners[named]] == CLIENT) {
+        remove_of(s, s->owners[named], named + 1);
+    } else {
+        bool gone[DELIVERIES] = {false};
+        gone[named] = true;
+        remove_deliveries(s, gone);
+    }
     return 0;
 }
 
-/* What the command does with an id, if it names one. */
+/* ---- frames */
+
+static unsigned subscribe(struct session *s, struct octets id, struct octets ack)
+{
+    struct store in = subscriptions_of(s);
+    unsigned mode = read_mode(ack);
+    size_t place;
+    unsigned number = find_place(&in, ENTER, id, &place);
+    if (number != 0)
+        return number;
+    if (mode == MODES)
+        return 49;
+    put_id(&in, place, id);
+    s->modes[place] = (uint8_t)mode;
+    return 0;
+}
+
+static unsigned unsubscribe(struct session *s, struct octets id)
+{
+    struct store in = subscriptions_of(s);
+    size_t place;
+    unsigned number = find_place(&in, FREE, id, &place);
+    if (number != 0)
+        return number;
+    put_id(&in, place, (struct octets){NULL, 0});
+    s->modes[place] = AUTO;
+    remove_of(s, place, s->pending);
+    return 0;
+}
+
+/* 44 to 47, or 0 and the transaction entered or freed. */
+static unsigned use_transaction(struct session *s, enum use use, struct octets id)
+{
+    struct store in = {s->transactions, s->transaction_lengths, TRANSACTIONS};
+    size_t place;
+    unsigned number = find_place(&in, use, id, &place);
+    if (number == 0 && use != NEED)
+        put_id(&in, place, use == ENTER ? id : (struct octets){NULL, 0});
+    return number;
+}
+
+/* What the command does with what it names. */
 static unsigned name_id(struct session *s, uint32_t command, const struct octets values[HEADERS])
 {
-    struct store subscriptions = {s->subscriptions, s->subscription_lengths, SUBSCRIPTIONS};
-    struct store transactions = {s->transactions, s->transaction_lengths, TRANSACTIONS};
+    unsigned number = 0;
     switch (command) {
-    case STOMP_COMMAND_SUBSCRIBE: return use_id(subscriptions, ENTER, values[ID]);
-    case STOMP_COMMAND_UNSUBSCRIBE: return use_id(subscriptions, FREE, values[ID]);
-    case STOMP_COMMAND_BEGIN: return use_id(transactions, ENTER, values[TRANSACTION]);
+    case STOMP_COMMAND_SUBSCRIBE: return subscribe(s, values[ID], values[ACK_MODE]);
+    case STOMP_COMMAND_UNSUBSCRIBE: return unsubscribe(s, values[ID]);
+    case STOMP_COMMAND_BEGIN: return use_transaction(s, ENTER, values[TRANSACTION]);
     case STOMP_COMMAND_COMMIT:
-    case STOMP_COMMAND_ABORT: return use_id(transactions, FREE, values[TRANSACTION]);
+    case STOMP_COMMAND_ABORT: return use_transaction(s, FREE, values[TRANSACTION]);
     case STOMP_COMMAND_SEND:
     case STOMP_COMMAND_ACK:
     case STOMP_COMMAND_NACK:
-        return values[TRANSACTION].at ? use_id(transactions, NEED, values[TRANSACTION]) : 0;
+        if (values[TRANSACTION].at)
+            number = use_transaction(s, NEED, values[TRANSACTION]);
+        return number == 0 && command != STOMP_COMMAND_SEND ? settle(s, values[ID]) : number;
     default: return 0;
     }
 }
@@ -294,7 +441,7 @@ static unsigned act(struct session *s, uint32_t command, const struct octets val
     if (opens(command))
         return open_session(s, values);
     if (command == STOMP_COMMAND_DISCONNECT) {
-        s->phase = CLOSED;
+        close_session(s);
         return 0;
     }
     return name_id(s, command, values);
@@ -325,7 +472,7 @@ unsigned session_frame(struct session *s, uint32_t command, const uint8_t *block
     if (number == 0)
         number = act(s, command, values);
     if (number != 0) {
-        s->phase = CLOSED;
+        close_session(s);
         return number;
     }
     s->last_heard = time;
@@ -347,4 +494,41 @@ unsigned session_timed_out(const struct session *s, uint32_t time)
     if (!is_valid(s))
         return 38;
     return s->phase == OPEN && s->inbound != 0 && time - s->last_heard > 2 * s->inbound ? YES : NO;
+}
+
+unsigned session_deliver(struct session *s, struct octets subscription, struct octets label)
+{
+    struct store subscriptions = subscriptions_of(s);
+    struct store labels = labels_of(s);
+    size_t owner;
+    if (!is_valid(s))
+        return 38;
+    if (s->phase != OPEN)
+        return 63;
+    if (find_place(&subscriptions, NEED, subscription, &owner) != 0)
+        return 64;
+    if (label.length == 0 || label.length > ID_OCTETS || find_id(&labels, label) < labels.places)
+        return 62;
+    if (s->modes[owner] == AUTO)
+        return ACCEPTED;
+    if (s->pending == DELIVERIES)
+        return 61;
+    put_id(&labels, s->pending, label);
+    s->owners[s->pending] = (uint8_t)owner;
+    s->pending++;
+    return ACCEPTED;
+}
+
+unsigned session_pending(const struct session *s, uint32_t index, struct delivery *found)
+{
+    if (!is_valid(s))
+        return 38;
+    if (index >= s->pending)
+        return NO;
+    size_t owner = s->owners[index];
+    found->mode = s->modes[owner];
+    found->subscription =
+        (struct octets){s->subscriptions + owner * ID_OCTETS, s->subscription_lengths[owner]};
+    found->label = (struct octets){s->labels + index * ID_OCTETS, s->label_lengths[index]};
+    return YES;
 }
