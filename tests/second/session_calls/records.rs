@@ -155,7 +155,7 @@ fn spoil_deliveries(random: &mut Random, record: &mut Record) {
     match random.below(16) {
         0 => record.modes[place] = random.pick(&[3, 3, 4, 127, 128, 254, 255]),
         1 => mode_of_free(random, record),
-        2 => record.count = random.pick(&[65, 65, 66, 127, 128, 129, 255]),
+        2 => over_count(random, record),
         3 => record.count = record.count.wrapping_add(random.pick(&[1, 255])),
         4 => record.phase = random.pick(&[0, 2]),
         5 => record.labels.lengths[some] = 0,
@@ -163,12 +163,26 @@ fn spoil_deliveries(random: &mut Random, record: &mut Record) {
         7 => long(random, &mut record.labels),
         8 => equal(random, &mut record.labels),
         9 | 10 => unused(random, &mut record.labels),
-        11 => record.owners[some] = random.pick(&[16, 16, 17, 31, 32, 128, 255]),
+        11 => {
+            let owner = record.owners[some] % SUBSCRIPTIONS as u8;
+            record.owners[some] = random.pick(&[16, 16 + owner, 16 + owner, 128 + owner, 255]);
+        }
         12 => free_owner(record, some),
         13 => auto_owner(record, some),
         14 => after_count(random, record),
         _ => record.owners[some] = place as u8,
     }
+}
+
+/// Makes the count too large; most often all places have a delivery.
+fn over_count(random: &mut Random, record: &mut Record) {
+    let session = record.session().filter(|_| !random.once_in(3));
+    if let Some(mut session) = session.filter(|session| session.phase == Phase::Open) {
+        let free = DELIVERIES - session.deliveries.len();
+        deliveries(random, &mut session, free);
+        *record = Record::of(&session);
+    }
+    record.count = random.pick(&[65, 65, 66, 127, 128, 129, 255]);
 }
 
 /// Gives a free subscription place a mode.
