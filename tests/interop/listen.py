@@ -126,4 +126,5 @@ def main():
     sys.exit(0 if done and status == 0 else 1)
 
 
-main()
+if __name__ == "__main__":
+    main()
