@@ -76,7 +76,7 @@ fn deciding(command: Command) -> Vec<&'static [u8]> {
 }
 
 /// Gives the frame one entry of this name.
-fn set(frame: &mut Frame, name: &[u8], value: &[u8]) {
+pub fn set(frame: &mut Frame, name: &[u8], value: &[u8]) {
     frame.entries.retain(|entry| entry.name != name);
     frame.entries.push(Entry::new(name, value));
 }

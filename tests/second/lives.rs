@@ -4,6 +4,7 @@
 use crate::block::Entry;
 use crate::client::messages::message;
 use crate::client::right::{leaving, right, taking};
+use crate::client::set;
 use crate::client::wrong::wrong;
 use crate::decode::decode;
 use crate::encode;
@@ -102,10 +103,11 @@ fn ends_fresh(random: &mut Random, plan: Plan) -> bool {
     }
 }
 
-/// A client that keeps its own session, so that it knows what is accepted.
+/// A client that keeps its own session, so that it knows what is accepted, and the labels that it was sent.
 struct Client {
     session: Session,
     log: bool,
+    labels: Vec<Vec<u8>>,
     stream: Vec<u8>,
 }
 
@@ -115,6 +117,7 @@ impl Client {
         Client {
             session: record.session().expect("a session that was made"),
             log,
+            labels: Vec::new(),
             stream: Vec::new(),
         }
     }
@@ -127,7 +130,8 @@ impl Client {
         let frame = Frame { command, entries };
         let text = |name: &[u8]| frame.first(name).unwrap_or_default();
         if self.log && command.name() == b"MESSAGE" {
-            let _ = self.session.deliver(text(b"subscription"), text(b"ack"));
+            let recorded = self.session.deliver(text(b"subscription"), text(b"ack"));
+            self.labels.extend(recorded.map(|()| text(b"ack").to_vec()));
         } else {
             let _ = self.session.frame(&frame, 0);
         }
@@ -194,6 +198,7 @@ impl Client {
     /// Ends as planned, if the session has the ids for it.
     fn ends(&mut self, random: &mut Random, plan: Plan) {
         let frame = match plan {
+            Plan::Refused(60) if random.once_in(2) => self.settles_again(random),
             Plan::Refused(number) => wrong(random, &self.session, number),
             Plan::Leaves => Some(leaving(random)),
             Plan::Stays => None,
@@ -201,6 +206,18 @@ impl Client {
         if let Some(frame) = frame {
             self.send(random, &frame);
         }
+    }
+
+    /// ACK or NACK of a delivery that is not pending any more, if there is one.
+    fn settles_again(&self, random: &mut Random) -> Option<Frame> {
+        let settled = |label: &&Vec<u8>| self.session.pending(label).is_none();
+        let labels: Vec<&Vec<u8>> = self.labels.iter().filter(settled).collect();
+        let mut frame = wrong(random, &self.session, 60)?;
+        if !labels.is_empty() {
+            let label = labels[random.below(labels.len())];
+            set(&mut frame, b"id", label);
+        }
+        Some(frame)
     }
 
     /// Sends a few things more, as if the session were open, or fresh again.

@@ -2,10 +2,12 @@
 //! and no more, and ids and deliveries are those that the history of calls says.
 
 use super::sessions::open;
+use crate::block;
 use crate::client::right::right;
 use crate::client::wrong::{wrong, FRESH, OPEN};
 use crate::compare_session::{in_short, ANSWERS};
 use crate::random::Random;
+use crate::session::delivery::Mode;
 use crate::session::opening::ONLY_1_2;
 use crate::session::record::{make, Record};
 use crate::session::{Accepted, Phase};
@@ -125,6 +127,84 @@ fn accounts_are_even() {
     assert_eq!(counts[0], counts[1..].iter().sum::<usize>());
     assert!(totals.lives > 100, "{:?}", totals);
     assert!(counts.iter().all(|&count| count > 200), "{:?}", totals);
+}
+
+/// Which kind of recording a step is, if the test looks for it. The labels are those recorded before it.
+fn recording_kind(step: &Step, id: &[u8], label: &[u8], labels: &Labels) -> Option<&'static str> {
+    let session = step.before.session()?;
+    let equal = session
+        .pending(label)
+        .map(|place| &session.deliveries[place]);
+    let other = equal.is_some_and(|equal| equal.subscription != id);
+    let auto = session.mode(id) == Some(Mode::Auto);
+    Some(match (&step.reply.answer[..], label.len()) {
+        ("refused 62", 0) => "a label of 0 octets",
+        ("refused 62", 33) => "a label of 33 octets",
+        ("refused 62", _) if other => "the label of another subscription",
+        ("refused 62", _) if equal.is_some() => "the label of its subscription",
+        ("refused 61", _) => "one more",
+        ("recorded", _) if auto && session.deliveries.len() == 64 => "auto with 64 pending",
+        ("recorded", _) if auto => "auto",
+        ("recorded", _) if session.deliveries.len() == 63 => "the 64th",
+        ("recorded", _) if labels.contains(label) => "a label used again",
+        ("recorded", 1) => "a label of 1 octet",
+        ("recorded", 32) => "a label of 32 octets",
+        _ => return None,
+    })
+}
+
+/// Which kind of frame a step is, likewise.
+fn frame_kind(step: &Step, number: u32, block: &[u8], labels: &Labels) -> Option<&'static str> {
+    let session = step.before.session()?;
+    let entries = block::read(block)?;
+    let entry = entries.iter().find(|entry| entry.name == b"id");
+    let label = entry.map_or(&[][..], |entry| &entry.value);
+    let gone = session.deliveries.len() - usize::from(step.reply.record.count);
+    Some(match (number, &step.reply.answer[..]) {
+        (2 | 10, "refused 60") if labels.contains(label) => "60 of a settled label",
+        (2 | 10, "refused 60") => "60 of an unknown label",
+        (2, "accepted") if gone > 1 => "an ACK of many",
+        (10, "accepted") if gone > 1 => "a NACK of many",
+        (2 | 10, "accepted") if session.pending(label) > Some(0) => "one that is not the oldest",
+        (15, "accepted") if gone > 0 => "UNSUBSCRIBE",
+        (7, "accepted") if gone > 0 => "DISCONNECT",
+        (_, "refused 43") if gone > 0 => "a refusal",
+        _ => return None,
+    })
+}
+
+/// Labels that were recorded.
+type Labels = BTreeSet<Vec<u8>>;
+
+/// The random lives have all that deliveries can meet.
+#[test]
+fn lives_have_deliveries_of_every_kind() {
+    let mut random = Random::new(17);
+    let mut counts: BTreeMap<&str, usize> = BTreeMap::new();
+    for _ in 0..100 {
+        let mut labels = Labels::new();
+        for step in sequence(&mut random, 400) {
+            let kind = match &step.call {
+                Call::Deliver {
+                    subscription,
+                    label,
+                    ..
+                } => recording_kind(&step, subscription, label, &labels),
+                Call::Frame { command, block, .. } => frame_kind(&step, *command, block, &labels),
+                _ => None,
+            };
+            *counts.entry(kind.unwrap_or("another")).or_default() += 1;
+            match &step.call {
+                Call::Make { .. } | Call::Set(_) => labels.clear(),
+                Call::Deliver { label, .. } if step.reply.answer == "recorded" => {
+                    labels.insert(label.clone());
+                }
+                _ => {}
+            }
+        }
+    }
+    assert_eq!(counts.len(), 20, "{counts:?}");
+    assert!(counts.values().all(|&count| count >= 5), "{:?}", counts);
 }
 
 /// The ids of one kind, each with its place, by what the history of accepted calls says.

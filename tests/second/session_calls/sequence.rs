@@ -3,8 +3,9 @@
 use super::blocks;
 use super::records::{self, interval, other_flags, over_limit, time};
 use super::{first_record, Call, Reply, Way, MAX_BLOCK};
-use crate::block;
+use crate::block::{self, Entry};
 use crate::calls::unknown_command;
+use crate::client::command;
 use crate::client::messages::texts;
 use crate::client::right::{leaving, right};
 use crate::client::wrong::{wrong, FRESH, OPEN};
@@ -48,11 +49,15 @@ impl Course {
         goes_on
     }
 
-    /// The next call. A life begins with a session that is made.
-    fn call(&self, random: &mut Random, record: &Record, begins: bool) -> Call {
+    /// The next call, where these labels were recorded. A life begins with a session that is made.
+    fn call(&self, random: &mut Random, record: &Record, begins: bool, labels: &[Vec<u8>]) -> Call {
         match *self {
             Course::Any { .. } => call(random, record),
             Course::Life { .. } if begins => made(random),
+            Course::Life { .. } if !labels.is_empty() && random.once_in(60) => {
+                let call = settling_again(random, labels);
+                some_way(random, call)
+            }
             Course::Life { delivers, .. } => in_life(random, record, delivers),
         }
     }
@@ -63,13 +68,19 @@ pub fn sequence(random: &mut Random, count: usize) -> Vec<Step> {
     let mut before = first_record();
     let mut steps = Vec::new();
     let mut course = Course::new(random);
+    let mut labels = Vec::new();
     for _ in 0..count {
         let begins = !course.goes_on();
         if begins {
             course = Course::new(random);
         }
-        let call = course.call(random, &before, begins);
+        let call = course.call(random, &before, begins, &labels);
         let reply = Reply::of(&before, &call);
+        match &call {
+            Call::Make { .. } | Call::Set(_) => labels.clear(),
+            Call::Deliver { label, .. } if reply.answer == "recorded" => labels.push(label.clone()),
+            _ => {}
+        }
         let next = reply.record.clone();
         steps.push(Step {
             call,
@@ -164,6 +175,18 @@ fn in_life(random: &mut Random, record: &Record, delivers: usize) -> Call {
         }
     };
     some_way(random, call)
+}
+
+/// ACK or NACK of one of the labels, which may be settled by now.
+fn settling_again(random: &mut Random, labels: &[Vec<u8>]) -> Call {
+    let name: &[u8] = random.pick(&[&b"ACK"[..], b"NACK"]);
+    let label = &labels[random.below(labels.len())];
+    Call::Frame {
+        way: Way::ByValue,
+        command: command(name).0 as u32,
+        time: time(random),
+        block: block::write(&[Entry::new(b"id", label)]),
+    }
 }
 
 /// A session that is made.
