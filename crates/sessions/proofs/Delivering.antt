@@ -2,8 +2,9 @@
 --     find-fits, find-pending                  the search for a label
 --     settled-client, settled-individual       what an ACK or NACK leaves
 --     dropped-none, dropped-some               what an UNSUBSCRIBE leaves
+--     dropped-idle, subscribed-auto            a SUBSCRIBE and an UNSUBSCRIBE that change nothing of the deliveries
 --     says-at, says-nowhere                    where a search ended
---     mode-placed, place-inside                the places of subscriptions
+--     free-is, place-inside                    the places of subscriptions
 --     label-found, label-missed                60
 --     records-placed                           a delivery, by the place of its subscription
 --     told-held, told-absent                   the question for a pending delivery
@@ -17,36 +18,37 @@ use native.Mathlib.Omega.{arith}
 use lib.ListN.{length, take, drop, getD, set, length-map, List·getD-map}
 use lib.Seq.{getD-take, length-take-le, take-take}
 use lib.Dec.{eqb, leb, ltb}
-use borrow.Author.Tests.{eq-eqb, ne-eqb, leb-true, leb-false, ltb-false}
+use borrow.Author.Tests.{eq-eqb, ne-eqb, eqb-true, leb-true, leb-false, ltb-false}
 use Rattle.headers.specs.Rows.{every, any, empty, same, first-of}
 use Rattle.headers.specs.Answers.{accepted, refused, settle}
 use Rattle.sessions.specs.Stores.{ids, padded, laid, live, bad-length, first-from}
 use Rattle.sessions.specs.Places.{Fits, search-says, is-at}
 use Rattle.sessions.specs.Compaction.{kept}
-use Rattle.sessions.specs.Deliveries.{deliveries-max, label-max, auto-mode, client-mode, Pending, paired, pending, places-of, labels-of, labelled, is-pending, mode-of, goes-with, settled, settled-as, settle-label, without, with-pending, with-modes, emptied, subscribe, unsubscribe, record-label, acknowledging, Laid}
+use Rattle.sessions.specs.Deliveries.{deliveries-max, label-max, auto-mode, client-mode, Pending, paired, pending, places-of, labels-of, labelled, is-pending, mode-of, goes-with, settled, settled-as, settle-label, without, with-pending, with-modes, emptied, subscribe, unsubscribe, record-label, acknowledging, idle-modes, Laid}
 use Rattle.sessions.specs.Accounts.{Delivery}
 use Rattle.sessions.specs.Sessions.{subscriptions-max, id-max, open-phase, in-phase, ids-of, with-deliveries, is-valid, SizedDeliveries}
 use Rattle.sessions.specs.Held.{delivery-of, held-deliveries, nth, nothing-told, told-of, pending-answer}
 use Rattle.sessions.specs.Calls.{free-place, place-named, is-no-label, is-auto, deliver-checks, deliver-answer, deliver-session, recorded-by}
-use Rattle.sessions.specs.Steps.{Records, RecordsAt, MayRecord, unrecorded-by, recorded-as, label-checks}
+use Rattle.sessions.specs.Steps.{outcome-with, Records, RecordsAt, MayRecord, unrecorded-by, recorded-as, label-checks}
 use Rattle.sessions.specs.Answers.{delivery-says}
 use Rattle.sessions.specs.declared.store.Search.{Search}
 use Rattle.sessions.specs.declared.command.Kind.the-variants.{Subscriptions}
 use Rattle.sessions.specs.declared.delivery.Deliveries.{Deliveries}
 use Rattle.sessions.specs.declared.session.Session.{Session}
+use Rattle.sessions.specs.declared.session.Outcome.{Outcome}
 use Rattle.sessions.specs.declared.session.Recording.{Recording}
 use Rattle.sessions.specs.declared.session.PendingAnswer.{PendingAnswer}
 use Rattle.sessions.specs.declared.session.PendingAt.{PendingAt}
 use Rattle.sessions.proofs.Searching.{told-any}
 use Rattle.sessions.proofs.Settling.{first-free}
 use Rattle.sessions.proofs.Stores.{place-padded, lengths-ids, valid-clean}
-use Rattle.sessions.proofs.Pending.{emptied-laid, held-count, places-ack, holds-laid}
+use Rattle.sessions.proofs.Pending.{emptied-laid, held-idle, places-ack, holds-laid}
 use Rattle.sessions.proofs.Taking.{fits, alike, places-are, labels-are, store-same, lens-same, dropped-kept, client-kept, individual-kept}
 use Rattle.sessions.proofs.Validating.{no-lens}
 use Rattle.headers.proofs.Rows.{and-left, and-right, and-false, or-false-right, empty-eqb, empty-zero}
 use Rattle.sessions.proofs.Steps.{records-refused, records-on, records-done}
 use Rattle.sessions.proofs.Keeping.{subscriptions-fit, held-long}
-use Rattle.sessions.proofs.Kept.{Kept, first-passes, lens-are}
+use Rattle.sessions.proofs.Kept.{Kept, first-passes, lens-are, lens-free}
 
 -- ---- the pending delivery with a label
 
@@ -147,6 +149,31 @@ module _ (d : Deliveries) (sized : SizedDeliveries d) (l : Laid d) where
       ap (λ (z : Deliveries). with-modes z (set (z .modes) k auto-mode))
       (q ∙ ap (with-pending d) (ap (λ z. kept (record { from = 0; to = n; of = z }) 0 (places-of (pending d)) (pending d)) o ∙ dropped-kept n k 0 (pending d) (omega (arith, pending-count, e))))
 
+-- ---- modes that stay
+
+set-same : (xs : List ℕ) (k v : ℕ) → getD xs k v ≡ v → set xs k v ≡ xs
+set-same [] k v e = refl
+set-same (x ∷ xs) zero v e = ap (_∷ xs) (sym e)
+set-same (x ∷ xs) (suc k) v e = ap (x ∷_) (set-same xs k v e)
+
+idle-at : (ls ms : List ℕ) (k : ℕ) → idle-modes ls ms ≡ true → k < length ls → getD ls k 0 ≡ 0 → getD ms k auto-mode ≡ auto-mode
+idle-at [] ms k h l e = absurd (omega arith)
+idle-at (x ∷ ls) [] k h l e = refl
+idle-at (x ∷ ls) (m ∷ ms) zero h l e =
+    eqb-true m auto-mode (ap (λ z. not (eqb z 0) || eqb m auto-mode) (sym e) ∙ and-left (not (eqb x 0) || eqb m auto-mode) (idle-modes ls ms) h)
+idle-at (x ∷ ls) (m ∷ ms) (suc k) h l e = idle-at ls ms k (and-right (not (eqb x 0) || eqb m auto-mode) (idle-modes ls ms) h) (omega arith) e
+
+-- an UNSUBSCRIBE of a subscription that has no delivery and mode auto
+pub dropped-idle : (d : Deliveries) → SizedDeliveries d → Laid d → (k : ℕ) → eqb (d .count) 0 && eqb (getD (d .modes) k auto-mode) auto-mode ≡ true → unsubscribe (some k) d ≡ d
+dropped-idle d sized l k h =
+    let count-is : d .count ≡ 0 = eqb-true (d .count) 0 (and-left (eqb (d .count) 0) (eqb (getD (d .modes) k auto-mode) auto-mode) h) in
+    let mode-is : getD (d .modes) k auto-mode ≡ auto-mode = eqb-true (getD (d .modes) k auto-mode) auto-mode (and-right (eqb (d .count) 0) (eqb (getD (d .modes) k auto-mode) auto-mode) h) in
+    sym (dropped-none d sized l k count-is) ∙ ap (with-modes d) (set-same (d .modes) k auto-mode mode-is)
+
+-- an outcome with the deliveries that it has
+pub outcome-same : (named : Outcome) (d : Deliveries) → named .session .deliveries ≡ d → named ≡ outcome-with named d
+outcome-same named d e = ap (outcome-with named) e
+
 -- ---- where a search ended
 
 pub says-at : (r : Search) (o : Option ℕ) (k : ℕ) → search-says r ≡ o → r ≡ Search.At k → o ≡ some k
@@ -164,6 +191,17 @@ module _ (s : Session) (kept : Kept s) where
   -- the first free place, by the lengths
   pub free-is : free-place s ≡ first-from (λ l. eqb l 0) 0 (s .«sub_lens»)
   free-is = first-free id-max subscriptions-max 0 (s .subs) (s .«sub_lens») (subscriptions-fit s (kept .ids))
+
+  -- a free place has mode auto
+  pub subscribed-auto : subscribe (free-place s) auto-mode (s .deliveries) ≡ s .deliveries
+  subscribed-auto = by (free-place s) refl
+    where
+      by : (o : Option ℕ) → free-place s ≡ o → subscribe o auto-mode (s .deliveries) ≡ s .deliveries
+      by none e = refl
+      by (some k) e =
+          ap (with-modes (s .deliveries)) (set-same (s .deliveries .modes) k auto-mode
+          (idle-at (s .«sub_lens») (s .deliveries .modes) k (held-idle (s .«sub_lens») (s .deliveries) (kept .holds .sized) (kept .holds .valid))
+          (omega (arith, first-passes empty [] k (ids-of Subscriptions s) e .0, held-long s (kept .ids) Subscriptions, kept .ids .sized .sub-lens-long)) (lens-free s kept k e)))
 
   -- a place that a search found is one
   pub place-inside : (p : List ℕ → Bool) (k : ℕ) → first-from p 0 (ids-of Subscriptions s) ≡ some k → k < subscriptions-max

@@ -23,7 +23,7 @@ use Rattle.sessions.specs.Stores.{used}
 use Rattle.sessions.specs.Answers.{acceptance-says, answer-says}
 use Rattle.sessions.specs.Calls.{usage-of, named-id, left-by, naming-effect, naming-checks, delivery-checks, delivery-effect, label-named, settle-named, place-named, free-place, mode-or-auto, lacks-needed, frame-checks, acceptance-of, no-receipt, frame-answer, effect, frame-session, heart-beat-checks, heart-beat-answer, heart-beat-session, making-answer, made, is-timed-out, timed-out-answer, recorded-by, deliver-checks, deliver-answer, deliver-session}
 use Rattle.sessions.specs.Deliveries.{subscribe, unsubscribe}
-use Rattle.sessions.specs.Steps.{kept-by, closed-by, accepted-by, Gives, opening-checks, GivesUse, GivesOpening, GivesNaming, GivesDelivery, GivesEntries, after-answer, GivesThen, outcome-with, mode-checks, label-checks, GivesMode, GivesDropped, GivesLabel, Records, unrecorded-by, recorded-as, subscription-at, recording-checks}
+use Rattle.sessions.specs.Steps.{kept-by, closed-by, accepted-by, Gives, opening-checks, GivesUse, GivesOpening, GivesNaming, GivesDelivery, GivesEntries, after-answer, GivesThen, untouched, Untouched, outcome-with, mode-checks, label-checks, GivesMode, GivesDropped, GivesLabel, Records, unrecorded-by, recorded-as, subscription-at, recording-checks}
 use Rattle.sessions.specs.declared.command.Header.the-variants.{Id}
 use Rattle.sessions.specs.declared.command.Kind.{Kind}
 use Rattle.sessions.specs.declared.command.Kind.the-variants.{Subscriptions, Transactions}
@@ -307,6 +307,25 @@ module _ (s : Session) (n : ℕ) (es : List Entry) (acceptance : Acceptance) (ti
             pass : (t : Bool) → then (settle cs v) (accepted v) ≡ settle cs v → then (cond t (refused (c .number)) (settle cs v)) (accepted v) ≡ cond t (refused (c .number)) (settle cs v)
             pass true e = refl
             pass false e = e
+
+-- where the id was settled the deliveries are those that were
+pub naming-untouched : (s : Session) (n : ℕ) (es : List Entry) (acceptance : Acceptance) (time : ℕ) (named : Outcome) → GivesNaming s n es acceptance time named → Untouched s named
+naming-untouched s n es acceptance time named g = by (named .answer) (settle (naming-checks s n es) (acceptance-says acceptance)) refl refl
+  where
+    kept : (o : Option (List ℕ)) → naming-effect s n o .deliveries ≡ s .deliveries
+    kept none = refl
+    kept (some id) = of (naming n .kind)
+      where
+        of : (k : Kind) → with-ids k s (used (usage-of n) id (ids-of k s)) .deliveries ≡ s .deliveries
+        of Subscriptions = refl
+        of Transactions = refl
+
+    by : (x : SessionAnswer) (A : Answer) → named .answer ≡ x → settle (naming-checks s n es) (acceptance-says acceptance) ≡ A → untouched x s named
+    by (SessionAnswer.Refused k) A e f = tt
+    by (SessionAnswer.Accepted a) (refused j) e f =
+        absurd (let q : accepted (acceptance-says a) ≡ refused j = sym (ap answer-says e) ∙ g .answered ∙ f in let z : _≡_ {A = ℕ} 0 1 = cc in omega arith)
+    by (SessionAnswer.Accepted a) (accepted v) e f =
+        ap (λ (x : Session). x .deliveries) (g .left ∙ ap (λ A. left-by A s (heard (naming-effect s n (named-id n es)) time)) f) ∙ kept (named-id n es)
 
 -- the id of an UNSUBSCRIBE, an ACK and a NACK is there
 module _ (n : ℕ) (es : List Entry) (there : lacks-needed n es ≡ false) where

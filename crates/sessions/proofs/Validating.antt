@@ -21,6 +21,20 @@ no-first a b e = sym (ap (_&& b) e)
 pub yes-first : (a b : Bool) → a ≡ true → b ≡ a && b
 yes-first a b e = sym (ap (_&& b) e)
 
+-- a count; modes that are known and idle; labels and places
+module _ (a k i l p : Bool) (few : a ≡ true) where
+  pub not-known : k ≡ false → false ≡ a && ((k && i) && (l && p))
+  not-known h = rw (few, h)
+
+  pub not-idle : k ≡ true → i ≡ false → false ≡ a && ((k && i) && (l && p))
+  not-idle h j = rw (few, h, j)
+
+  pub not-labels : k ≡ true → i ≡ true → l ≡ false → false ≡ a && ((k && i) && (l && p))
+  not-labels h j m = rw (few, h, j, m)
+
+  pub by-places : k ≡ true → i ≡ true → l ≡ true → p ≡ a && ((k && i) && (l && p))
+  by-places h j m = rw (few, h, j, m)
+
 -- ---- modes of free places, one place on
 
 pub idle-step : (ls ms : List ℕ) (i : ℕ) → i < length ls → i < length ms

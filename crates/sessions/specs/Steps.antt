@@ -99,6 +99,14 @@ after-answer (SessionAnswer.Accepted acceptance) checks before d named r = Gives
 abbrev pub GivesThen : List Check → Session → Deliveries → Outcome → Outcome → Type 0
 GivesThen checks before d named r = after-answer (named .answer) checks before d named r
 
+-- an outcome that was accepted has the session's deliveries still
+abbrev pub untouched : SessionAnswer → Session → Outcome → Type 0
+untouched (SessionAnswer.Refused k) s named = Unit {0}
+untouched (SessionAnswer.Accepted acceptance) s named = named .session .deliveries ≡ s .deliveries
+
+abbrev pub Untouched : Session → Outcome → Type 0
+Untouched s named = untouched (named .answer) s named
+
 -- an outcome with other deliveries
 abbrev pub outcome-with : Outcome → Deliveries → Outcome
 outcome-with r d = record { session = with-deliveries (r .session) d; answer = r .answer }

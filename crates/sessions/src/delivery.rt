@@ -9,7 +9,7 @@ ghost use Rattle.sessions.specs.Stores.{first-from};
 ghost use Rattle.sessions.specs.Places.{search-says};
 ghost use Rattle.sessions.specs.Compaction.{kept};
 ghost use Rattle.sessions.specs.Sessions.{subscriptions-max};
-ghost use Rattle.sessions.specs.Deliveries.{Pending, pending, labelled, places-of, with-pending, with-modes, unsubscribe, settle-label, no-deliveries, emptied, known-modes, some-lengths, idle-modes, acknowledging, valid-labels, valid-places, valid-modes, valid-pending, valid-deliveries, Laid};
+ghost use Rattle.sessions.specs.Deliveries.{Pending, pending, labelled, places-of, with-pending, with-modes, unsubscribe, settle-label, no-deliveries, emptied, known-modes, some-lengths, idle-modes, acknowledging, valid-labels, valid-places, valid-deliveries, Laid};
 ghost use Rattle.headers.specs.Rows.{every};
 use crate::compaction::Range;
 use crate::session::Session;
@@ -59,44 +59,28 @@ impl Deliveries {
         }
     }
 
-    // Whether modes are known, and auto where no subscription is.
-    fn has_valid_modes(self, lens: [u8; Session::SUBSCRIPTIONS]) -> bool
-        ensures { λ r. ⌜ r ≡ valid-modes lens self ⌝ }
+    // Whether the record is valid, over the lengths of the subscriptions' ids.
+    pub(crate) fn is_valid(self, lens: [u8; Session::SUBSCRIPTIONS]) -> bool
+        ensures { λ r. ⌜ r ≡ valid-deliveries lens self ⌝ }
     {
+        let n = wide(self.count);
+        if Deliveries::MAX < n {
+            return false;
+        }
         let modes = self.modes;
         if !are_known(&modes) {
             return false;
         }
-        are_idle(&lens, &modes)
-    }
-
-    // Whether the pending deliveries are valid, n of them.
-    fn has_valid_pending(self, lens: [u8; Session::SUBSCRIPTIONS], n: usize) -> bool
-        requires { ⌜ n ≤ 64 ⌝ }
-        ensures { λ r. ⌜ r ≡ valid-pending lens self n ⌝ }
-    {
+        if !are_idle(&lens, &modes) {
+            return false;
+        }
         let labels = self.labels;
         let label_lens = self.lens;
         if !are_valid_labels(&labels, &label_lens, n) {
             return false;
         }
         let places = self.places;
-        let modes = self.modes;
         are_valid_places(&places, n, &lens, &modes)
-    }
-
-    // Whether the record is valid, over the lengths of the subscriptions' ids.
-    pub(crate) fn is_valid(self, lens: [u8; Session::SUBSCRIPTIONS]) -> bool
-        ensures { λ r. ⌜ r ≡ valid-deliveries lens self ⌝ }
-    {
-        let n = wide(self.count);
-        if 64 < n {
-            return false;
-        }
-        if !self.has_valid_modes(lens) {
-            return false;
-        }
-        self.has_valid_pending(lens, n)
     }
 
     // Those that stay, in their order; the modes stay.

@@ -16,7 +16,7 @@ ghost use Rattle.sessions.specs.Deliveries.{subscribe, unsubscribe, reco
 ghost use Rattle.sessions.specs.Held.{held-deliveries, nth, nothing-told, told-of, pending-answer};
 ghost use Rattle.sessions.specs.Places.{Settles, search-says};
 ghost use Rattle.sessions.specs.Steps.{kept-by, closed-by, accepted-by, count-of, put-of, outcome-with, unrecorded-by, recorded-as};
-ghost use Rattle.sessions.specs.Steps.{GivesUse, GivesOpening, GivesNaming, GivesEntries, GivesMode, GivesDropped, GivesLabel, RecordsAt, MayRecord};
+ghost use Rattle.sessions.specs.Steps.{GivesUse, GivesOpening, GivesNaming, GivesEntries, GivesMode, GivesDropped, GivesLabel, RecordsAt, MayRecord, Untouched};
 ghost use Rattle.sessions.specs.declared.command.Header.the-variants.{Id};
 use crate::command::Header;
 use crate::command::Kind;
@@ -443,22 +443,27 @@ impl Session {
         self.use_id(naming, &block[start..end], acceptance, time)
     }
 
-    // The deliveries with a mode for the subscription that was entered in the first free place.
-    fn with_mode(self, mode: u8) -> Deliveries
-        requires { ⌜ is-valid self ≡ true ⌝ }
-        ensures { λ r. ⌜ r ≡ subscribe (free-place self) mode (self .deliveries) ⌝ }
+    // An outcome that was accepted, with a mode for the subscription that was entered in the first free place. A free place has auto.
+    fn with_mode(self, named: Outcome, mode: u8) -> Outcome
+        requires { ⌜ (is-valid self ≡ true) × (named .session .deliveries ≡ self .deliveries) ⌝ }
+        ensures { λ r. ⌜ r ≡ outcome-with named (subscribe (free-place self) mode (self .deliveries)) ⌝ }
     {
+        if mode == Deliveries::AUTO {
+            return named;
+        }
         let lens = self.sub_lens;
-        let deliveries = self.deliveries;
         match crate::store::find_free(&lens) {
-            Search::At(k) => deliveries.with_mode(k, mode),
-            Search::Nowhere => deliveries,
+            Search::At(k) => {
+                let deliveries = self.deliveries;
+                named.with_deliveries(deliveries.with_mode(k, mode))
+            }
+            Search::Nowhere => named,
         }
     }
 
     // A SUBSCRIBE whose id was settled: the ack mode that it asks for, or 49.
     fn keep_mode(self, named: Outcome, block: &[u8]) -> Outcome
-        requires { ⌜ (is-valid self ≡ true) × (is-block (now block) ≡ true) ⌝ }
+        requires { ⌜ (is-valid self ≡ true) × (is-block (now block) ≡ true) × Untouched self named ⌝ }
         ensures { λ r. ⌜ GivesMode self (listed (entries (now (block .entry)))) named r ⌝ }
     {
         let answer = named.answer;
@@ -466,7 +471,7 @@ impl Session {
             return named;
         }
         match crate::locate::mode_asked(block) {
-            ModeRead::Mode(mode) => named.with_deliveries(self.with_mode(mode)),
+            ModeRead::Mode(mode) => self.with_mode(named, mode),
             ModeRead::Unknown => self.refused(refusals::UNKNOWN_MODE),
         }
     }
@@ -481,21 +486,27 @@ impl Session {
         crate::store::find(&subs, &lens, Session::SUBSCRIPTIONS, Session::ID, id)
     }
 
-    // The deliveries without those of a subscription, by its id.
-    fn unsubscribed(self, id: &[u8]) -> Deliveries
-        requires { ⌜ is-valid self ≡ true ⌝ }
-        ensures { λ r. ⌜ r ≡ unsubscribe (place-named self (some (now (id .entry)))) (self .deliveries) ⌝ }
+    // An outcome that was accepted, with the deliveries of a subscription dropped, by its id, and its mode. Most often there is neither.
+    fn without_deliveries(self, named: Outcome, id: &[u8]) -> Outcome
+        requires { ⌜ (is-valid self ≡ true) × (named .session .deliveries ≡ self .deliveries) ⌝ }
+        ensures { λ r. ⌜ r ≡ outcome-with named (unsubscribe (place-named self (some (now (id .entry)))) (self .deliveries)) ⌝ }
     {
-        let deliveries = self.deliveries;
         match self.find_subscription(id) {
-            Search::At(k) => deliveries.unsubscribed(k),
-            Search::Nowhere => deliveries,
+            Search::At(k) => {
+                let deliveries = self.deliveries;
+                let modes = deliveries.modes;
+                if (deliveries.count == 0) & (modes[k] == Deliveries::AUTO) {
+                    return named;
+                }
+                named.with_deliveries(deliveries.unsubscribed(k))
+            }
+            Search::Nowhere => named,
         }
     }
 
     // An UNSUBSCRIBE whose id was settled: the deliveries of the subscription are dropped.
     fn drop_deliveries(self, named: Outcome, block: &[u8]) -> Outcome
-        requires { ⌜ (is-valid self ≡ true) × (is-block (now block) ≡ true) × (has Id (listed (entries (now block))) ≡ true) ⌝ }
+        requires { ⌜ (is-valid self ≡ true) × (is-block (now block) ≡ true) × (has Id (listed (entries (now block))) ≡ true) × Untouched self named ⌝ }
         ensures { λ r. ⌜ GivesDropped self (listed (entries (now (block .entry)))) named r ⌝ }
     {
         let answer = named.answer;
@@ -505,7 +516,7 @@ impl Session {
         let l = crate::locate::locate(block, Header::Id);
         let start = l.start;
         let end = l.end;
-        named.with_deliveries(self.unsubscribed(&block[start..end]))
+        self.without_deliveries(named, &block[start..end])
     }
 
     // A pending delivery settled, by its label, in an outcome that was accepted; or 60.

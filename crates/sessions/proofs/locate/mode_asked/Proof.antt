@@ -1,45 +1,31 @@
-use mathlib.Core.Path.{_≡_, refl, sym, _∙_, ap, subst}
+-- `locate::mode_asked` meets its contract: what is located is read. Assumes nothing.
+use mathlib.Core.Path.{_∙_}
 use Rattle.sessions.proofs.Locating.{read-located}
 use Rattle.sessions.specs.Headers.{mode-named}
 use mathlib.Core.Bool.{true, false}
 use borrow.Author.Tests.{not-true, not-false}
-use Prim.Native.Nat.{ℕ, _≤_, _<_, _-_, _+_, _*_}
-use native.Mathlib.Omega.{arith}
-use lib.ListN.{length}
-use mathlib.Core.Path.{_≡_}
 use borrow.Author.Needs.{needs}
 use Rattle.sessions.proofs.locate.mode_asked.Statement.{statement}
 use Rattle.sessions.proofs.locate.mode_asked.Tie as tie
-use Rattle.sessions.proofs.locate.mode_asked.Reads as reads
-use Rattle.sessions.proofs.locate.mode_asked.Lts as lts
-use Rattle.sessions.proofs.locate.locate.Reads as locate-reads
-use Rattle.sessions.proofs.value.read_mode.Reads as read-mode-reads
 
--- src/locate.rt:132:9
 locate-requires : tie.Need-locate-requires
 locate-requires c κs = search needs
 
--- src/locate.rt:134:9
 returns : tie.Need-returns
 returns c = read-located (c .before .before .locate .ensures) mode-named false (not-true _ (c .if1 .taken))
 
--- src/locate.rt:138:29
 sub-read-mode : tie.Need-sub-read-mode
 sub-read-mode c = search needs
 
--- src/locate.rt:138:29
 part-read-mode-start : tie.Need-part-read-mode-start
 part-read-mode-start c = search needs
 
--- src/locate.rt:138:29
 part-read-mode-end : tie.Need-part-read-mode-end
 part-read-mode-end c = search needs
 
--- src/locate.rt:138:5
 read-mode-requires : tie.Need-read-mode-requires
 read-mode-requires c κs = search needs
 
--- src/locate.rt:128:1
 returns-2 : tie.Need-returns-2
 returns-2 c = c .read-mode .ensures ∙ read-located (c .before .before .before .before .locate .ensures) mode-named true (not-false _ (c .before .before .if1 .left))
 

@@ -1,52 +1,36 @@
-use mathlib.Core.Path.{_≡_, refl, sym, _∙_, ap, subst}
-use Prim.Native.Nat.{ℕ, _≤_, _<_, _-_, _+_, _*_}
-use native.Mathlib.Omega.{arith}
-use lib.ListN.{length}
-use mathlib.Core.Path.{_≡_}
+-- `value::read_mode` meets its contract: the word is compared with each mode. Assumes nothing.
+use mathlib.Core.Path.{refl, sym, _∙_}
 use borrow.Author.Needs.{needs}
 use Rattle.sessions.proofs.value.read_mode.Statement.{statement}
 use Rattle.sessions.proofs.value.read_mode.Tie as tie
-use Rattle.sessions.proofs.value.read_mode.Reads as reads
-use Rattle.sessions.proofs.value.read_mode.Lts as lts
-use Rattle.headers.proofs.equal.Reads as equal-reads
 
--- src/value.rt:202:29
 slice-aggregate-equal : tie.Need-slice-aggregate-equal
 slice-aggregate-equal c = search needs
 
--- src/value.rt:202:8
 equal-requires : tie.Need-equal-requires
 equal-requires c κs = search needs
 
--- src/value.rt:203:9
 returns : tie.Need-returns
 returns c = rw (sym (c .before .equal .ensures) ∙ c .if1 .taken) refl
 
--- src/value.rt:205:29
 slice-aggregate-equal-2 : tie.Need-slice-aggregate-equal-2
 slice-aggregate-equal-2 c = search needs
 
--- src/value.rt:205:8
 equal-requires-2 : tie.Need-equal-requires-2
 equal-requires-2 c κs = search needs
 
--- src/value.rt:206:9
 returns-2 : tie.Need-returns-2
 returns-2 c = rw (sym (c .before .before .before .before .equal .ensures) ∙ c .before .before .before .if1 .left, sym (c .before .equal2 .ensures) ∙ c .if2 .taken) refl
 
--- src/value.rt:208:29
 slice-aggregate-equal-3 : tie.Need-slice-aggregate-equal-3
 slice-aggregate-equal-3 c = search needs
 
--- src/value.rt:208:8
 equal-requires-3 : tie.Need-equal-requires-3
 equal-requires-3 c κs = search needs
 
--- src/value.rt:209:9
 returns-3 : tie.Need-returns-3
 returns-3 c = rw (sym (c .before .before .before .before .before .before .before .equal .ensures) ∙ c .before .before .before .before .before .before .if1 .left, sym (c .before .before .before .before .equal2 .ensures) ∙ c .before .before .before .if2 .left, sym (c .before .equal3 .ensures) ∙ c .if3 .taken) refl
 
--- src/value.rt:199:1
 returns-4 : tie.Need-returns-4
 returns-4 c = rw (sym (c .before .before .before .before .before .before .before .equal .ensures) ∙ c .before .before .before .before .before .before .if1 .left, sym (c .before .before .before .before .equal2 .ensures) ∙ c .before .before .before .if2 .left, sym (c .before .equal3 .ensures) ∙ c .if3 .left) refl
 

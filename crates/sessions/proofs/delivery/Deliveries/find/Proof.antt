@@ -1,20 +1,13 @@
-use mathlib.Core.Path.{_≡_, refl, sym, _∙_, ap, subst}
+-- `delivery::Deliveries::find` meets its contract: the store of labels is searched. Assumes nothing.
+use mathlib.Core.Path.{_∙_}
 use Rattle.sessions.specs.Sessions.{SizedDeliveries}
 use Rattle.sessions.proofs.Delivering.{find-fits, find-pending}
 use denote.Ref.{now}
-use Prim.Native.Nat.{ℕ, _≤_, _<_, _-_, _+_, _*_}
 use native.Mathlib.Omega.{arith}
-use lib.ListN.{length}
-use mathlib.Core.Path.{_≡_}
 use borrow.Author.Needs.{needs}
 use Rattle.sessions.proofs.delivery.Deliveries.find.Statement.{statement}
 use Rattle.sessions.proofs.delivery.Deliveries.find.Tie as tie
-use Rattle.sessions.proofs.delivery.Deliveries.find.Reads as reads
-use Rattle.sessions.proofs.delivery.Deliveries.find.Lts as lts
-use Rattle.sessions.proofs.delivery.wide.Reads as wide-reads
-use Rattle.sessions.proofs.store.find.Reads as find-reads
 
--- src/delivery.rt:166:13
 -- the sizes of its arrays
 sized : (c : tie.Start) → SizedDeliveries (c .args .self)
 sized c = record { labels-long = search needs; lens-long = search needs; places-long = search needs; modes-long = search needs }
@@ -22,39 +15,30 @@ sized c = record { labels-long = search needs; lens-long = search needs; places-
 wide-requires : tie.Need-wide-requires
 wide-requires c κs = search needs
 
--- src/delivery.rt:167:19
 mul-end : tie.Need-mul-end
 mul-end c = search needs
 
--- src/delivery.rt:170:28
 sub-find : tie.Need-sub-find
 sub-find c = search needs
 
--- src/delivery.rt:170:28
 part-find-start : tie.Need-part-find-start
 part-find-start c = search needs
 
--- src/delivery.rt:170:28
 part-find-end : tie.Need-part-find-end
 part-find-end c = omega (arith, c .before .before .before .before .before .pre .few, c .before .before .before .wide .ensures .0, sized (c .before .before .before .before .before) .labels-long)
 
--- src/delivery.rt:170:45
 sub-find-2 : tie.Need-sub-find-2
 sub-find-2 c = search needs
 
--- src/delivery.rt:170:45
 part-find-start-2 : tie.Need-part-find-start-2
 part-find-start-2 c = search needs
 
--- src/delivery.rt:170:45
 part-find-end-2 : tie.Need-part-find-end-2
 part-find-end-2 c = omega (arith, c .before .before .before .before .before .before .before .pre .few, c .before .before .before .before .before .wide .ensures .0, sized (c .before .before .before .before .before .before .before) .lens-long)
 
--- src/delivery.rt:170:9
 find-requires : tie.Need-find-requires
 find-requires c κs = find-fits (c .before .before .before .before .before .before .before .before .args .self) (sized (c .before .before .before .before .before .before .before .before)) (c .before .before .before .before .before .before .before .before .pre) (c .before .before .before .before .before .before .wide .result) (c .before .before .before .before .before .before .wide .ensures .0)
 
--- src/delivery.rt:162:5
 returns : tie.Need-returns
 returns c = c .find .ensures ∙ find-pending (c .before .before .before .before .before .before .before .before .before .args .self) (sized (c .before .before .before .before .before .before .before .before .before)) (c .before .before .before .before .before .before .before .before .before .pre) (c .before .before .before .before .before .before .before .wide .result) (c .before .before .before .before .before .before .before .wide .ensures .0) (now (c .before .before .before .before .before .before .before .before .before .args .label))
 

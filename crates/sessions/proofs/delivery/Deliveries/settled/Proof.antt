@@ -1,21 +1,12 @@
-use lib.ListN.{length, getD}
-use mathlib.Core.Path.{_≡_, refl, sym, _∙_, ap, subst}
+-- `delivery::Deliveries::settled` meets its contract, by the ack mode. Assumes nothing.
+use lib.ListN.{getD}
+use mathlib.Core.Path.{refl, sym, _∙_, ap}
 use Rattle.sessions.specs.Sessions.{SizedDeliveries}
 use Rattle.sessions.proofs.Delivering.{settled-client, settled-individual}
-use Prim.Native.Nat.{ℕ, _≤_, _<_, _-_, _+_, _*_}
-use native.Mathlib.Omega.{arith}
-use lib.ListN.{length}
-use mathlib.Core.Path.{_≡_}
 use borrow.Author.Needs.{needs}
 use Rattle.sessions.proofs.delivery.Deliveries.settled.Statement.{statement}
 use Rattle.sessions.proofs.delivery.Deliveries.settled.Tie as tie
-use Rattle.sessions.proofs.delivery.Deliveries.settled.Reads as reads
-use Rattle.sessions.proofs.delivery.Deliveries.settled.Lts as lts
-use Rattle.sessions.proofs.delivery.Deliveries.without.Reads as without-reads
-use Rattle.sessions.proofs.delivery.wide.Reads as wide-reads
-use Rattle.sessions.proofs.store.octet_at.Reads as octet-at-reads
 
--- src/delivery.rt:180:18
 -- the sizes of its arrays
 sized : (c : tie.Start) → SizedDeliveries (c .args .self)
 sized c = record { labels-long = search needs; lens-long = search needs; places-long = search needs; modes-long = search needs }
@@ -23,39 +14,30 @@ sized c = record { labels-long = search needs; lens-long = search needs; places-
 array-read-of : tie.Need-array-read-of
 array-read-of c = search needs
 
--- src/delivery.rt:181:43
 slice-aggregate-octet-at : tie.Need-slice-aggregate-octet-at
 slice-aggregate-octet-at c = search needs
 
--- src/delivery.rt:181:51
 wide-requires : tie.Need-wide-requires
 wide-requires c κs = search needs
 
--- src/delivery.rt:181:13
 octet-at-requires : tie.Need-octet-at-requires
 octet-at-requires c κs = search needs
 
--- src/delivery.rt:185:21
 add-t14 : tie.Need-add-t14
 add-t14 c = search needs
 
--- src/delivery.rt:183:13
 without-requires : tie.Need-without-requires
 without-requires c κs = search needs
 
--- src/delivery.rt:183:13
 returns : tie.Need-returns
 returns c = λ l e. c .without .ensures ∙ settled-client (c .before .before .before .before .before .before .before .args .self) (sized (c .before .before .before .before .before .before .before)) (c .before .before .before .before .before .before .before .pre .0) l (c .before .before .before .before .before .before .before .args .index) e _ refl (ap (λ k. getD (c .before .before .before .before .before .before .before .args .self .modes) k 0) (sym (c .before .before .before .wide .ensures .0)) ∙ sym (c .before .before .octet-at .ensures) ∙ c .before .if1 .taken)
 
--- src/delivery.rt:191:17
 add-t12 : tie.Need-add-t12
 add-t12 c = search needs
 
--- src/delivery.rt:189:9
 without-requires-2 : tie.Need-without-requires-2
 without-requires-2 c κs = search needs
 
--- src/delivery.rt:174:5
 returns-2 : tie.Need-returns-2
 returns-2 c = λ l e. c .without2 .ensures ∙ settled-individual (c .before .before .before .before .before .before .before .args .self) (sized (c .before .before .before .before .before .before .before)) (c .before .before .before .before .before .before .before .pre .0) l (c .before .before .before .before .before .before .before .args .index) e _ refl (λ h. c .before .if1 .left (c .before .before .octet-at .ensures ∙ ap (λ k. getD (c .before .before .before .before .before .before .before .args .self .modes) k 0) (c .before .before .before .wide .ensures .0) ∙ h))
 

@@ -1,20 +1,13 @@
-use mathlib.Core.Path.{_≡_, refl, sym, _∙_, ap, subst}
-use mathlib.Core.Bool.{true, false}
+-- `session::Session::find_subscription` meets its contract. Assumes nothing.
+use mathlib.Core.Path.{_≡_}
+use mathlib.Core.Bool.{true}
 use Rattle.sessions.specs.Sessions.{is-valid}
 use Rattle.sessions.proofs.Kept.{Kept, kept-of}
 use Rattle.sessions.proofs.Keeping.{subscriptions-fit}
-use Prim.Native.Nat.{ℕ, _≤_, _<_, _-_, _+_, _*_}
-use native.Mathlib.Omega.{arith}
-use lib.ListN.{length}
-use mathlib.Core.Path.{_≡_}
 use borrow.Author.Needs.{needs}
 use Rattle.sessions.proofs.session.Session.find_subscription.Statement.{statement}
 use Rattle.sessions.proofs.session.Session.find_subscription.Tie as tie
-use Rattle.sessions.proofs.session.Session.find_subscription.Reads as reads
-use Rattle.sessions.proofs.session.Session.find_subscription.Lts as lts
-use Rattle.sessions.proofs.store.find.Reads as find-reads
 
--- src/session.rt:481:28
 -- a valid session, with the sizes of its arrays
 kept : (c : tie.Start) → is-valid (c .args .self) ≡ true → Kept (c .args .self)
 kept c v =
@@ -24,15 +17,12 @@ kept c v =
 slice-aggregate-find : tie.Need-slice-aggregate-find
 slice-aggregate-find c = search needs
 
--- src/session.rt:481:35
 slice-aggregate-find-2 : tie.Need-slice-aggregate-find-2
 slice-aggregate-find-2 c = search needs
 
--- src/session.rt:481:9
 find-requires : tie.Need-find-requires
 find-requires c κs = subscriptions-fit (c .before .before .before .before .before .args .self) (kept (c .before .before .before .before .before) (c .before .before .before .before .before .pre) .ids)
 
--- src/session.rt:475:5
 returns : tie.Need-returns
 returns c = c .find .ensures
 

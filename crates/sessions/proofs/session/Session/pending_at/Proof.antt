@@ -1,24 +1,15 @@
-use mathlib.Core.Path.{_≡_, refl, sym, _∙_, ap, subst}
-use mathlib.Core.Bool.{true, false}
+-- `session::Session::pending_at` meets its contract. Assumes nothing.
+use mathlib.Core.Path.{_≡_, sym, _∙_}
+use mathlib.Core.Bool.{true}
 use Rattle.sessions.specs.Sessions.{is-valid}
 use Rattle.sessions.proofs.Kept.{Kept, kept-of}
 use Rattle.sessions.proofs.Delivering.{told-invalid, told-absent, told-held}
 use borrow.Author.Tests.{not-true, not-false}
-use Prim.Native.Nat.{ℕ, _≤_, _<_, _-_, _+_, _*_}
 use native.Mathlib.Omega.{arith}
-use lib.ListN.{length}
-use mathlib.Core.Path.{_≡_}
 use borrow.Author.Needs.{needs}
 use Rattle.sessions.proofs.session.Session.pending_at.Statement.{statement}
 use Rattle.sessions.proofs.session.Session.pending_at.Tie as tie
-use Rattle.sessions.proofs.session.Session.pending_at.Reads as reads
-use Rattle.sessions.proofs.session.Session.pending_at.Lts as lts
-use Rattle.sessions.proofs.delivery.wide.Reads as wide-reads
-use Rattle.sessions.proofs.session.Session.is_valid.Reads as is-valid-reads
-use Rattle.sessions.proofs.session.Session.told.Reads as told-reads
-use Rattle.sessions.proofs.session.nothing_told.Reads as nothing-told-reads
 
--- src/session.rt:679:13
 -- a valid session, with the sizes of its arrays
 kept : (c : tie.Start) → is-valid (c .args .self) ≡ true → Kept (c .args .self)
 kept c v =
@@ -28,31 +19,24 @@ kept c v =
 is-valid-requires : tie.Need-is-valid-requires
 is-valid-requires c κs = search needs
 
--- src/session.rt:680:13
 nothing-told-requires : tie.Need-nothing-told-requires
 nothing-told-requires c κs = search needs
 
--- src/session.rt:680:13
 returns : tie.Need-returns
 returns c = c .nothing-told .ensures ∙ told-invalid (c .before .before .before .args .self) (c .before .before .before .args .index) (sym (c .before .before .is-valid .ensures) ∙ not-true _ (c .before .if1 .taken))
 
--- src/session.rt:683:12
 wide-requires : tie.Need-wide-requires
 wide-requires c κs = search needs
 
--- src/session.rt:684:13
 nothing-told-requires-2 : tie.Need-nothing-told-requires-2
 nothing-told-requires-2 c κs = search needs
 
--- src/session.rt:684:13
 returns-2 : tie.Need-returns-2
 returns-2 c = c .nothing-told2 .ensures ∙ told-absent (c .before .before .before .before .before .before .args .self) (kept (c .before .before .before .before .before .before) (sym (c .before .before .before .before .before .is-valid .ensures) ∙ not-false _ (c .before .before .before .before .if1 .left))) (c .before .before .before .before .before .before .args .index) (sym (c .before .before .before .before .before .is-valid .ensures) ∙ not-false _ (c .before .before .before .before .if1 .left)) (omega (arith, c .before .before .wide .ensures .0, c .before .if2 .taken))
 
--- src/session.rt:686:9
 told-requires : tie.Need-told-requires
 told-requires c κs = (sym (c .before .before .before .before .is-valid .ensures) ∙ not-false _ (c .before .before .before .if1 .left), omega (arith, c .before .wide .ensures .0, c .if2 .left))
 
--- src/session.rt:676:5
 returns-3 : tie.Need-returns-3
 returns-3 c = c .told .ensures ∙ told-held (c .before .before .before .before .before .before .args .self) (kept (c .before .before .before .before .before .before) (sym (c .before .before .before .before .before .is-valid .ensures) ∙ not-false _ (c .before .before .before .before .if1 .left))) (c .before .before .before .before .before .before .args .index) (sym (c .before .before .before .before .before .is-valid .ensures) ∙ not-false _ (c .before .before .before .before .if1 .left))
 

@@ -1,31 +1,17 @@
+-- `session::Session::record_at` meets its contract: 62, 61, or recorded. Assumes nothing.
 use Rattle.sessions.specs.Steps.{unrecorded-by}
 use denote.Ref.{now}
-use Rattle.sessions.proofs.Delivering.{at-bad, at-pending, at-full, at-done, may-record}
+use Rattle.sessions.proofs.Delivering.{at-bad, at-pending, at-full, at-done, may-record, laid-of}
 use Rattle.sessions.proofs.Searching.{told-any}
 use Rattle.sessions.specs.Deliveries.{labelled, pending}
-use mathlib.Core.Path.{_≡_, refl, sym, _∙_, ap, subst}
-use mathlib.Core.Bool.{true, false}
+use mathlib.Core.Path.{_≡_, sym, _∙_}
+use mathlib.Core.Bool.{true}
 use Rattle.sessions.specs.Sessions.{is-valid}
 use Rattle.sessions.proofs.Kept.{Kept, kept-of}
-use Rattle.sessions.proofs.Delivering.{laid-of}
-use borrow.Author.Tests.{not-true, not-false}
-use Rattle.sessions.proofs.Steps.{records-refused, records-on, records-done}
-use Rattle.sessions.specs.Deliveries.{Pending}
-use Prim.Native.Nat.{ℕ, _≤_, _<_, _-_, _+_, _*_}
-use native.Mathlib.Omega.{arith}
-use lib.ListN.{length}
-use mathlib.Core.Path.{_≡_}
 use borrow.Author.Needs.{needs}
 use Rattle.sessions.proofs.session.Session.record_at.Statement.{statement}
 use Rattle.sessions.proofs.session.Session.record_at.Tie as tie
-use Rattle.sessions.proofs.session.Session.record_at.Reads as reads
-use Rattle.sessions.proofs.session.Session.record_at.Lts as lts
-use Rattle.sessions.proofs.delivery.Deliveries.find.Reads as find-reads
-use Rattle.sessions.proofs.session.Session.recorded.Reads as recorded-reads
-use Rattle.sessions.proofs.session.Session.unrecorded.Reads as unrecorded-reads
-use Rattle.sessions.proofs.store.is_found.Reads as is-found-reads
 
--- src/session.rt:618:13
 -- a valid session, with the sizes of its arrays
 kept : (c : tie.Start) → is-valid (c .args .self) ≡ true → Kept (c .args .self)
 kept c v =
@@ -35,43 +21,33 @@ kept c v =
 unrecorded-requires : tie.Need-unrecorded-requires
 unrecorded-requires c κs = search needs
 
--- src/session.rt:618:13
 returns : tie.Need-returns
 returns c = at-bad (c .before .before .before .before .args .self) (c .before .before .before .before .args .place) (now (c .before .before .before .before .args .label)) (c .unrecorded .result) (c .before .if1 .taken) (c .unrecorded .ensures)
 
--- src/session.rt:620:35
 find-requires : tie.Need-find-requires
 find-requires c κs = laid-of (c .before .before .before .args .self) (kept (c .before .before .before) (c .before .before .before .pre .0))
 
--- src/session.rt:620:12
 is-found-requires : tie.Need-is-found-requires
 is-found-requires c κs = search needs
 
--- src/session.rt:621:13
 unrecorded-requires-2 : tie.Need-unrecorded-requires-2
 unrecorded-requires-2 c κs = search needs
 
--- src/session.rt:621:13
 returns-2 : tie.Need-returns-2
 returns-2 c = at-pending (c .before .before .before .before .before .before .before .args .self) (c .before .before .before .before .before .before .before .args .place) (now (c .before .before .before .before .before .before .before .args .label)) (c .unrecorded2 .result) (c .before .before .before .before .if1 .left) (told-any (labelled (now (c .before .before .before .before .before .before .before .args .label))) 0 (pending (c .before .before .before .before .before .before .before .args .self .deliveries)) (c .before .before .before .find .result) (c .before .before .before .find .ensures) ∙ sym (c .before .before .is-found .ensures) ∙ c .before .if2 .taken) (c .unrecorded2 .ensures)
 
--- src/session.rt:624:13
 array-read-if3 : tie.Need-array-read-if3
 array-read-if3 c = search needs
 
--- src/session.rt:625:13
 unrecorded-requires-3 : tie.Need-unrecorded-requires-3
 unrecorded-requires-3 c κs = search needs
 
--- src/session.rt:625:13
 returns-3 : tie.Need-returns-3
 returns-3 c = at-full (c .before .before .before .before .before .before .before .before .before .before .args .self) (c .before .before .before .before .before .before .before .before .before .before .args .place) (now (c .before .before .before .before .before .before .before .before .before .before .args .label)) (c .unrecorded3 .result) (c .before .before .before .before .before .before .before .if1 .left) (told-any (labelled (now (c .before .before .before .before .before .before .before .before .before .before .args .label))) 0 (pending (c .before .before .before .before .before .before .before .before .before .before .args .self .deliveries)) (c .before .before .before .before .before .before .find .result) (c .before .before .before .before .before .before .find .ensures) ∙ sym (c .before .before .before .before .before .is-found .ensures) ∙ c .before .before .before .before .if2 .left) (c .before .if3 .taken) (c .unrecorded3 .ensures)
 
--- src/session.rt:627:9
 recorded-requires : tie.Need-recorded-requires
 recorded-requires c κs = may-record (c .before .before .before .before .before .before .before .before .before .args .self) (c .before .before .before .before .before .before .before .before .before .args .place) (now (c .before .before .before .before .before .before .before .before .before .args .label)) (unrecorded-by (c .before .before .before .before .before .before .before .before .before .args .self) 0) (c .before .before .before .before .before .before .before .before .before .pre .0) (c .before .before .before .before .before .before .before .before .before .pre .1) (c .before .before .before .before .before .before .if1 .left) (c .if3 .left)
 
--- src/session.rt:612:5
 returns-4 : tie.Need-returns-4
 returns-4 c = at-done (c .before .before .before .before .before .before .before .before .before .before .args .self) (c .before .before .before .before .before .before .before .before .before .before .args .place) (now (c .before .before .before .before .before .before .before .before .before .before .args .label)) (c .recorded .result) (c .before .before .before .before .before .before .before .if1 .left) (told-any (labelled (now (c .before .before .before .before .before .before .before .before .before .before .args .label))) 0 (pending (c .before .before .before .before .before .before .before .before .before .before .args .self .deliveries)) (c .before .before .before .before .before .before .find .result) (c .before .before .before .before .before .before .find .ensures) ∙ sym (c .before .before .before .before .before .is-found .ensures) ∙ c .before .before .before .before .if2 .left) (c .before .if3 .left) (c .recorded .ensures)
 

@@ -1,28 +1,17 @@
+-- `session::Session::settle_label` meets its contract: refused already; settled; or 60. Assumes nothing.
 use denote.Ref.{now}
 use mathlib.Core.Option.{some}
 use Rattle.sessions.proofs.Steps.{label-refused, label-unknown, label-settled}
 use Rattle.sessions.proofs.Delivering.{laid-of, label-found, label-missed, says-at, says-nowhere}
 use Rattle.sessions.specs.Steps.{outcome-with}
-use mathlib.Core.Path.{_≡_, refl, sym, _∙_, ap, subst}
-use mathlib.Core.Bool.{true, false}
+use mathlib.Core.Path.{_≡_, refl, _∙_, ap}
+use mathlib.Core.Bool.{true}
 use Rattle.sessions.specs.Sessions.{is-valid}
 use Rattle.sessions.proofs.Kept.{Kept, kept-of}
-use Rattle.sessions.proofs.Delivering.{laid-of, label-found, says-at}
-use Prim.Native.Nat.{ℕ, _≤_, _<_, _-_, _+_, _*_}
-use native.Mathlib.Omega.{arith}
-use lib.ListN.{length}
-use mathlib.Core.Path.{_≡_}
 use borrow.Author.Needs.{needs}
 use Rattle.sessions.proofs.session.Session.settle_label.Statement.{statement}
 use Rattle.sessions.proofs.session.Session.settle_label.Tie as tie
-use Rattle.sessions.proofs.session.Session.settle_label.Reads as reads
-use Rattle.sessions.proofs.session.Session.settle_label.Lts as lts
-use Rattle.sessions.proofs.delivery.Deliveries.find.Reads as find-reads
-use Rattle.sessions.proofs.delivery.Deliveries.settled.Reads as settled-reads
-use Rattle.sessions.proofs.session.Outcome.with_deliveries.Reads as with-deliveries-reads
-use Rattle.sessions.proofs.session.Session.refused.Reads as refused-reads
 
--- src/session.rt:517:39
 -- a valid session, with the sizes of its arrays
 kept : (c : tie.Start) → is-valid (c .args .self) ≡ true → Kept (c .args .self)
 kept c v =
@@ -32,42 +21,33 @@ kept c v =
 enum-known-answer : tie.Need-enum-known-answer
 enum-known-answer c = search needs
 
--- src/session.rt:518:13
 returns : tie.Need-returns
 returns c = label-refused (c .before .before .before .before .args .self) (some (now (c .before .before .before .before .args .label))) (c .before .before .before .before .args .named) (c .before .before .before .before .args .named) (c .before .answer .given .0 .0) (c .before .answer .given .1) refl
 
 enum-told : tie.Need-enum-told
 enum-told c = search needs
 
--- src/session.rt:521:15
 find-requires : tie.Need-find-requires
 find-requires c κs = laid-of (c .before .before .before .before .args .self) (kept (c .before .before .before .before) (c .before .before .before .before .pre))
 
--- src/session.rt:522:24
 enum-known-i : tie.Need-enum-known-i
 enum-known-i c = search needs
 
--- src/session.rt:522:52
 settled-requires : tie.Need-settled-requires
 settled-requires c κs = (laid-of (c .before .before .before .before .before .before .before .before .args .self) (kept (c .before .before .before .before .before .before .before .before) (c .before .before .before .before .before .before .before .before .pre)), label-found (c .before .before .before .before .before .before .before .before .args .self) (kept (c .before .before .before .before .before .before .before .before) (c .before .before .before .before .before .before .before .before .pre)) _ _ (says-at _ _ _ (c .before .before .before .find .ensures) (c .before .i .given .1)) .0)
 
--- src/session.rt:522:30
 with-deliveries-requires : tie.Need-with-deliveries-requires
 with-deliveries-requires c κs = search needs
 
--- src/session.rt:523:32
 enum-told-2 : tie.Need-enum-told-2
 enum-told-2 c = search needs
 
--- src/session.rt:523:32
 refused-requires : tie.Need-refused-requires
 refused-requires c κs = search needs
 
--- src/session.rt:512:5
 returns-2 : tie.Need-returns-2
 returns-2 c = label-settled (c .before .before .before .before .before .before .before .before .before .before .args .self) (some (now (c .before .before .before .before .before .before .before .before .before .before .args .label))) (c .before .before .before .before .before .before .before .before .before .before .args .named) (c .with-deliveries .result) (label-found (c .before .before .before .before .before .before .before .before .before .before .args .self) (kept (c .before .before .before .before .before .before .before .before .before .before) (c .before .before .before .before .before .before .before .before .before .before .pre)) (now (c .before .before .before .before .before .before .before .before .before .before .args .label)) (c .before .before .before .i .given .0 .0) (says-at _ _ _ (c .before .before .before .before .before .find .ensures) (c .before .before .before .i .given .1)) .1) (c .before .before .before .before .before .before .before .enum-told .given .0 .0) (c .before .before .before .before .before .before .before .enum-told .given .1) (c .with-deliveries .ensures ∙ ap (outcome-with (c .before .before .before .before .before .before .before .before .before .before .args .named)) (c .before .settled .ensures (now (c .before .before .before .before .before .before .before .before .before .before .args .label)) (says-at _ _ _ (c .before .before .before .before .before .find .ensures) (c .before .before .before .i .given .1))))
 
--- src/session.rt:512:5
 returns-3 : tie.Need-returns-3
 returns-3 c = label-unknown (c .before .before .before .before .before .before .before .before .args .self) (some (now (c .before .before .before .before .before .before .before .before .args .label))) (c .before .before .before .before .before .before .before .before .args .named) (c .refused .result) (label-missed (c .before .before .before .before .before .before .before .before .args .self) (kept (c .before .before .before .before .before .before .before .before) (c .before .before .before .before .before .before .before .before .pre)) (now (c .before .before .before .before .before .before .before .before .args .label)) (says-nowhere _ _ (c .before .before .before .find .ensures) (c .before .enum-told2 .given .1))) (c .before .before .before .before .before .enum-told .given .0 .0) (c .before .before .before .before .before .enum-told .given .1) (c .refused .ensures)
 

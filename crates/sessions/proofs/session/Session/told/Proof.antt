@@ -1,25 +1,16 @@
-use mathlib.Core.Path.{ap₂}
+-- `session::Session::told` meets its contract: the places of the stores hold what is told. Assumes nothing.
+use mathlib.Core.Path.{ap₂, _≡_, _∙_}
 use Rattle.sessions.specs.declared.session.PendingAnswer.{PendingAnswer}
-use lib.ListN.{length, getD}
+use lib.ListN.{getD}
 use Rattle.sessions.proofs.Delivering.{laid-of, told-place, told-at}
-use mathlib.Core.Path.{_≡_, refl, sym, _∙_, ap, subst}
-use mathlib.Core.Bool.{true, false}
+use mathlib.Core.Bool.{true}
 use Rattle.sessions.specs.Sessions.{is-valid}
 use Rattle.sessions.proofs.Kept.{Kept, kept-of}
-use Rattle.sessions.proofs.Delivering.{told-place, told-at}
-use Prim.Native.Nat.{ℕ, _≤_, _<_, _-_, _+_, _*_}
 use native.Mathlib.Omega.{arith}
-use lib.ListN.{length}
-use mathlib.Core.Path.{_≡_}
 use borrow.Author.Needs.{needs}
 use Rattle.sessions.proofs.session.Session.told.Statement.{statement}
 use Rattle.sessions.proofs.session.Session.told.Tie as tie
-use Rattle.sessions.proofs.session.Session.told.Reads as reads
-use Rattle.sessions.proofs.session.Session.told.Lts as lts
-use Rattle.sessions.proofs.delivery.wide.Reads as wide-reads
-use Rattle.sessions.proofs.store.row.Reads as row-reads
 
--- src/session.rt:664:43
 -- a valid session, with the sizes of its arrays
 kept : (c : tie.Start) → is-valid (c .args .self) ≡ true → Kept (c .args .self)
 kept c v =
@@ -29,39 +20,30 @@ kept c v =
 array-read-wide : tie.Need-array-read-wide
 array-read-wide c = omega (arith, c .before .before .before .before .before .before .before .pre .1, laid-of (c .before .before .before .before .before .before .before .args .self) (kept (c .before .before .before .before .before .before .before) (c .before .before .before .before .before .before .before .pre .0)) .few)
 
--- src/session.rt:664:13
 wide-requires : tie.Need-wide-requires
 wide-requires c κs = search needs
 
--- src/session.rt:667:45
 slice-aggregate-row : tie.Need-slice-aggregate-row
 slice-aggregate-row c = search needs
 
--- src/session.rt:667:27
 row-requires : tie.Need-row-requires
 row-requires c κs = omega (arith, told-place (c .before .before .before .before .before .before .before .before .before .args .self) (kept (c .before .before .before .before .before .before .before .before .before) (c .before .before .before .before .before .before .before .before .before .pre .0)) (c .before .before .before .before .before .before .before .before .before .args .index) (c .before .before .before .before .before .before .before .before .before .pre .1) (c .before .wide .result) (c .before .wide .ensures .0), (kept (c .before .before .before .before .before .before .before .before .before) (c .before .before .before .before .before .before .before .before .before .pre .0)) .ids .sized .subs-long)
 
--- src/session.rt:668:31
 array-read-t13 : tie.Need-array-read-t13
 array-read-t13 c = omega (arith, told-place (c .before .before .before .before .before .before .before .before .before .before .args .self) (kept (c .before .before .before .before .before .before .before .before .before .before) (c .before .before .before .before .before .before .before .before .before .before .pre .0)) (c .before .before .before .before .before .before .before .before .before .before .args .index) (c .before .before .before .before .before .before .before .before .before .before .pre .1) (c .before .before .wide .result) (c .before .before .wide .ensures .0))
 
--- src/session.rt:669:19
 array-read-t22 : tie.Need-array-read-t22
 array-read-t22 c = omega (arith, told-place (c .before .before .before .before .before .before .before .before .before .before .args .self) (kept (c .before .before .before .before .before .before .before .before .before .before) (c .before .before .before .before .before .before .before .before .before .before .pre .0)) (c .before .before .before .before .before .before .before .before .before .before .args .index) (c .before .before .before .before .before .before .before .before .before .before .pre .1) (c .before .before .wide .result) (c .before .before .wide .ensures .0))
 
--- src/session.rt:670:38
 slice-aggregate-row-2 : tie.Need-slice-aggregate-row-2
 slice-aggregate-row-2 c = search needs
 
--- src/session.rt:670:20
 row-requires-2 : tie.Need-row-requires-2
 row-requires-2 c κs = omega (arith, c .before .before .before .before .before .before .before .before .before .before .before .pre .1, laid-of (c .before .before .before .before .before .before .before .before .before .before .before .args .self) (kept (c .before .before .before .before .before .before .before .before .before .before .before) (c .before .before .before .before .before .before .before .before .before .before .before .pre .0)) .few, (kept (c .before .before .before .before .before .before .before .before .before .before .before) (c .before .before .before .before .before .before .before .before .before .before .before .pre .0)) .holds .sized .labels-long)
 
--- src/session.rt:671:24
 array-read-t28 : tie.Need-array-read-t28
 array-read-t28 c = omega (arith, c .before .before .before .before .before .before .before .before .before .before .before .before .pre .1, laid-of (c .before .before .before .before .before .before .before .before .before .before .before .before .args .self) (kept (c .before .before .before .before .before .before .before .before .before .before .before .before) (c .before .before .before .before .before .before .before .before .before .before .before .before .pre .0)) .few)
 
--- src/session.rt:653:5
 returns : tie.Need-returns
 returns c = ap₂ (λ a b. record {
   answer = PendingAnswer.Held;
