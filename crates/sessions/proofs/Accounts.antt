@@ -196,7 +196,7 @@ survivors-apart x l es (d ∷ ds) (h, more) =
 
 -- ---- ACK and NACK
 
--- each has another label than those behind it
+-- each has another label than those after it
 abbrev pub Distinct : List Delivery → Type 0
 Distinct [] = Unit {0}
 Distinct (d ∷ ds) = (any (named (d .label)) ds ≡ false) × Distinct ds

@@ -1,12 +1,9 @@
--- A session stays a valid record: made, and after each call and each history of calls. Assumes nothing.
---     Valid, valid-record, record-valid                                the test of a record, taken apart
---     SameStores                                                       two sessions have the same ids where they lie
---     Held, held                                                       a valid session whose arrays have their sizes
---     held-long, held-short, held-distinct                             its ids of a kind: how many places, none too long, no two the same
---     held-frame, held-heart-beat, held-next, held-after, held-made    each call, each history and making keep that
---     frame-sized, frame-valid, heart-beat-sized, heart-beat-valid     the same of one call, said of Sized and is-valid
---     sized-after, valid-after                                         of a history
---     made-sized, made-valid, made-after                               and of a session that was made, at first and after a history
+-- The numbers and ids of a session stay valid: made, and after each call. Its deliveries too: Kept. Assumes nothing.
+--     Valid, valid-record, record-valid                     the test of a record, taken apart
+--     SameStores                                            two sessions have the same ids where they lie
+--     Held                                                  a session with valid numbers and ids, whose arrays of ids have their sizes
+--     held-long, held-short, held-distinct                  its ids of a kind: how many places, none too long, no two the same
+--     held-frame, held-heart-beat, held-deliver, held-made  each call and making keep that
 use mathlib.Core.Path.{_≡_, refl, sym, _∙_, ap, ap₂}
 use mathlib.Core.Bool.{Bool, true, false, cond, _&&_, _||_, not}
 use mathlib.Core.Option.{Option, none, some}

@@ -1,6 +1,7 @@
 -- A session stays a valid record: made, and after each call and each history of calls. Assumes nothing.
---     Kept, kept-..                 a valid session with the sizes of its arrays; each change, call and history keeps that
---     valid-after, made-after       the same, said of Sized and is-valid
+--     Kept, kept-..                                                 a valid session with the sizes of its arrays; each change, call and history keeps that
+--     frame-valid, heart-beat-valid, deliver-valid, valid-after     the same of one call and of a history, said of is-valid
+--     made-valid, made-after                                        and of a session that was made, at first and after a history
 use mathlib.Core.Path.{_≡_, refl, sym, _∙_, ap, ap₂, subst}
 use mathlib.Core.Logic.{_≢_}
 use mathlib.Core.Bool.{Bool, true, false, cond, _&&_, _||_, not, true≢false}
@@ -367,6 +368,23 @@ kept-made sends wants offered =
       holds = subst (λ z. Holds z (made sends wants offered .deliveries)) (sym l) (subst (Holds (replicate 16 0)) (sym d) none-holds);
       only-open = ap (λ (z : Deliveries). in-phase open-phase (made sends wants offered) || eqb (z .count) 0) d ∙ or-yes (in-phase open-phase (made sends wants offered));
     }
+
+-- a valid session stays valid
+module _ (s : Session) (sized : Sized s) (few : SizedDeliveries (s .deliveries)) (valid : is-valid s ≡ true) where
+  pub frame-valid : (n : ℕ) (block : List ℕ) (time : ℕ) → is-valid (frame-session s n block time) ≡ true
+  frame-valid n block time = kept-valid (frame-session s n block time) (kept-frame s n block time (kept-of s sized few valid))
+
+  pub heart-beat-valid : (time : ℕ) → is-valid (heart-beat-session s time) ≡ true
+  heart-beat-valid time = kept-valid (heart-beat-session s time) (kept-heart-beat s time (kept-of s sized few valid))
+
+  pub deliver-valid : (id label : List ℕ) → is-valid (deliver-session s id label) ≡ true
+  deliver-valid id label = kept-valid (deliver-session s id label) (kept-deliver s (kept-of s sized few valid) id label)
+
+  pub valid-after : (cs : List Call) → is-valid (after s cs) ≡ true
+  valid-after cs = kept-valid (after s cs) (kept-after s cs (kept-of s sized few valid))
+
+pub made-valid : (sends wants : ℕ) (offered : List Bool) → is-valid (made sends wants offered) ≡ true
+made-valid sends wants offered = kept-valid (made sends wants offered) (kept-made sends wants offered)
 
 -- every history leaves a valid record: 38's rule "refuses nothing that calls from a fresh session leave"
 pub made-after : (sends wants : ℕ) (offered : List Bool) (cs : List Call) → is-valid (after (made sends wants offered) cs) ≡ true

@@ -118,7 +118,7 @@ pub record Proper (lens ms : List ℕ) (p : Pending) : Type 0 where
   pub there : not (eqb (length (p .label)) 0) ≡ true
   pub acks : acknowledging lens ms (p .place) ≡ true
 
--- each has another label than those behind it
+-- each has another label than those after it
 abbrev pub Apart : List Pending → Type 0
 Apart [] = Unit {0}
 Apart (p ∷ ps) = (any (labelled (p .label)) ps ≡ false) × Apart ps

@@ -1,4 +1,4 @@
--- Pending deliveries taken out, and one more laid out behind the others. Assumes nothing.
+-- Pending deliveries taken out, and one more laid out after the others. Assumes nothing.
 --     kept-labels, kept-lens, kept-places      the rows that stay are the layout of the deliveries that stay
 --     without-laid, entered-laid               what the code builds is the record with those deliveries
 use mathlib.Core.Path.{_≡_, refl, sym, ap, ap₂, _∙_}
@@ -213,7 +213,7 @@ module _ (d : Deliveries) (sized : SizedDeliveries d) (l : Laid d) where
       count-is : d .count + 1 ≡ length more
       count-is = sym (length-append (pending d) (record { place = place; label = label } ∷ []) ∙ ap (_+ 1) pending-count)
 
-      -- a row behind which all is 0
+      -- a row after which all is 0
       behind : (n k : ℕ) (xs front : List ℕ) (x : ℕ) → length xs ≡ n → k < n → take k xs ≡ front → is-zero (drop k xs) ≡ true → set xs k x ≡ filled n (front ++ (x ∷ []))
       behind n k xs front x long less is zero-behind = set-behind n k xs front x long less is zero-behind
 

@@ -1,8 +1,8 @@
 -- The deliveries that are pending after a history of calls are exactly those that the session holds, oldest first; and every delivery
 -- made is acknowledged, refused by NACK, dropped or pending. Assumes nothing.
---     held-step                 one call
---     made-pending          a history
---     made-accounted            the counts
+--     left-next                       one call
+--     made-pending                    a history
+--     made-counted, made-accounted    the counts
 use mathlib.Core.Path.{_≡_, refl, sym, _∙_, ap, ap₂, subst}
 use mathlib.Core.Logic.{_≢_}
 use mathlib.Core.Bool.{Bool, true, false, cond, _&&_, _||_, not, true≢false}
@@ -23,7 +23,7 @@ use Rattle.sessions.specs.Headers.{value-of, is, opens, lacks, mode-aske
 use Rattle.sessions.specs.Stores.{ids, live, distinct, used, use-checks}
 use Rattle.sessions.specs.Deliveries.{auto-mode, client-mode, Pending, pending, labelled, mode-of, goes-with, with-pending, with-modes, without, settled, settled-as, settle-label, subscribe, unsubscribe, record-label}
 use Rattle.sessions.proofs.Rows.{nil-apart, or-either}
-use Rattle.sessions.specs.Accounts.{Delivery, Event, subscribed, unsubscribed, mode-in, made-at, accounts, with-fate, is-acknowledged, is-refused, is-dropped, is-still-pending, recorded, delivered, acked, nacked, closed, nothing, settled-with, pending-in}
+use Rattle.sessions.specs.Accounts.{Delivery, Event, subscribed, unsubscribed, mode-in, made-at, accounts, with-fate, is-acknowledged, is-refused, is-dropped, recorded, delivered, acked, nacked, closed, nothing, settled-with, pending-in}
 use Rattle.sessions.specs.declared.delivery.Deliveries.{Deliveries}
 use Rattle.headers.specs.Answers.{Answer, accepted, refused, settle}
 use Rattle.sessions.specs.Sessions.{id-max, ids-of, with-ids, with-deliveries, heard, closed as closed-session}
@@ -526,7 +526,15 @@ made-pending sends wants offered cs =
     sym (held-history [] (made sends wants offered) (kept-made sends wants offered) (none-known sends wants offered) cs
     ∙ ap (λ ds. survivors ds (events (made sends wants offered) cs) ++ pending-in [] (events (made sends wants offered) cs)) (none-held sends wants offered))
 
--- "deliveries made equal those acknowledged, refused by NACK, dropped at UNSUBSCRIBE or close, and outstanding"
+-- "deliveries made equal those acknowledged, refused by NACK, dropped at UNSUBSCRIBE or close, and outstanding", each counted from the
+-- history of calls and answers
+pub made-counted : (sends wants : ℕ) (offered : List Bool) (cs : List Call)
+    → recorded (events (made sends wants offered) cs)
+    ≡ length (with-fate is-acknowledged (accounts [] (events (made sends wants offered) cs))) + length (with-fate is-refused (accounts [] (events (made sends wants offered) cs)))
+    + length (with-fate is-dropped (accounts [] (events (made sends wants offered) cs))) + length (pending-in [] (events (made sends wants offered) cs))
+made-counted sends wants offered cs = all-accounted [] (events (made sends wants offered) cs)
+
+-- the same with the pending ones that the session holds
 pub made-accounted : (sends wants : ℕ) (offered : List Bool) (cs : List Call)
     → recorded (events (made sends wants offered) cs)
     ≡ length (with-fate is-acknowledged (accounts [] (events (made sends wants offered) cs))) + length (with-fate is-refused (accounts [] (events (made sends wants offered) cs)))

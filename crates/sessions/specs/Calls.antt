@@ -15,7 +15,8 @@ use Rattle.sessions.specs.Deliveries.{deliveries-max, label-max, auto-mo
 use Rattle.sessions.specs.Values.{HeartBeats, versions, heart-beats, heart-beat-max}
 use Rattle.sessions.specs.Opening.{shared-flags, none-shared, may-offer, interval, overdue}
 use Rattle.sessions.specs.Headers.{value-of, has, is-some, lacks, is, unknown, from-server, opens, needed, names, names-id, naming, mode-asked, settles}
-use Rattle.sessions.specs.Sessions.{id-max, fresh-phase, open-phase, closed-phase, in-phase, fresh, ids-of, with-ids, with-deliveries, closed, opened, heard, is-valid}
+use Rattle.sessions.specs.Sessions.{id-max, fresh-phase, open-phase, closed-phase, in-phase, fresh, ids-of, with-ids, with-deliveries, closed, opened}
+use Rattle.sessions.specs.Sessions.{heard, is-valid}
 use Rattle.sessions.specs.Answers.{bit, acceptance-says}
 use Rattle.sessions.specs.declared.store.Use.{Use}
 use Rattle.sessions.specs.declared.command.Header.the-variants.{AcceptVersion, HeartBeat, Id, Receipt}

@@ -50,7 +50,7 @@ paired (p ∷ ps) (l ∷ ls) = record { place = p; label = l } ∷ paired ps ls
 abbrev pub pending : Deliveries → List Pending
 pending d = paired (take (d .count) (d .places)) (ids label-max (take (d .count * label-max) (d .labels)) (take (d .count) (d .lens)))
 
--- The layout of a view: labels, their lengths and the places one behind another, and 0 behind them.
+-- The layout of a view: labels, their lengths and the places one after another, and 0 after them.
 abbrev pub labels-of : List Pending → List (List ℕ)
 labels-of ps = map (λ (p : Pending). p .label) ps
 
@@ -141,7 +141,7 @@ record-label none l d = d
 record-label (some k) l d = cond (eqb (mode-of d k) auto-mode) d (with-pending d (pending d ++ (record { place = k; label = l } ∷ [])))
 
 -- ---- A valid record: 38 "at least for an unknown mode, more than 64 deliveries, bad or equal labels, and a delivery of no live
--- subscription or an auto one". A free place has mode auto, and all octets behind the outstanding deliveries are 0.
+-- subscription or an auto one". A free place has mode auto, and all octets after the pending deliveries are 0.
 abbrev pub known-modes : List ℕ → Bool
 known-modes ms = every (λ m. leb m individual-mode) ms
 

@@ -771,7 +771,12 @@ modes-asked =
     unknown-mode "client-" ∷
     unknown-mode "individual" ∷
     then-refused SUBSCRIBE (entry "destination" "/d" ∷ entry "id" "" ∷ entry "ack" "x" ∷ []) 44 ∷
-    record { start = server; events = connect ∷ subscribe-as "auto" "a" 2 ⇒ ok ∷ subscribe-as "x" "a" 3 ⇒ refused 45 ∷ []; left = having closed-phase 2 ("a" ∷ []) []; asked = [] } ∷
+    record {
+      start = server;
+      events = connect ∷ subscribe-as "auto" "a" 2 ⇒ ok ∷ subscribe-as "x" "a" 3 ⇒ refused 45 ∷ [];
+      left = having closed-phase 2 ("a" ∷ []) [];
+      asked = [];
+    } ∷
     []
 
 -- "In client mode ACK or NACK settles the named delivery and all earlier outstanding ones of that subscription; in client-individual
@@ -791,7 +796,9 @@ after-five events left = record { start = server; events = five-given ++ events;
 unfoldable pub settled-deliveries : List Life
 settled-deliveries =
     after-five []
-    (of-three 1 (delivery "a" client-mode "a1" ∷ delivery "b" client-mode "b1" ∷ delivery "a" client-mode "a2" ∷ delivery "c" individual-mode "c1" ∷ delivery "c" individual-mode "c2" ∷ [])
+    (of-three 1
+    (delivery "a" client-mode "a1" ∷ delivery "b" client-mode "b1" ∷ delivery "a" client-mode "a2" ∷ delivery "c" individual-mode "c1"
+    ∷ delivery "c" individual-mode "c2" ∷ [])
     (counted 5 0 0 0 5)) ∷
     after-five (ack "a2" 2 ⇒ ok ∷ [])
     (of-three 2 (delivery "b" client-mode "b1" ∷ delivery "c" individual-mode "c1" ∷ delivery "c" individual-mode "c2" ∷ []) (counted 5 2 0 0 3)) ∷
@@ -936,7 +943,9 @@ dropped-deliveries =
     record {
       start = server;
       events = five-given ++ (frame 0 [] 2 ⇒ refused 39 ∷ heart-beat 3 ⇒ ok ∷ ack "b1" 4 ⇒ ok ∷ []);
-      left = of-three 4 (delivery "a" client-mode "a1" ∷ delivery "a" client-mode "a2" ∷ delivery "c" individual-mode "c1" ∷ delivery "c" individual-mode "c2" ∷ []) (counted 5 1 0 0 4);
+      left = of-three 4
+          (delivery "a" client-mode "a1" ∷ delivery "a" client-mode "a2" ∷ delivery "c" individual-mode "c1" ∷ delivery "c" individual-mode "c2" ∷ [])
+          (counted 5 1 0 0 4);
       asked = [];
     } ∷
     []

@@ -6,7 +6,8 @@ use Prim.Native.Nat.{ℕ}
 use lib.Dec.{eqb}
 use Rattle.headers.specs.Rows.{octets-of, same}
 use Rattle.headers.specs.Block.{Entry, first-value}
-use Rattle.frames.specs.Grammar.{Command, number, ABORT, ACK, BEGIN, COMMIT, CONNECT, CONNECTED, ERROR, MESSAGE, NACK, RECEIPT, SEND, STOMP, SUBSCRIBE, UNSUBSCRIBE}
+use Rattle.frames.specs.Grammar.{Command, number, ABORT, ACK, BEGIN, COMMIT, CONNECT, CONNECTED, ERROR, MESSAGE, NACK, RECEIPT, SEND, STOMP, SUBSCRIBE}
+use Rattle.frames.specs.Grammar.{UNSUBSCRIBE}
 use Rattle.frames.specs.Encoding.{command-of}
 use Rattle.sessions.specs.Stores.{enters, wants-live}
 use Rattle.sessions.specs.Deliveries.{auto-mode, client-mode, individual-mode}

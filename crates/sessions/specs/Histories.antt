@@ -11,7 +11,8 @@ use Rattle.headers.specs.Block.{Entry, entries, listed}
 use Rattle.headers.specs.Answers.{Answer, accepted, refused}
 use Rattle.frames.specs.Grammar.{number, ACK, DISCONNECT, NACK, SUBSCRIBE, UNSUBSCRIBE}
 use Rattle.sessions.specs.Headers.{value-of, is, naming, mode-asked}
-use Rattle.sessions.specs.Calls.{frame-answer, frame-session, heart-beat-answer, heart-beat-session, named-id, deliver-answer, deliver-session, mode-or-auto}
+use Rattle.sessions.specs.Calls.{frame-answer, frame-session, heart-beat-answer, heart-beat-session, named-id, deliver-answer, deliver-session}
+use Rattle.sessions.specs.Calls.{mode-or-auto}
 use Rattle.sessions.specs.Accounts.{Event, subscribed, unsubscribed, delivered, acked, nacked, closed, nothing}
 use Rattle.sessions.specs.declared.command.Header.the-variants.{Id}
 use Rattle.sessions.specs.declared.store.Use.{Use}

@@ -14,9 +14,12 @@ use Rattle.sessions.specs.Stores.{used, use-checks, bad-length}
 use Rattle.sessions.specs.Deliveries.{deliveries-max, label-max, auto-mode, mode-of, is-pending, subscribe, unsubscribe, record-label}
 use Rattle.sessions.specs.Opening.{none-shared}
 use Rattle.sessions.specs.Headers.{is-some, from-server, opens, mode-asked, value-of}
-use Rattle.sessions.specs.Sessions.{subscriptions-max, transactions-max, id-max, fresh-phase, open-phase, closed-phase, ids-of, with-ids, with-stores, with-deliveries, closed, heard, is-valid}
+use Rattle.sessions.specs.Sessions.{subscriptions-max, transactions-max, id-max, fresh-phase, open-phase, closed-phase, ids-of, with-ids, with-stores}
+use Rattle.sessions.specs.Sessions.{with-deliveries, closed, heard, is-valid}
 use Rattle.sessions.specs.Answers.{acceptance-says, answer-says, delivery-says}
-use Rattle.sessions.specs.Calls.{left-by, shared-by, client-versions, client-heart-beats, opening, named-id, naming-effect, naming-checks, delivery-checks, delivery-effect, entry-checks, acceptance-of, effect, is-no-label, free-place, place-named, mode-or-auto, settle-named, recorded-by}
+use Rattle.sessions.specs.Calls.{left-by, shared-by, client-versions, client-heart-beats, opening, named-id, naming-effect, naming-checks}
+use Rattle.sessions.specs.Calls.{delivery-checks, delivery-effect, entry-checks, acceptance-of, effect, is-no-label, free-place, place-named}
+use Rattle.sessions.specs.Calls.{mode-or-auto, settle-named, recorded-by}
 use Rattle.sessions.specs.Places.{put-in}
 use Rattle.sessions.specs.declared.store.Use.{Use}
 use Rattle.sessions.specs.declared.command.Header.the-variants.{Id}
@@ -83,7 +86,8 @@ GivesNaming s n es acceptance time r = Gives (naming-checks s n es) acceptance s
 -- and the delivery that it names or the mode that it asks for: 49 and 60
 abbrev pub GivesDelivery : Session → ℕ → List Entry → Acceptance → ℕ → Outcome → Type 0
 GivesDelivery s n es acceptance time r =
-    Gives (naming-checks s n es ++ delivery-checks s n es) acceptance s (heard (with-deliveries (naming-effect s n (named-id n es)) (delivery-effect s n es)) time) r
+    Gives (naming-checks s n es ++ delivery-checks s n es) acceptance s
+    (heard (with-deliveries (naming-effect s n (named-id n es)) (delivery-effect s n es)) time) r
 
 -- all that depends on the entries: from 43 on
 abbrev pub GivesEntries : Session → ℕ → List Entry → ℕ → Outcome → Type 0

@@ -1,6 +1,7 @@
 // Which headers a command needs, what it does with an id, and in which phase it may come.
 ghost use mathlib.Core.Path.{_≡_};
-ghost use Rattle.sessions.specs.Headers.{unknown, from-server, opens as opens-by, settles as settles-by, one as one-header, needed as needed-names, names, naming-of, naming as naming-by, names-id};
+ghost use Rattle.sessions.specs.Headers.{unknown, from-server, opens as opens-by, settles as settles-by, one as one-header, needed as needed-names};
+ghost use Rattle.sessions.specs.Headers.{names, naming-of, naming as naming-by, names-id};
 ghost use Rattle.sessions.specs.Steps.{phase-number};
 use crate::commands;
 use crate::refusals;

@@ -9,7 +9,9 @@ ghost use Rattle.sessions.specs.Stores.{first-from};
 ghost use Rattle.sessions.specs.Places.{search-says};
 ghost use Rattle.sessions.specs.Compaction.{kept};
 ghost use Rattle.sessions.specs.Sessions.{subscriptions-max};
-ghost use Rattle.sessions.specs.Deliveries.{Pending, pending, labelled, places-of, with-pending, with-modes, unsubscribe, settle-label, no-deliveries, emptied, known-modes, some-lengths, idle-modes, acknowledging, valid-labels, valid-places, valid-deliveries, Laid};
+ghost use Rattle.sessions.specs.Deliveries.{Pending, pending, labelled, places-of, with-pending, with-modes, unsubscribe, settle-label, no-deliveries};
+ghost use Rattle.sessions.specs.Deliveries.{emptied, known-modes, some-lengths, idle-modes, acknowledging, valid-labels, valid-places};
+ghost use Rattle.sessions.specs.Deliveries.{valid-deliveries, Laid};
 ghost use Rattle.headers.specs.Rows.{every};
 use crate::compaction::Range;
 use crate::session::Session;
@@ -267,7 +269,7 @@ fn all_acknowledge(places: &[u8], lens: &[u8], modes: &[u8]) -> bool
     true
 }
 
-// Whether the first n places of labels hold labels, no two the same, and all behind them is 0.
+// Whether the first n places of labels hold labels, no two the same, and all after them is 0.
 fn are_valid_labels(labels: &[u8], lens: &[u8], n: usize) -> bool
     requires { ⌜ (length (now labels) ≡ 2048) × (length (now lens) ≡ 64) × (n ≤ 64) ⌝ }
     ensures { λ r. ⌜ r ≡ valid-labels n (now (labels .entry)) (now (lens .entry)) ⌝ }
@@ -285,7 +287,7 @@ fn are_valid_labels(labels: &[u8], lens: &[u8], n: usize) -> bool
     crate::store::is_zero(&lens[n..])
 }
 
-// Whether the first n deliveries are of subscriptions that acknowledge, and all behind them is 0.
+// Whether the first n deliveries are of subscriptions that acknowledge, and all after them is 0.
 fn are_valid_places(places: &[u8], n: usize, lens: &[u8], modes: &[u8]) -> bool
     requires { ⌜ (length (now places) ≡ 64) × (n ≤ 64) ⌝ }
     ensures { λ r. ⌜ r ≡ valid-places n (now (places .entry)) (now (lens .entry)) (now (modes .entry)) ⌝ }

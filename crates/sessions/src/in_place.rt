@@ -1,7 +1,8 @@
 // The calls of a session on one where it lies: each calls the one by value and stores the session that it gives.
 ghost use mathlib.Core.Path.{_≡_};
 ghost use Rattle.sessions.specs.Answers.{answer-says, timed-out-says, delivery-says};
-ghost use Rattle.sessions.specs.Calls.{frame-answer, frame-session, heart-beat-answer, heart-beat-session, timed-out-answer, deliver-answer, deliver-session};
+ghost use Rattle.sessions.specs.Calls.{frame-answer, frame-session, heart-beat-answer, heart-beat-session, timed-out-answer, deliver-answer};
+ghost use Rattle.sessions.specs.Calls.{deliver-session};
 use crate::session::DeliveryAnswer;
 use crate::session::Session;
 use crate::session::SessionAnswer;

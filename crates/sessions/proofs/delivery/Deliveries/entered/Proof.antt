@@ -1,4 +1,4 @@
--- `delivery::Deliveries::entered` meets its contract: the label behind the others.
+-- `delivery::Deliveries::entered` meets its contract: the label after the others.
 use borrow.Author.Needs.{needs}
 use mathlib.Core.Path.{_≡_}
 use native.Mathlib.Omega.{arith}
