@@ -53,7 +53,7 @@ among l ls = any (λ x. same x l) ls
 abbrev pub settled-with : Delivery → List ℕ → Bool
 settled-with d x = eqb (d .mode) client-mode && same x (d .subscription)
 
--- The fate of an pending delivery by the events that follow; ls are the labels whose ACK or NACK settles it: its own and those of
+-- The fate of a pending delivery by the events that follow; ls are the labels whose ACK or NACK settles it: its own and those of
 -- later ones that it is settled with. "dropped at UNSUBSCRIBE or close"
 unfoldable pub fate : Delivery → List (List ℕ) → List Event → Fate
 fate d ls [] = still-pending

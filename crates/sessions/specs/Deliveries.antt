@@ -36,7 +36,7 @@ client-mode = 1
 abbrev pub individual-mode : ℕ
 individual-mode = 2
 
--- an pending delivery: the place of its subscription, and its label
+-- a pending delivery: the place of its subscription, and its label
 pub record Pending : Type 0 where
   pub place : ℕ
   pub label : List ℕ
