@@ -3,6 +3,7 @@
 --     one                     what parsing told: the octets are one frame
 --     call-again, again-is    the call with what parse and decode gave is the call of the frame's tree
 --     again-refused           it is refused only with 52 or 56
+--     again-refused-default   without the mark only with 56
 --     front-is                the first octets of the target, as many as encode answered, are the image
 --     front-parsed            parsing them is Complete, with the numbers of the call
 --     front-decoded           decoding them gives the block's entries and the added one, and nothing else
@@ -26,7 +27,7 @@ use Rattle.frames.specs.Decoding.{decode-answer, too-long, head-entries,
 use Rattle.frames.specs.Encoding.{Call, adds-length, written-entries, written-lines, encode-answer, encode-image}
 use Rattle.frames.proofs.Exact.{exact}
 use Rattle.frames.proofs.Readings.{OneFrame, one-frame}
-use Rattle.frames.proofs.Rewriting.{call-of, rewrite-refused-only}
+use Rattle.frames.proofs.Rewriting.{call-of, rewrite-refused-only, rewrite-refused-default}
 use Rattle.frames.proofs.Images.{Encoded, encoded-call}
 use Rattle.frames.proofs.RoundTrips.{Gives, decoded-reading, parsed-image, decoded-image}
 use Rattle.frames.proofs.Unique.{body-back}
@@ -42,29 +43,34 @@ decode-length room m es e = by (ltb room (length (image es))) (any too-long es) 
     by false false e = cc
 
 module _ (ver : Version) {xs before after : List ℕ} {c n s l m : ℕ} (o : every is-octet xs ≡ true) (p : parsed ver xs ≡ Complete 2 (length xs) c n s l) (d : Decodes ver xs before (accepted (m ∷ [])) after) where
-  -- the call with what parse and decode gave
-  abbrev pub call-again : Call
-  call-again = record { command = c; block = take m after; body = take l (drop s xs) }
+  -- the call with what parse and decode gave, with the mark or without
+  abbrev pub call-again : Bool → Call
+  call-again counted = record { command = c; block = take m after; body = take l (drop s xs); counted = counted }
 
   -- what parsing told: the octets are one frame
   pub one : OneFrame ver xs c n s l
   one = one-frame ver (exact ver xs o) p (λ e. let z : _≡_ {A = ℕ} 2 1 = e in omega arith) refl
 
   -- it is the call of the frame's tree: its command, its decoded entries, its body
-  pub again-is : call-again ≡ call-of ver (one .h) (one .b)
-  again-is =
+  pub again-is : (counted : Bool) → call-again counted ≡ call-of ver (one .h) (one .b) counted
+  again-is counted =
       let es = head-entries ver (one .h) in
       let (a, w) = decoded-reading ver (one .h) (one .e) (one .b) (one .valid, one .whole) d in
       let long : m ≡ length (image es) = decode-length (length before) m es (sym a) in
       let block : take m after ≡ image es = ap₂ take long (w ∙ ap (λ z. left-in z (image es) before) (sym a)) ∙ take-append-seam (image es) _ in
       let body : take l (drop s xs) ≡ one .b =
       ap₂ (λ i j. take i (drop j xs)) (one .body-long) (one .body-at) ∙ ap (λ z. take (length (one .b)) (drop (length (head (one .h) ++ end (one .e))) z)) (sym (append-nil _ ∙ one .whole)) ∙ body-back ver (one .h) (one .e) (one .b) [] in
-      λ i. record { command = one .command-is i; block = block i; body = body i }
+      λ i. record { command = one .command-is i; block = block i; body = body i; counted = counted }
 
   -- it is refused only with 52 or 56
-  pub again-refused : (room k : ℕ) → encode-answer ver call-again room ≡ refused k
-      → ((k ≡ 52) × (length (one .h .entries) ≡ lines-max) × (adds-length (head-entries ver (one .h)) (one .b) ≡ true)) ⊎ ((k ≡ 56) × (room < length (encode-image ver (call-of ver (one .h) (one .b)))))
-  again-refused room k r = rewrite-refused-only ver (one .h) (one .e) (one .b) (one .valid) room k (ap (λ z. encode-answer ver z room) (sym again-is) ∙ r)
+  pub again-refused : (counted : Bool) (room k : ℕ) → encode-answer ver (call-again counted) room ≡ refused k
+      → ((k ≡ 52) × (length (one .h .entries) ≡ lines-max) × (adds-length (head-entries ver (one .h)) (one .b) counted ≡ true))
+      ⊎ ((k ≡ 56) × (room < length (encode-image ver (call-of ver (one .h) (one .b) counted))))
+  again-refused counted room k r = rewrite-refused-only ver (one .h) (one .e) (one .b) (one .valid) counted room k (ap (λ z. encode-answer ver z room) (sym (again-is counted)) ∙ r)
+
+  -- without the mark only with 56
+  pub again-refused-default : (room k : ℕ) → encode-answer ver (call-again false) room ≡ refused k → (k ≡ 56) × (room < length (encode-image ver (call-of ver (one .h) (one .b) false)))
+  again-refused-default room k r = rewrite-refused-default ver (one .h) (one .e) (one .b) (one .valid) room k (ap (λ z. encode-answer ver z room) (sym (again-is false)) ∙ r)
 
 module _ (ver : Version) (k : Call) (before after : List ℕ) (n : ℕ) (a : encode-answer ver k (length before) ≡ accepted (n ∷ [])) (w : after ≡ left-in (encode-answer ver k (length before)) (encode-image ver k) before) where
   -- the command and the entries of the call
@@ -79,15 +85,15 @@ module _ (ver : Version) (k : Call) (before after : List ℕ) (n : ℕ) (a : enc
 
   module _ (o : every is-octet (k .block) ≡ true) (p : every is-octet (k .body) ≡ true) where
     pub front-parsed : parsed ver (take n after)
-        ≡ Complete 2 n (number (call .command)) (length (written-entries (call .all-entries) (k .body)))
-        (length (word (call .command)) + length (written-lines (style ver (call .command)) (written-entries (call .all-entries) (k .body))) + 2) (length (k .body))
+        ≡ Complete 2 n (number (call .command)) (length (written-entries (call .all-entries) (k .body) (k .counted)))
+        (length (word (call .command)) + length (written-lines (style ver (call .command)) (written-entries (call .all-entries) (k .body) (k .counted))) + 2) (length (k .body))
     front-parsed =
         let c = call .command in
-        let es = written-entries (call .all-entries) (k .body) in
+        let es = written-entries (call .all-entries) (k .body) (k .counted) in
         ap (parsed ver) front-is ∙ parsed-image ver k (length before) (n ∷ []) a o p
         ∙ ap (λ z. Complete 2 z (number c) (length es) (length (word c) + length (written-lines (style ver c) es) + 2) (length (k .body))) (sym long)
 
     pub front-decoded : {block left : List ℕ} {answer : Answer} → Decodes ver (take n after) block answer left
-        → Gives ver (written-entries (call .all-entries) (k .body)) block answer left
+        → Gives ver (written-entries (call .all-entries) (k .body) (k .counted)) block answer left
     front-decoded {block} {left} {answer} d =
         decoded-image ver k (length before) (n ∷ []) a o p (subst (λ z. Decodes ver z block answer left) front-is d)

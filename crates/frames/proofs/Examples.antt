@@ -46,7 +46,7 @@ reads xs o = by (run (step v1-2) start xs) (exact-run v1-2 xs)
 -- a row, by what is computed of the run's tree
 holds : {e : Example} → every is-octet (e .input) ≡ true → parsed v1-2 (e .input) ≡ e .reply
     → Given (e .block) (DecodesTo (tree-entries v1-2 (tree-of (e .input))))
-    → Given (e .image) (EncodesAgain (e .input) (e .reply) (decoded-records (tree-entries v1-2 (tree-of (e .input)))))
+    → All (EncodesAgain (e .input) (e .reply) (decoded-records (tree-entries v1-2 (tree-of (e .input))))) (e .images)
     → Given (e .looked-up) (Finds (decoded-records (tree-entries v1-2 (tree-of (e .input)))))
     → Holds e
 holds {e} o p d i f = record { parses = p; exactly = subst (Exact v1-2 (e .input)) p (exact v1-2 (e .input) o); tree = tree-of (e .input); reading = reads (e .input) o; decodes = d; encodes = i; finds = f }
@@ -70,7 +70,7 @@ examples-hold =
     also holds refl refl tt tt tt
     also holds refl refl tt tt tt
     also holds refl refl tt tt tt
-    also holds refl refl (refl, refl) (refl, refl) tt
+    also holds refl refl (refl, refl) ((refl, refl), ((refl, refl), tt)) tt
     also holds refl refl tt tt (_, _, refl, refl)
     also holds refl refl tt tt tt
     also holds refl refl tt tt tt

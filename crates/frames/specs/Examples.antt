@@ -2,12 +2,13 @@
 -- hold is proofs/Examples.antt.
 -- Assumes nothing.
 use mathlib.Core.Path.{_≡_}
+use mathlib.Core.Bool.{Bool, true, false}
 use mathlib.Core.Option.{Option, none, some}
 use mathlib.Core.List.{List, [], _∷_}
 use Prim.Native.Nat.{ℕ}
 use Prim.Native.String.{String}
 use lib.ListN.{take, drop}
-use Rattle.headers.specs.Rows.{octets-of}
+use Rattle.headers.specs.Rows.{All, octets-of}
 use Rattle.headers.specs.Block.{Entry}
 use Rattle.headers.specs.Answers.{accepted, find-answer}
 use Rattle.frames.specs.Grammar.{Tree, v1-2}
@@ -18,22 +19,23 @@ use Rattle.frames.specs.Decoding.{decode-answer, decoded-records, tree-e
 use Rattle.frames.specs.Encoding.{Call, encode-answer, encode-image}
 
 -- An example: its label, octets, and what parsing them replies. Where the documents say it, also the header block that
--- they decode to and its length; the image that the frame is encoded to again and its length; a header's name and its value in the block.
+-- they decode to and its length; the images that the frame is encoded to again, without the mark of C-16 (false) or with it (true), and
+-- their lengths; a header's name and its value in the block.
 pub record Example : Type 0 where
   pub label : String
   pub input : List ℕ
   pub reply : Reply
   pub block : Option (ℕ × List ℕ)
-  pub image : Option (ℕ × List ℕ)
+  pub images : List (Bool × ℕ × List ℕ)
   pub looked-up : Option (List ℕ × List ℕ)
 
 -- an example of parsing alone; with a header's value too
 abbrev parses : String → List ℕ → Reply → Example
-parses label input reply = record { label = label; input = input; reply = reply; block = none; image = none; looked-up = none }
+parses label input reply = record { label = label; input = input; reply = reply; block = none; images = []; looked-up = none }
 
 abbrev finding : String → String → Example → Example
 finding name value e =
-    record { label = e .label; input = e .input; reply = e .reply; block = e .block; image = e .image; looked-up = some (octets-of name, octets-of value) }
+    record { label = e .label; input = e .input; reply = e .reply; block = e .block; images = e .images; looked-up = some (octets-of name, octets-of value) }
 
 unfoldable pub examples : List Example
 examples =
@@ -47,7 +49,10 @@ examples =
       input = octets-of "SEND\ndestination:/p\n\nok\0";
       reply = Complete 2 24 12 1 21 2;
       block = some (19, 72 ∷ 68 ∷ 0 ∷ 11 ∷ 0 ∷ 2 ∷ octets-of "destination/p");
-      image = some (41, octets-of "SEND\ndestination:/p\ncontent-length:2\n\nok\0");
+      images =
+          (false, 24, octets-of "SEND\ndestination:/p\n\nok\0") ∷
+          (true, 41, octets-of "SEND\ndestination:/p\ncontent-length:2\n\nok\0") ∷
+          [];
       looked-up = none;
     } ∷
     finding "id" "a:b" (parses "P7" (octets-of "ACK\nid:a\\cb\n\n\0") (Complete 2 14 2 1 13 0)) ∷
@@ -88,12 +93,12 @@ DecodesTo es (n, xs) = (decode-answer n es ≡ accepted (n ∷ [])) × (decoded-
 abbrev pub EncodesTo : Call → ℕ × List ℕ → Type 0
 EncodesTo k (n, xs) = (encode-answer v1-2 k n ≡ accepted (n ∷ [])) × (encode-image v1-2 k ≡ xs)
 
--- the same of the call with the reply's command, the block, and the body that the reply's numbers cut from the input
-abbrev pub EncodesAgain : List ℕ → Reply → List ℕ → ℕ × List ℕ → Type 0
-EncodesAgain input (Complete kind used command headers start len) block to =
-    EncodesTo (record { command = command; block = block; body = take len (drop start input) }) to
-EncodesAgain input Incomplete block to = ⊥
-EncodesAgain input (Invalid number offset) block to = ⊥
+-- the same of the call with the reply's command, the block, the body that the reply's numbers cut from the input, and the mark
+abbrev pub EncodesAgain : List ℕ → Reply → List ℕ → Bool × ℕ × List ℕ → Type 0
+EncodesAgain input (Complete kind used command headers start len) block (counted, n, xs) =
+    EncodesTo (record { command = command; block = block; body = take len (drop start input); counted = counted }) (n, xs)
+EncodesAgain input Incomplete block (counted, n, xs) = ⊥
+EncodesAgain input (Invalid number offset) block (counted, n, xs) = ⊥
 
 -- looking the name up in the block gives the start and length of the value there
 abbrev pub Finds : List ℕ → List ℕ × List ℕ → Type 0
@@ -108,5 +113,5 @@ pub record Holds (e : Example) : Type 0 where
   pub tree : Option Tree
   pub reading : Reading v1-2 (e .input) tree
   pub decodes : Given (e .block) (DecodesTo (tree-entries v1-2 tree))
-  pub encodes : Given (e .image) (EncodesAgain (e .input) (e .reply) (decoded-records (tree-entries v1-2 tree)))
+  pub encodes : All (EncodesAgain (e .input) (e .reply) (decoded-records (tree-entries v1-2 tree))) (e .images)
   pub finds : Given (e .looked-up) (Finds (decoded-records (tree-entries v1-2 tree)))

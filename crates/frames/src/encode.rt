@@ -1,17 +1,17 @@
 // Encoding: the octets of a frame, from a command, a header block and a body.
 ghost use mathlib.Core.Path.{_≡_};
-ghost use mathlib.Core.Bool.{true, _&&_, not};
+ghost use mathlib.Core.Bool.{true, _&&_, _||_, not};
 ghost use Prim.Native.Nat.{_+_, _*_, _≤_, _<_};
 ghost use lib.Dec.{eqb};
-ghost use lib.ListN.{length};
+ghost use Rattle.headers.specs.Rows.{empty, any};
 ghost use Rattle.headers.specs.Numbers.{decimal, is-amount};
 ghost use Rattle.headers.specs.Block.{entries, listed};
 ghost use Rattle.headers.specs.Stretches.{unescaped};
-ghost use Rattle.headers.specs.Answers.{is-block, left-in};
+ghost use Rattle.headers.specs.Answers.{is-block};
 ghost use Rattle.frames.specs.Grammar.{v1-2};
-ghost use Rattle.frames.specs.Encoding.{written-lines, encode-answer, encode-image, encode-index, indexed};
+ghost use Rattle.frames.specs.Encoding.{written-lines, Encodes};
 ghost use Rattle.frames.specs.Scanning.{style-of};
-ghost use Rattle.frames.specs.Writing.{Told, Sums, lengths-of};
+ghost use Rattle.frames.specs.Writing.{Told, Sums, Settles, lengths-of};
 ghost use Rattle.frames.specs.Answers.{encoded-says};
 use headers::DecimalRead;
 use headers::DecimalWritten;
@@ -125,11 +125,18 @@ fn sum(block: &[u8], style: Style) -> Totals
     Totals { count, good, total }
 }
 
-// Whether a length line is added: the body is not empty and no entry has the name.
-fn adds_length(declared: Declared, body: usize) -> bool
-    ensures { λ r. ⌜ r ≡ not (eqb body 0) && not (declared .present) ⌝ }
+// Whether a length line is added: no entry has the name, and the body holds octet 0 or, where the line is asked for, is not empty. The
+// body is looked through only where that decides.
+fn adds_length(declared: Declared, body: &[u8], counted: bool) -> bool
+    ensures { λ r. ⌜ r ≡ not (declared .present) && (any (eqb 0) (now (body .entry)) || (counted && not (empty (now (body .entry))))) ⌝ }
 {
-    (body != 0) & !declared.present
+    if declared.present {
+        return false;
+    }
+    if counted {
+        return body.len() != 0;
+    }
+    crate::ahead::body_span(body) < body.len()
 }
 
 // Whether a value is digits that say n.
@@ -166,12 +173,17 @@ fn is_plain(sums: Totals, block: usize) -> bool
 }
 
 // The answer: every refusal in its order, or the image's length; and how the lines are to be written.
-fn settle(command: u32, block: &[u8], declared: Declared, body: &[u8], room: usize) -> Settled
+fn settle(
+    command: u32,
+    block: &[u8],
+    declared: Declared,
+    adds: bool,
+    body: &[u8],
+    room: usize,
+) -> Settled
     requires { ⌜ Told (now block) declared ⌝ }
     ensures { λ r. ⌜
-        (encoded-says (r .answer) ≡ indexed
-        (encode-answer v1-2 (record { command = command; block = now (block .entry); body = now (body .entry) }) room)
-        (encode-index v1-2 (record { command = command; block = now (block .entry); body = now (body .entry) })))
+        Settles command (now (block .entry)) (now (body .entry)) adds room (encoded-says (r .answer))
         × (r .plain ≡ true
         → written-lines (style-of command) (listed (entries (now (block .entry)))) ≡ written-lines unescaped (listed (entries (now (block .entry)))))
         ⌝ }
@@ -189,7 +201,6 @@ fn settle(command: u32, block: &[u8], declared: Declared, body: &[u8], room: usi
         };
     }
     let s = sum(block, crate::word::style_of(command));
-    let adds = adds_length(declared, body.len());
     let lines = if adds { s.count + 1 } else { s.count };
     if crate::limits::LINES < lines {
         return Settled {
@@ -232,30 +243,19 @@ fn settle(command: u32, block: &[u8], declared: Declared, body: &[u8], room: usi
     }
 }
 
-// The octets of a frame at the front of the target. Every refusal is settled before the first octet is written.
-pub fn encode(command: u32, block: &[u8], body: &[u8], target: &mut [u8]) -> Encoded
-    ensures { λ r. ⌜
-        (encoded-says r ≡ indexed
-        (encode-answer v1-2 (record { command = command; block = now (block .entry); body = now (body .entry) }) (length (now (target .entry))))
-        (encode-index v1-2 (record { command = command; block = now (block .entry); body = now (body .entry) })))
-        × (now (target .exit) ≡ left-in
-        (encode-answer v1-2 (record { command = command; block = now (block .entry); body = now (body .entry) }) (length (now (target .entry))))
-        (encode-image v1-2 (record { command = command; block = now (block .entry); body = now (body .entry) }))
-        (now (target .entry)))
-        ⌝ }
+// The octets of a frame at the front of the target; counted asks for a length line, which is added without it only where the body holds
+// octet 0. Every refusal is settled before the first octet is written.
+pub fn encode(command: u32, block: &[u8], body: &[u8], target: &mut [u8], counted: bool) -> Encoded
+    ensures { λ r. ⌜ Encodes v1-2
+        (record { command = command; block = now (block .entry); body = now (body .entry); counted = counted })
+        (now (target .entry)) (encoded-says r) (now (target .exit)) ⌝ }
 {
     let declared = declared_length(block);
-    let settled = settle(command, block, declared, body, target.len());
+    let adds = adds_length(declared, body, counted);
+    let settled = settle(command, block, declared, adds, body, target.len());
     let answer = settled.answer;
     if let Encoded::Length(n) = answer {
-        crate::put::put_frame(
-            target,
-            command,
-            block,
-            adds_length(declared, body.len()),
-            body,
-            settled.plain,
-        );
+        crate::put::put_frame(target, command, block, adds, body, settled.plain);
     }
     answer
 }

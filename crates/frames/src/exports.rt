@@ -1,14 +1,14 @@
 // Calls for C: numbers and byte slices, and an answer in one number.
 ghost use mathlib.Core.Path.{_≡_};
+ghost use mathlib.Core.Bool.{false};
 ghost use Prim.Native.Nat.{_<_};
 ghost use Rattle.frames.specs.Grammar.{v1-2};
 ghost use Rattle.frames.specs.Parsing.{parsed};
 ghost use Rattle.frames.specs.Exactness.{Exact};
-ghost use lib.ListN.{length};
-ghost use Rattle.headers.specs.Answers.{find-answer, left-in};
-ghost use Rattle.frames.specs.Answers.{parsed-says, packed, unpacked, SmallFrame, packed-decode, unpacked-decode, packed-encode, unpacked-encode, packed-find, unpacked-find};
+ghost use Rattle.headers.specs.Answers.{find-answer};
+ghost use Rattle.frames.specs.Answers.{parsed-says, packed, unpacked, SmallFrame, packed-decode, unpacked-decode, packed-encode, unpacked-encode, is-counted, packed-find, unpacked-find};
 ghost use Rattle.frames.specs.Decoding.{Decodes};
-ghost use Rattle.frames.specs.Encoding.{encode-answer, encode-image, encode-index, indexed};
+ghost use Rattle.frames.specs.Encoding.{Encodes};
 use crate::decode::Decoded;
 use crate::encode::Encoded;
 use crate::parse::Item;
@@ -18,6 +18,9 @@ use headers::Found;
 
 // A refusal of decode or encode is this many times its number: no length is as large.
 const REFUSED: u64 = 65536;
+
+// The option of stomp_encode_with that asks for a length line.
+pub const COUNTED: u32 = 1;
 
 // An item in one number.
 fn pack_item(i: Item) -> u64
@@ -87,21 +90,24 @@ pub extern "C" fn stomp_decode(frame: &[u8], block: &mut [u8]) -> u64
     }
 }
 
-// What encode answers, in one number; it reads back, and the target is as encode leaves it.
+// What encode answers, in one number; it reads back, and the target is as encode leaves it. The lowest bit of the options asks for a
+// length line; the others are not looked at.
 #[no_mangle]
-pub extern "C" fn stomp_encode(command: u32, block: &[u8], body: &[u8], target: &mut [u8]) -> u64
+pub extern "C" fn stomp_encode_with(
+    options: u32,
+    command: u32,
+    block: &[u8],
+    body: &[u8],
+    target: &mut [u8],
+) -> u64
     ensures { λ r. ⌜
-        (unpacked-encode r ≡ indexed
-        (encode-answer v1-2 (record { command = command; block = now (block .entry); body = now (body .entry) }) (length (now (target .entry))))
-        (encode-index v1-2 (record { command = command; block = now (block .entry); body = now (body .entry) })))
+        Encodes v1-2
+        (record { command = command; block = now (block .entry); body = now (body .entry); counted = is-counted options })
+        (now (target .entry)) (unpacked-encode r) (now (target .exit))
         × (r ≡ packed-encode (unpacked-encode r))
-        × (now (target .exit) ≡ left-in
-        (encode-answer v1-2 (record { command = command; block = now (block .entry); body = now (body .entry) }) (length (now (target .entry))))
-        (encode-image v1-2 (record { command = command; block = now (block .entry); body = now (body .entry) }))
-        (now (target .entry)))
         ⌝ }
 {
-    match crate::encode::encode(command, block, body, target) {
+    match crate::encode::encode(command, block, body, target, options % 2 == COUNTED) {
         Encoded::Length(n) => n as u64,
         Encoded::UnknownCommand => REFUSED * Encoded::UNKNOWN_COMMAND,
         Encoded::Malformed => REFUSED * Encoded::MALFORMED,
@@ -111,4 +117,16 @@ pub extern "C" fn stomp_encode(command: u32, block: &[u8], body: &[u8], target: 
         Encoded::WrongLength => REFUSED * Encoded::WRONG_LENGTH,
         Encoded::TooShort => REFUSED * Encoded::TOO_SHORT,
     }
+}
+
+// The same where nothing is asked for.
+#[no_mangle]
+pub extern "C" fn stomp_encode(command: u32, block: &[u8], body: &[u8], target: &mut [u8]) -> u64
+    ensures { λ r. ⌜
+        Encodes v1-2 (record { command = command; block = now (block .entry); body = now (body .entry); counted = false })
+        (now (target .entry)) (unpacked-encode r) (now (target .exit))
+        × (r ≡ packed-encode (unpacked-encode r))
+        ⌝ }
+{
+    stomp_encode_with(0, command, block, body, target)
 }

@@ -16,25 +16,25 @@ use Rattle.headers.specs.Lines.{can-write}
 use Rattle.headers.specs.Answers.{Answer, accepted, refused, is-block}
 use Rattle.headers.proofs.Rows.{or-false-right}
 use Rattle.frames.specs.Scanning.{style-of, most-of}
-use Rattle.frames.specs.Encoding.{Call, first-length, first-unwritable, says-length, image-length, refusal, indexed}
+use Rattle.frames.specs.Encoding.{Call, first-length, adds-length, first-unwritable, says-length, image-length, refusal, indexed}
 use Rattle.frames.specs.Writing.{value-at, Sums, lengths-of}
 use Rattle.frames.specs.declared.encode.Totals.{Totals}
 use Rattle.frames.proofs.Validity.{most-small}
-use Rattle.frames.proofs.Writing.{entries-listed, entries-not, adds-told, says-told, total-of}
+use Rattle.frames.proofs.Writing.{entries-listed, entries-not, says-told, total-of}
 use Rattle.frames.proofs.Sums.{sums-many, sums-few, sums-unwritable, sums-writable, sums-plain}
 use Rattle.frames.proofs.Settled.{unknown-command, known-command, settle-of, says-of, no-command, no-block, settles, refuses-52, refuses-53, refuses-54, refuses-55, refuses-56, accepts}
 use Rattle.frames.proofs.encode.settle.Statement.{statement}
 use Rattle.frames.proofs.encode.settle.Tie as tie
 
-abbrev call-of : tie.Start → Call
-call-of c = record { command = c .args .command; block = c .args .block .now; body = c .args .body .now }
+abbrev call-of : tie.Start → Bool → Call
+call-of c counted = record { command = c .args .command; block = c .args .block .now; body = c .args .body .now; counted = counted }
 
 -- ## The command and the block
 
 returns : tie.Need-returns
 returns c =
     let b = c .before .before .before in (
-      sym (no-command (call-of b) (b .args .room) (unknown-command (b .args .command) (c .if1 .taken))),
+      λ counted added. sym (no-command (call-of b counted) (b .args .room) (unknown-command (b .args .command) (c .if1 .taken))),
       λ h. absurd (let z : _≡_ {A = ℕ} 0 1 = cc in omega arith),
     )
 
@@ -42,7 +42,7 @@ returns-2 : tie.Need-returns-2
 returns-2 c =
     let b = c .before .before .before .before .before in
     let (d, n, q) = known-command (b .args .command) (c .before .before .if1 .left) in (
-      sym (no-block (call-of b) (b .args .room) d q (entries-not (b .args .block .now) (sym (b .pre .validity) ∙ not-true (b .args .declared .valid) (c .if2 .taken)))),
+      λ counted added. sym (no-block (call-of b counted) (b .args .room) d q (entries-not (b .args .block .now) (sym (b .pre .validity) ∙ not-true (b .args .declared .valid) (c .if2 .taken)))),
       λ h. absurd (let z : _≡_ {A = ℕ} 0 1 = cc in omega arith),
     )
 
@@ -64,39 +64,38 @@ sum-requires c κs = block-is (c .before)
 
 -- ## The sums, and whether a line is added
 
-adds-length-requires : tie.Need-adds-length-requires
-adds-length-requires c κs = search needs
+abbrev at : tie.After-sum → tie.Else2
+at c = c .before .before
 
-abbrev at : tie.After-adds-length → tie.Else2
-at c = c .before .before .before
+abbrev adds : tie.After-sum → Bool
+adds c = start (at c) .args .adds
 
-abbrev adds : tie.After-adds-length → Bool
-adds c = c .adds-length .result
+abbrev totals : tie.After-sum → Totals
+totals c = c .sum .result
 
-abbrev totals : tie.After-adds-length → Totals
-totals c = c .before .sum .result
-
-sums : (c : tie.After-adds-length) → Sums (style-of (start (at c) .args .command)) (entries-at (at c)) (totals c)
-sums c = subst (λ s. Sums s (entries-at (at c)) (totals c)) (c .before .before .style-of .ensures) (c .before .sum .ensures)
+sums : (c : tie.After-sum) → Sums (style-of (start (at c) .args .command)) (entries-at (at c)) (totals c)
+sums c = subst (λ s. Sums s (entries-at (at c)) (totals c)) (c .before .style-of .ensures) (c .sum .ensures)
 
 add-lines : tie.Need-add-lines
 add-lines c = omega (arith, sums (c .before .before) .few)
 
 -- the answer, from what the checks settle on
-abbrev settled : tie.After-adds-length → Answer
+abbrev settled : tie.After-sum → Answer
 settled c = settle-of (start (at c) .args .command) (entries-at (at c)) (adds c) (start (at c) .args .body .now) (start (at c) .args .room)
 
-answered : (c : tie.After-adds-length) (r : Answer) → settled c ≡ r
-    → indexed r (first-unwritable (style-of (start (at c) .args .command)) (entries-at (at c))) ≡ says-of (call-of (start (at c))) (start (at c) .args .room)
-answered c r e =
+abbrev Added : tie.After-sum → Bool → Type 0
+Added c counted = let b = start (at c) in is-block (b .args .block .now) ≡ true → adds c ≡ adds-length (entries-at (at c)) (b .args .body .now) counted
+
+answered : (c : tie.After-sum) (r : Answer) → settled c ≡ r → (counted : Bool) → Added c counted
+    → indexed r (first-unwritable (style-of (start (at c) .args .command)) (entries-at (at c))) ≡ says-of (call-of (start (at c)) counted) (start (at c) .args .room)
+answered c r e counted added =
     let b = start (at c) in
     let es = entries-at (at c) in
     let (d, n, q) = known-command (b .args .command) (at c .before .before .if1 .left) in
-    let added = c .adds-length .ensures ∙ adds-told (b .args .block .now) (b .args .declared) (b .pre) (block-is (at c)) (b .args .body .now) in
     let i = first-unwritable (style-of (b .args .command)) es in
     sym
-    (settles (call-of b) (b .args .room) d q es n (entries-listed (b .args .block .now) (block-is (at c)))
-    ∙ ap (λ t. indexed (settle-of (b .args .command) es t (b .args .body .now) (b .args .room)) i) (sym added)
+    (settles (call-of b counted) (b .args .room) d q es n (entries-listed (b .args .block .now) (block-is (at c)))
+    ∙ ap (λ t. indexed (settle-of (b .args .command) es t (b .args .body .now) (b .args .room)) i) (sym (added (block-is (at c))))
     ∙ ap (λ a. indexed a i) e)
 
 -- ## The lines
@@ -116,7 +115,7 @@ returns-3 c =
     )
 
 -- they are few
-abbrev at-4 : tie.Else4 → tie.After-adds-length
+abbrev at-4 : tie.Else4 → tie.After-sum
 at-4 c = c .before .before
 
 few-at : (c : tie.Else4) → length (entries-at (at (at-4 c))) + cond (adds (at-4 c)) 1 0 ≤ 32
@@ -128,8 +127,8 @@ all-few c = omega (arith, few-at c)
 returns-4 : tie.Need-returns-4
 returns-4 c =
     let e = c .before .before in (
-      ap (refusal 53) (sums (at-4 e) .writable (all-few e))
-          ∙ answered (at-4 e) (refused 53) (refuses-53 _ _ _ _ _ (few-at e) (sums-unwritable _ _ _ (sums (at-4 e)) (all-few e) (c .if5 .taken))),
+      λ counted added. ap (refusal 53) (sums (at-4 e) .writable (all-few e))
+          ∙ answered (at-4 e) (refused 53) (refuses-53 _ _ _ _ _ (few-at e) (sums-unwritable _ _ _ (sums (at-4 e)) (all-few e) (c .if5 .taken))) counted added,
       λ h. absurd (let z : _≡_ {A = ℕ} 0 1 = cc in omega arith),
     )
 
@@ -156,7 +155,7 @@ returns-5 c =
 abbrev at-6 : tie.Else6 → tie.Else5
 at-6 c = c .before .before
 
-abbrev from-6 : tie.Else6 → tie.After-adds-length
+abbrev from-6 : tie.Else6 → tie.After-sum
 from-6 c = at-4 (at-5 (at-6 c))
 
 abbrev body-at : tie.Else6 → List ℕ
@@ -235,9 +234,9 @@ returns-8 : tie.Need-returns-8
 returns-8 c =
     let e = c .before .before .before .before in
     let a = from-6 e in (
-      ap image-length (long-at (c .before .before))
+      λ counted added. ap image-length (long-at (c .before .before))
           ∙ answered a (accepted (image-at e ∷ []))
-          (accepts _ _ _ _ _ (few-at (at-5 (at-6 e))) (each-at (at-6 e)) (fits-at e) (says-at (c .before .before .before)) (omega (arith, long-at (c .before .before), c .before .if9 .left))),
+          (accepts _ _ _ _ _ (few-at (at-5 (at-6 e))) (each-at (at-6 e)) (fits-at e) (says-at (c .before .before .before)) (omega (arith, long-at (c .before .before), c .before .if9 .left))) counted added,
       λ h. sums-plain _ _ _ (sums a) (all-few (at-5 (at-6 e))) (start (at a) .args .block .now) (block-is (at a)) refl (at-6 e .if5 .left) (sym (c .is-plain .ensures) ∙ h),
     )
 
@@ -249,7 +248,6 @@ settle-spec =
     returns-2
     style-of-requires
     sum-requires
-    adds-length-requires
     add-lines
     returns-3
     returns-4

@@ -1,27 +1,27 @@
--- `exports::stomp_encode` meets its contract: each answer packed, and read back.
+-- `exports::stomp_encode_with` meets its contract: each answer packed, and read back.
 use Prim.Native.Nat.{ℕ, _<_}
 use native.Mathlib.Omega.{arith}
 use lib.ListN.{length}
 use mathlib.Core.Path.{_≡_, refl, sym, _∙_, ap}
 use Rattle.frames.specs.Encoding.{Call}
-use Rattle.frames.specs.Answers.{encoded-says}
+use Rattle.frames.specs.Answers.{encoded-says, is-counted}
 use Rattle.frames.specs.declared.encode.Encoded.{Encoded}
 use Rattle.frames.proofs.Settled.{says-of}
 use Rattle.frames.proofs.Running.{octets-known}
 use Rattle.frames.proofs.Packed.{length-back, refusal-back, encode-small, index-small}
 use borrow.Author.Needs.{needs}
-use Rattle.frames.proofs.exports.stomp_encode.Statement.{statement}
-use Rattle.frames.proofs.exports.stomp_encode.Tie as tie
+use Rattle.frames.proofs.exports.stomp_encode_with.Statement.{statement}
+use Rattle.frames.proofs.exports.stomp_encode_with.Tie as tie
 
 -- the call, and what encode's answer says of it
 abbrev call : tie.After-encode → Call
-call c = let a = c .before .before .before .before .before .args in record { command = a .command; block = a .block .now; body = a .body .now }
+call c = let a = c .before .before .before .before .before .args in record { command = a .command; block = a .block .now; body = a .body .now; counted = is-counted (a .options) }
 
 abbrev room : tie.After-encode → ℕ
 room c = length (c .before .before .before .before .before .args .target .now)
 
 told : (c : tie.After-encode) (f : Encoded) → c .encode .result ≡ f → encoded-says f ≡ says-of (call c) (room c)
-told c f e = ap encoded-says (sym e) ∙ c .encode .ensures .0
+told c f e = ap encoded-says (sym e) ∙ c .encode .ensures .answered
 
 -- a length and an index are small
 length-small : (c : tie.After-encode) (n : ℕ) → c .encode .result ≡ Encoded.Length n → n < 65536
@@ -91,25 +91,25 @@ returns : tie.Need-returns
 returns c =
     let s = c .before .before .before .before .before in
     let e = c .before .n .given .1 in
-    rw (length-back _ (length-small s _ e)) (told s _ e, refl, s .encode .ensures .1)
+    rw (length-back _ (length-small s _ e)) (record { answered = told s _ e; written = s .encode .ensures .written }, refl)
 
 same-length-2 : tie.Need-same-length-2
 same-length-2 c = search needs
 
 returns-2 : tie.Need-returns-2
-returns-2 c = let s = c .before .before .before .before in (told s _ (c .enum-told .given .1), refl, s .encode .ensures .1)
+returns-2 c = let s = c .before .before .before .before in (record { answered = told s _ (c .enum-told .given .1); written = s .encode .ensures .written }, refl)
 
 same-length-3 : tie.Need-same-length-3
 same-length-3 c = search needs
 
 returns-3 : tie.Need-returns-3
-returns-3 c = let s = c .before .before .before .before in (told s _ (c .enum-told2 .given .1), refl, s .encode .ensures .1)
+returns-3 c = let s = c .before .before .before .before in (record { answered = told s _ (c .enum-told2 .given .1); written = s .encode .ensures .written }, refl)
 
 same-length-4 : tie.Need-same-length-4
 same-length-4 c = search needs
 
 returns-4 : tie.Need-returns-4
-returns-4 c = let s = c .before .before .before .before in (told s _ (c .enum-told3 .given .1), refl, s .encode .ensures .1)
+returns-4 c = let s = c .before .before .before .before in (record { answered = told s _ (c .enum-told3 .given .1); written = s .encode .ensures .written }, refl)
 
 same-length-5 : tie.Need-same-length-5
 same-length-5 c = search needs
@@ -118,28 +118,28 @@ returns-5 : tie.Need-returns-5
 returns-5 c =
     let s = c .before .before .before .before .before in
     let e = c .before .i .given .1 in
-    rw (refusal-back 53 _ (omega arith) (place-small s _ e)) (told s _ e, refl, s .encode .ensures .1)
+    rw (refusal-back 53 _ (omega arith) (place-small s _ e)) (record { answered = told s _ e; written = s .encode .ensures .written }, refl)
 
 same-length-6 : tie.Need-same-length-6
 same-length-6 c = search needs
 
 returns-6 : tie.Need-returns-6
-returns-6 c = let s = c .before .before .before .before in (told s _ (c .enum-told4 .given .1), refl, s .encode .ensures .1)
+returns-6 c = let s = c .before .before .before .before in (record { answered = told s _ (c .enum-told4 .given .1); written = s .encode .ensures .written }, refl)
 
 same-length-7 : tie.Need-same-length-7
 same-length-7 c = search needs
 
 returns-7 : tie.Need-returns-7
-returns-7 c = let s = c .before .before .before .before in (told s _ (c .enum-told5 .given .1), refl, s .encode .ensures .1)
+returns-7 c = let s = c .before .before .before .before in (record { answered = told s _ (c .enum-told5 .given .1); written = s .encode .ensures .written }, refl)
 
 same-length-8 : tie.Need-same-length-8
 same-length-8 c = search needs
 
 returns-8 : tie.Need-returns-8
-returns-8 c = let s = c .before .before .before .before in (told s _ (c .enum-told6 .given .1), refl, s .encode .ensures .1)
+returns-8 c = let s = c .before .before .before .before in (record { answered = told s _ (c .enum-told6 .given .1); written = s .encode .ensures .written }, refl)
 
-pub stomp-encode-spec : {M : Type 1} → statement M
-stomp-encode-spec =
+pub stomp-encode-with-spec : {M : Type 1} → statement M
+stomp-encode-with-spec =
     tie.close
     (tie.spec
     encode-requires
