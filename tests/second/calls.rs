@@ -6,21 +6,13 @@ mod headers;
 
 use crate::block;
 use crate::encode::encode;
-use crate::item::{Command, MAX_BODY};
+use crate::encode_calls::{Call, COUNTED};
+use crate::item::{Command, MAX_BODY, NUL};
 use crate::random::Random;
 use crate::streams::{any_command, body_length, with_body};
 
 /// No slice of a call is longer.
 pub const MAX_SLICE: usize = 65_536;
-
-/// A call: the target is known by its length.
-#[derive(Clone, PartialEq, Eq, Debug)]
-pub struct Call {
-    pub command: u32,
-    pub block: Vec<u8>,
-    pub body: Vec<u8>,
-    pub room: usize,
-}
 
 /// One random call.
 pub fn call(random: &mut Random) -> Call {
@@ -38,8 +30,12 @@ pub fn call(random: &mut Random) -> Call {
     } else {
         known.0 as u32
     };
-    let room = room(random, encode(command, &block, &body, MAX_SLICE).ok());
+    let options = options(random);
+    let counted = options & COUNTED != 0;
+    let image = encode(command, &block, &body, MAX_SLICE, counted).ok();
+    let room = room(random, image);
     Call {
+        options,
         command,
         block,
         body,
@@ -80,10 +76,36 @@ fn length_of_body(random: &mut Random, command: Command) -> usize {
     }
 }
 
-/// Octets of any kind, octet 0 among them.
+/// The mark set or not, and at times other bits, which are not looked at.
+fn options(random: &mut Random) -> u32 {
+    let mark = random.pick(&[0, COUNTED]);
+    let others = random.pick(&[2, 4, 254, 256, 1 << 16, 1 << 31, u32::MAX - COUNTED]);
+    if random.once_in(6) {
+        others | mark
+    } else {
+        mark
+    }
+}
+
+/// Octets of any kind: without octet 0, with one of them first, last or anywhere, or with many.
 fn body(random: &mut Random, length: usize) -> Vec<u8> {
-    let octets = b"\0\0\n\r:\\abc019\xaa\xff";
-    (0..length).map(|_| random.pick(octets)).collect()
+    let octets = b"\n\r:\\abc019\xaa\xff";
+    let mut body: Vec<u8> = (0..length).map(|_| random.pick(octets)).collect();
+    let Some(last) = length.checked_sub(1) else {
+        return body;
+    };
+    let any = random.below(length);
+    match random.below(8) {
+        0..=3 => {}
+        4 => body[0] = NUL,
+        5 => body[last] = NUL,
+        6 => body[any] = NUL,
+        _ => {
+            let some = body.iter_mut().filter(|_| random.once_in(6));
+            some.for_each(|octet| *octet = NUL);
+        }
+    }
+    body
 }
 
 /// The length of the target: about that of the image, if there is one, or much more.

@@ -1,73 +1,31 @@
 //! Hands random calls to another program, many at a time, and compares its answers and targets with
 //! those of the encoder here.
 
-use crate::calls::{self, Call};
+use crate::calls;
 use crate::comparison;
-use crate::encode::encode;
+use crate::encode_calls::{Call, Reply};
 use crate::program;
 use crate::random::Random;
 use std::io;
 
-/// The octet that a target is filled with before the call.
-const FILLED: u8 = 170;
-
 /// The number of the first refusal.
 const FIRST_CODE: usize = 50;
 
-/// An answer as the program writes it, and the target behind the call.
-struct Reply {
-    answer: usize,
-    target: Vec<u8>,
-}
-
-impl Reply {
-    /// "length of the image, or 2^16*code + index of the entry (0 but for 53)"
-    fn of(call: &Call) -> Reply {
-        let mut target = vec![FILLED; call.room];
-        let answer = match encode(call.command, &call.block, &call.body, call.room) {
-            Ok(image) => {
-                target[..image.len()].copy_from_slice(&image);
-                image.len()
-            }
-            Err(refusal) => 65_536 * refusal.code + refusal.index,
-        };
-        Reply { answer, target }
-    }
-
-    /// As the program writes it: the answer, LF, the target, LF.
-    fn octets(&self) -> Vec<u8> {
-        let answer = self.answer.to_string();
-        [answer.as_bytes(), b"\n", &self.target, b"\n"].concat()
-    }
-}
-
-/// A call as the program reads it.
-fn octets(call: &Call) -> Vec<u8> {
-    let number = |length: usize| (length as u32).to_be_bytes();
-    [
-        &call.command.to_be_bytes()[..],
-        &number(call.block.len()),
-        &number(call.body.len()),
-        &number(call.room),
-        &call.block,
-        &call.body,
-    ]
-    .concat()
-}
-
-/// How many octets the calls compared had, and how often each answer came up: images, and each refusal.
+/// How many octets the calls compared had, and how often each answer came up, without the mark and with it:
+/// images, and each refusal.
 #[derive(Default)]
 pub struct Tally {
     octets: usize,
-    images: usize,
-    refused: [usize; 7],
+    images: [usize; 2],
+    refused: [[usize; 2]; 7],
 }
 
 impl Tally {
-    fn count(&mut self, reply: &Reply) {
+    fn count(&mut self, call: &Call, reply: &Reply) {
+        let way = usize::from(call.counted());
         match reply.answer / 65_536 {
-            0 => self.images += 1,
-            code => self.refused[code - FIRST_CODE] += 1,
+            0 => self.images[way] += 1,
+            code => self.refused[code - FIRST_CODE][way] += 1,
         }
     }
 }
@@ -79,7 +37,8 @@ impl comparison::Tally for Tally {
         let mut tally = Tally::default();
         let equal = comparison::in_batches(program, count, seed, |batch: &Batch, octets| {
             tally.octets += octets;
-            batch.replies.iter().for_each(|reply| tally.count(reply));
+            let replied = batch.calls.iter().zip(&batch.replies);
+            replied.for_each(|(call, reply)| tally.count(call, reply));
         })?;
         Ok(equal.then_some(tally))
     }
@@ -89,9 +48,13 @@ impl comparison::Tally for Tally {
     }
 
     fn print(&self) {
-        println!("image {}", self.images);
-        for (index, count) in self.refused.iter().enumerate() {
-            println!("refused {} {count}", FIRST_CODE + index);
+        let [without, with] = self.images;
+        println!("image {without}, with the mark {with}");
+        for (index, [without, with]) in self.refused.iter().enumerate() {
+            println!(
+                "refused {} {without}, with the mark {with}",
+                FIRST_CODE + index
+            );
         }
     }
 }
@@ -113,7 +76,7 @@ impl comparison::Batch for Batch {
     }
 
     fn octets(&self) -> Vec<u8> {
-        self.calls.iter().flat_map(octets).collect()
+        self.calls.iter().flat_map(Call::octets).collect()
     }
 
     fn replies(&self) -> Vec<Vec<u8>> {
@@ -131,10 +94,11 @@ impl comparison::Batch for Batch {
 
 /// Keeps the call in a file and says what it is.
 fn report(name: &str, call: &Call) -> io::Result<()> {
-    let path = program::keep(name, &octets(call))?;
+    let path = program::keep(name, &call.octets())?;
     println!("second: a difference, the call is in {}", path.display());
     println!(
-        "command {}, header block of {} octets, body of {}, target of {}",
+        "options {}, command {}, header block of {} octets, body of {}, target of {}",
+        call.options,
         call.command,
         call.block.len(),
         call.body.len(),

@@ -1,5 +1,5 @@
-//! Runs another program on random streams and compares what it writes with these streams written
-//! again here.
+//! Runs another program on random streams, each with C-16's mark and without, and compares what it writes
+//! with these streams written again here.
 
 use crate::comparison;
 use crate::item::COMMANDS;
@@ -10,8 +10,8 @@ use crate::streams;
 use crate::table;
 use std::io;
 
-/// How many octets the streams compared had, and how often each outcome came up; of a command's frames,
-/// first those without an added line, then those with one.
+/// How many octets the streams compared had, and how often each outcome came up, without the mark and
+/// with it together; of a command's frames, first those without an added line, then those with one.
 #[derive(Default)]
 pub struct Tally {
     octets: usize,
@@ -50,15 +50,17 @@ impl comparison::Tally for Tally {
         let mut tally = Tally::default();
         for number in 0..count {
             let stream = streams::stream_to_rewrite(&mut random);
-            let rewritten = rewrite::rewrite(&stream);
-            let ran = program::run(program, &[], &stream)?;
-            if !alike(&rewritten, &ran) {
-                let name = format!("second-difference-rewrite-{seed}-{number}");
-                report(&name, &stream, &rewritten, &ran)?;
-                return Ok(None);
+            for counted in [false, true] {
+                let rewritten = rewrite::rewrite(&stream, counted);
+                let ran = program::run(program, &arguments(counted), &stream)?;
+                if !alike(&rewritten, &ran) {
+                    let name = format!("second-difference-rewrite-{seed}-{number}");
+                    report(&name, &stream, counted, &rewritten, &ran)?;
+                    return Ok(None);
+                }
+                tally.count(&rewritten);
             }
             tally.octets += stream.len();
-            tally.count(&rewritten);
         }
         Ok(Some(tally))
     }
@@ -85,6 +87,15 @@ impl comparison::Tally for Tally {
     }
 }
 
+/// The arguments, with the mark or without.
+fn arguments(counted: bool) -> Vec<String> {
+    if counted {
+        vec!["counted".to_string()]
+    } else {
+        Vec::new()
+    }
+}
+
 /// Whether standard output and standard error are equal, and the program came to its end. Its status
 /// is 0 in any case: standard error tells.
 fn alike(rewritten: &Rewritten, ran: &Ran) -> bool {
@@ -94,9 +105,16 @@ fn alike(rewritten: &Rewritten, ran: &Ran) -> bool {
 }
 
 /// Keeps the stream in a file and prints what differs.
-fn report(name: &str, stream: &[u8], rewritten: &Rewritten, ran: &Ran) -> io::Result<()> {
+fn report(
+    name: &str,
+    stream: &[u8],
+    counted: bool,
+    rewritten: &Rewritten,
+    ran: &Ran,
+) -> io::Result<()> {
     let path = program::keep(name, stream)?;
     println!("second: a difference, the stream is in {}", path.display());
+    println!("arguments: {:?}", arguments(counted));
     program::print_difference("standard output", &rewritten.octets, &ran.output);
     let complaint = rewrite::complaint(rewritten);
     program::print_difference("standard error", complaint.as_bytes(), &ran.errors);

@@ -1,5 +1,5 @@
-//! Encoding, document 01, "Writing": the image of a command, a header block and a body, or the first
-//! of the refusals in the document's order.
+//! Encoding, document 01, "Writing", and document 02, C-16: the image of a command, a header block and a
+//! body, or the first of the refusals in the document's order.
 
 use crate::block::{self, Entry};
 use crate::decode::Content;
@@ -19,8 +19,14 @@ fn refused(code: usize) -> Refusal {
     Refusal { code, index: 0 }
 }
 
-/// The image, for a target of `room` octets.
-pub fn encode(command: u32, block: &[u8], body: &[u8], room: usize) -> Result<Vec<u8>, Refusal> {
+/// The image, for a target of `room` octets; `counted` is C-16's mark.
+pub fn encode(
+    command: u32,
+    block: &[u8],
+    body: &[u8],
+    room: usize,
+    counted: bool,
+) -> Result<Vec<u8>, Refusal> {
     // 50 unknown command; 51 malformed header block
     let command = Command::numbered(command).ok_or(refused(50))?;
     let entries = block::read(block).ok_or(refused(51))?;
@@ -30,11 +36,15 @@ pub fn encode(command: u32, block: &[u8], body: &[u8], room: usize) -> Result<Ve
         entries,
         body,
     };
+    // "52 more than 32 lines, the added one counted"; "52 counts the line only where it is added"
+    if written(&content, counted).len() > MAX_LINES {
+        return Err(refused(52));
+    }
     if let Some(refusal) = ROWS.iter().find_map(|row| row(&content)) {
         return Err(refusal);
     }
     // "56 the target is shorter than the image"
-    let image = image(&content);
+    let image = image(&content, counted);
     if room < image.len() {
         return Err(refused(56));
     }
@@ -43,18 +53,21 @@ pub fn encode(command: u32, block: &[u8], body: &[u8], room: usize) -> Result<Ve
 
 type Row = fn(&Content) -> Option<Refusal>;
 
-/// The refusals 52 to 55, in their order.
-const ROWS: [Row; 4] = [too_many_lines, spoiled_entry, wrong_body, wrong_length];
+/// The refusals 53 to 55, in their order.
+const ROWS: [Row; 3] = [spoiled_entry, wrong_body, wrong_length];
 
-/// "52 more than 32 lines, the added one counted"
-fn too_many_lines(content: &Content) -> Option<Refusal> {
-    let lines = content.entries.len() + usize::from(adds_length(content));
-    (lines > MAX_LINES).then_some(refused(52))
-}
-
-/// "If the body is not empty and no entry is named content-length", a line is added.
-pub fn adds_length(content: &Content) -> bool {
-    !content.body.is_empty() && first_length(content).is_none()
+/// The entries that lines are written of. "If the body is not empty and no entry is named content-length,
+/// a line `content-length:` with the shortest decimal follows the entries": so with the mark. Without it
+/// "the writer now adds the line only if the body holds octet 0".
+pub fn written(content: &Content, counted: bool) -> Vec<Entry> {
+    let needed = content.body.contains(&NUL);
+    let asked_for = counted && !content.body.is_empty();
+    let mut entries = content.entries.clone();
+    if first_length(content).is_none() && (needed || asked_for) {
+        let digits = content.body.len().to_string();
+        entries.push(Entry::new(CONTENT_LENGTH, digits.as_bytes()));
+    }
+    entries
 }
 
 /// The first entry named content-length.
@@ -100,29 +113,18 @@ fn says(value: &[u8], number: usize) -> bool {
     before.is_some_and(|zeros| zeros.iter().all(|&digit| digit == b'0'))
 }
 
-/// "Output: line ends are octet 10; entries in order, escaped where the command escapes. If the body
-/// is not empty and no entry is named content-length, a line `content-length:` with the shortest
-/// decimal follows the entries."
-pub fn image(content: &Content) -> Vec<u8> {
-    let mut entries = content.entries.clone();
-    if adds_length(content) {
-        entries.push(length_entry(content.body.len()));
-    }
+/// "Output: line ends are octet 10; entries in order, escaped where the command escapes."
+pub fn image(content: &Content, counted: bool) -> Vec<u8> {
     let mut image = content.command.name().to_vec();
     image.push(LF);
-    for entry in &entries {
-        image.extend(line(content.command, entry));
+    for entry in written(content, counted) {
+        image.extend(line(content.command, &entry));
         image.push(LF);
     }
     image.push(LF);
     image.extend_from_slice(&content.body);
     image.push(NUL);
     image
-}
-
-/// The entry that is added to a body of that length.
-pub fn length_entry(length: usize) -> Entry {
-    Entry::new(CONTENT_LENGTH, length.to_string().as_bytes())
 }
 
 /// The raw line of an entry, without its line end.

@@ -1,7 +1,8 @@
 //! The fixed inputs of the programs `session_calls` and `replay`: document 01's examples of a session,
-//! each refusal, and the limits with one more, and deliveries; and those of `feed_calls`.
+//! each refusal, and the limits with one more, and deliveries; and those of `encode_calls` and `feed_calls`.
 
 mod deliveries;
+pub mod encoding;
 pub mod feeding;
 mod records;
 

@@ -15,6 +15,7 @@ mod compare_session;
 mod comparison;
 mod decode;
 mod encode;
+mod encode_calls;
 mod feed;
 mod feed_calls;
 mod fixed;
@@ -36,6 +37,7 @@ mod vectors;
 #[cfg(test)]
 mod check;
 
+use encode_calls::Reply;
 use feed_calls::Due;
 use session::opening::MAX_INTERVAL;
 use std::fs;
@@ -45,7 +47,8 @@ use std::process::ExitCode;
 use std::time::Duration;
 
 const USAGE: &str = "second list
-second rewrite
+second rewrite [counted]
+second encode
 second replay [SENDS WANTS] [log]
 second session
 second feed
@@ -57,6 +60,7 @@ second compare-session PROGRAM COUNT SEED
 second compare-feed PROGRAM COUNT SEED
 second compare-for SECONDS SEED PROGRAMS
 second make DIR
+second make-encode FILE
 second make-replay FILE
 second make-session FILE
 second make-feed FILE
@@ -67,7 +71,9 @@ fn main() -> ExitCode {
     let arguments: Vec<&str> = arguments.iter().map(String::as_str).collect();
     let done = match arguments[..] {
         ["list"] => list(),
-        ["rewrite"] => rewrite(),
+        ["rewrite"] => rewrite(false),
+        ["rewrite", "counted"] => rewrite(true),
+        ["encode"] => encode(),
         ["replay"] => replay("0", "0", false),
         ["replay", "log"] => replay("0", "0", true),
         ["replay", sends, wants] => replay(sends, wants, false),
@@ -80,6 +86,7 @@ fn main() -> ExitCode {
             None => Err(io::Error::other(USAGE)),
         },
         ["make", folder] => vectors::make(Path::new(folder)).map(|()| true),
+        ["make-encode", file] => fs::write(file, fixed::encoding::calls()).map(|()| true),
         ["make-replay", file] => fs::write(file, fixed::stream()).map(|()| true),
         ["make-session", file] => fs::write(file, fixed::calls()).map(|()| true),
         ["make-feed", file] => fs::write(file, fixed::feeding::calls()).map(|()| true),
@@ -104,15 +111,28 @@ fn list() -> io::Result<bool> {
     Ok(true)
 }
 
-/// Reads a stream from standard input and writes it again.
-fn rewrite() -> io::Result<bool> {
+/// Reads a stream from standard input and writes it again, with C-16's mark or without.
+fn rewrite(counted: bool) -> io::Result<bool> {
     let mut stream = Vec::new();
     io::stdin().read_to_end(&mut stream)?;
-    let rewritten = rewrite::rewrite(&stream);
+    let rewritten = rewrite::rewrite(&stream, counted);
     let mut output = io::stdout().lock();
     output.write_all(&rewritten.octets)?;
     output.flush()?;
     io::stderr().write_all(rewrite::complaint(&rewritten).as_bytes())?;
+    Ok(true)
+}
+
+/// Reads calls of the encoder from standard input and writes the replies.
+fn encode() -> io::Result<bool> {
+    let mut input = Vec::new();
+    io::stdin().read_to_end(&mut input)?;
+    let calls = encode_calls::read(&input).ok_or(io::Error::other("encode: a call is cut off"))?;
+    let mut output = io::stdout().lock();
+    for call in &calls {
+        output.write_all(&Reply::of(call).octets())?;
+    }
+    output.flush()?;
     Ok(true)
 }
 

@@ -1,5 +1,5 @@
-// Calls of encode, read from standard input, each as four numbers of four octets, high first, and then the block and the body. For each
-// call the answer, as stomp_encode gives it, in decimal, and the target, which held octet 170 everywhere; a line end behind each.
+// Calls of encode, read from standard input, each as five numbers of four octets, high first, and then the block and the body. For each
+// call the answer, as stomp_encode_with gives it, in decimal, and the target, which held octet 170 everywhere; a line end after each.
 ghost use mathlib.Core.Path.{_≡_};
 ghost use Prim.Native.Nat.{_≤_};
 ghost use lib.ListN.{length};
@@ -9,22 +9,24 @@ use listing::calls::at_most;
 use listing::calls::number_at;
 use listing::calls::read_front;
 
-// The four numbers: command, lengths of block, body and target.
+// The five numbers: options, command, lengths of block, body and target.
 struct Call {
+    options: u32,
     command: u32,
     block: usize,
     body: usize,
     target: usize,
 }
 
-fn call_of(head: &[u8; 16]) -> Call
+fn call_of(head: &[u8; 20]) -> Call
     ensures { λ r. ⌜ (r .block ≤ 65536) × (r .body ≤ 65536) × (r .target ≤ 65536) ⌝ }
 {
     Call {
-        command: number_at(head, 0),
-        block: at_most(number_at(head, 4)),
-        body: at_most(number_at(head, 8)),
-        target: at_most(number_at(head, 12)),
+        options: number_at(head, 0),
+        command: number_at(head, 4),
+        block: at_most(number_at(head, 8)),
+        body: at_most(number_at(head, 12)),
+        target: at_most(number_at(head, 16)),
     }
 }
 
@@ -42,7 +44,7 @@ fn fill(d: &mut [u8])
 // One call and what it gives.
 fn answer(c: Call, block: &[u8], body: &[u8], target: &mut [u8]) {
     fill(target);
-    let a = frames::exports::stomp_encode(c.command, block, body, target);
+    let a = frames::exports::stomp_encode_with(c.options, c.command, block, body, target);
     io::print_decimal(STDOUT_FILENO, a);
     io::write_all(STDOUT_FILENO, b"\n");
     io::write_all(STDOUT_FILENO, target);
@@ -50,7 +52,7 @@ fn answer(c: Call, block: &[u8], body: &[u8], target: &mut [u8]) {
 }
 
 // Reads a call and answers it: whether it was whole.
-fn one_call(head: &[u8; 16]) -> bool {
+fn one_call(head: &[u8; 20]) -> bool {
     let c = call_of(head);
     let mut block = io::large_buffer();
     let mut body = io::large_buffer();
@@ -71,8 +73,8 @@ fn one_call(head: &[u8; 16]) -> bool {
 fn main() {
     let mut calls = u64::MAX;
     while calls > 0 {
-        let mut head = [0u8; 16];
-        if io::read_full(STDIN_FILENO, &mut head) < 16 {
+        let mut head = [0u8; 20];
+        if io::read_full(STDIN_FILENO, &mut head) < 20 {
             return;
         }
         if !one_call(&head) {

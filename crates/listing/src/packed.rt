@@ -2,6 +2,7 @@
 ghost use mathlib.Core.Path.{_≡_};
 ghost use Prim.Native.Nat.{_≤_};
 ghost use lib.ListN.{length};
+use frames::exports::COUNTED;
 
 // The number of a refusal, or 0 where len octets were written.
 pub(crate) struct Written {
@@ -27,10 +28,20 @@ pub(crate) fn decode(frame: &[u8], block: &mut [u8]) -> Written
     unpacked(answer, block.len())
 }
 
-// A frame's octets, encoded to the front of out.
-pub(crate) fn encode(command: u32, block: &[u8], body: &[u8], out: &mut [u8]) -> Written
+// A frame's octets, encoded to the front of out; counted asks for a length line.
+pub(crate) fn encode(
+    command: u32,
+    block: &[u8],
+    body: &[u8],
+    out: &mut [u8],
+    counted: bool,
+) -> Written
     ensures { λ r. ⌜ (r .len ≤ length (now (out .entry))) × (length (now (out .exit)) ≡ length (now (out .entry))) ⌝ }
 {
+    if counted {
+        let answer = frames::exports::stomp_encode_with(COUNTED, command, block, body, out);
+        return unpacked(answer, out.len());
+    }
     let answer = frames::exports::stomp_encode(command, block, body, out);
     unpacked(answer, out.len())
 }

@@ -1,4 +1,5 @@
-// The rewriting of a stream: each frame decoded and encoded again, each heart-beat one line end.
+// The rewriting of a stream: each frame decoded and encoded again, each heart-beat one line end. The flag counted, that a length line is
+// asked for, is handed down to encoding.
 ghost use mathlib.Core.Path.{_≡_};
 ghost use Prim.Native.Nat.{_+_, _≤_, _<_};
 ghost use lib.ListN.{length};
@@ -15,7 +16,7 @@ fn failed(code: u32) -> Written
 }
 
 // A frame encoded again at the front of out, from its block and its body.
-fn encode_again(frame: &[u8], item: Item, block: &[u8], out: &mut [u8]) -> Written
+fn encode_again(frame: &[u8], item: Item, block: &[u8], out: &mut [u8], counted: bool) -> Written
     ensures { λ r. ⌜ (r .len ≤ length (now (out .entry))) × (length (now (out .exit)) ≡ length (now (out .entry))) ⌝ }
 {
     let from = item.body;
@@ -26,11 +27,11 @@ fn encode_again(frame: &[u8], item: Item, block: &[u8], out: &mut [u8]) -> Writt
         return failed(20);
     }
     let end = from + item.body_len;
-    crate::packed::encode(item.command, block, &frame[from..end], out)
+    crate::packed::encode(item.command, block, &frame[from..end], out, counted)
 }
 
 // A frame decoded into the block and encoded again at the front of out.
-fn recode(frame: &[u8], item: Item, block: &mut [u8], out: &mut [u8]) -> Written
+fn recode(frame: &[u8], item: Item, block: &mut [u8], out: &mut [u8], counted: bool) -> Written
     ensures { λ r. ⌜
         (r .len ≤ length (now (out .entry)))
         × (length (now (out .exit)) ≡ length (now (out .entry))) × (length (now (block .exit)) ≡ length (now (block .entry)))
@@ -41,11 +42,18 @@ fn recode(frame: &[u8], item: Item, block: &mut [u8], out: &mut [u8]) -> Written
         return failed(decoded.code);
     }
     let n = decoded.len;
-    encode_again(frame, item, &block[0..n], out)
+    encode_again(frame, item, &block[0..n], out, counted)
 }
 
 // An item again, behind the octets laid out.
-fn lay(octets: &[u8], item: Item, block: &mut [u8], out: &mut [u8], used: usize) -> Written
+fn lay(
+    octets: &[u8],
+    item: Item,
+    block: &mut [u8],
+    out: &mut [u8],
+    used: usize,
+    counted: bool,
+) -> Written
     requires { ⌜ used < length (now out) ⌝ }
     ensures { λ r. ⌜
         (used + r .len ≤ length (now (out .entry)))
@@ -56,7 +64,7 @@ fn lay(octets: &[u8], item: Item, block: &mut [u8], out: &mut [u8], used: usize)
         out[used] = 10;
         return Written { len: 1, code: 0 };
     }
-    recode(octets, item, block, &mut out[used..])
+    recode(octets, item, block, &mut out[used..], counted)
 }
 
 // The first n octets of a text on standard error.
@@ -118,6 +126,7 @@ fn rewrite_item(
     out: &mut [u8],
     p: Progress,
     item: Item,
+    counted: bool,
 ) -> Progress
     requires { ⌜ (p .lo + length (now octets) ≤ p .hi) × (p .used < length (now out)) ⌝ }
     ensures { λ r. ⌜
@@ -125,7 +134,7 @@ fn rewrite_item(
         × (length (now (out .exit)) ≡ length (now (out .entry))) × (length (now (block .exit)) ≡ length (now (block .entry)))
         ⌝ }
 {
-    let w = lay(octets, item, block, out, p.used);
+    let w = lay(octets, item, block, out, p.used, counted);
     if w.code != 0 {
         complain_unwritten(p.start, w.code);
         return stopped(p);
@@ -134,7 +143,14 @@ fn rewrite_item(
 }
 
 // One item, or one reading, or one writing. The room that is kept is that of the longest frame.
-fn turn(fd: i32, buf: &mut [u8], block: &mut [u8], out: &mut [u8], p: Progress) -> Progress
+fn turn(
+    fd: i32,
+    buf: &mut [u8],
+    block: &mut [u8],
+    out: &mut [u8],
+    p: Progress,
+    counted: bool,
+) -> Progress
     requires { ⌜ Room (length (now buf)) (length (now out)) p ⌝ }
     ensures { λ r. ⌜
         Room (length (now (buf .entry))) (length (now (out .entry))) r
@@ -152,15 +168,15 @@ fn turn(fd: i32, buf: &mut [u8], block: &mut [u8], out: &mut [u8], p: Progress) 
     let Parsed::Complete(item) = reply else {
         return no_item(fd, buf, p, reply);
     };
-    rewrite_item(&buf[lo..end], block, out, p, item)
+    rewrite_item(&buf[lo..end], block, out, p, item, counted)
 }
 
 // Rewrites the octets of fd to standard output, with three buffers: whether reading and writing went well.
-fn rewrite_in(fd: i32, buf: &mut [u8], block: &mut [u8], out: &mut [u8]) -> bool {
+fn rewrite_in(fd: i32, buf: &mut [u8], block: &mut [u8], out: &mut [u8], counted: bool) -> bool {
     let mut p = crate::stream::nothing_listed();
     let mut turns = u64::MAX;
     while turns > 0 && !(p.failed | p.done) {
-        p = turn(fd, buf, block, out, p);
+        p = turn(fd, buf, block, out, p, counted);
         turns -= 1;
     }
     let q = crate::stream::flush(out, p);
@@ -168,10 +184,10 @@ fn rewrite_in(fd: i32, buf: &mut [u8], block: &mut [u8], out: &mut [u8]) -> bool
 }
 
 // Rewrites the octets of fd to standard output, up to their end or to what cannot be read or written, which a line on standard error
-// tells: whether reading and writing went well.
-pub fn rewrite(fd: i32) -> bool {
+// tells: whether reading and writing went well. With counted a length line is asked for in each frame.
+pub fn rewrite(fd: i32, counted: bool) -> bool {
     let mut octets = io::large_buffer();
     let mut block = io::large_buffer();
     let mut image = io::large_buffer();
-    rewrite_in(fd, &mut octets, &mut block, &mut image)
+    rewrite_in(fd, &mut octets, &mut block, &mut image, counted)
 }

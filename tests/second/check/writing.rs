@@ -3,9 +3,10 @@
 
 use super::{product, small_commands, tails};
 use crate::block::{self, Entry};
-use crate::calls::{self, Call, MAX_SLICE};
+use crate::calls::{self, MAX_SLICE};
 use crate::decode::{decode, decoded as decoded_text, Content};
-use crate::encode::{adds_length, encode, image, length_entry, line, Refusal};
+use crate::encode::{encode, image, line, written, Refusal};
+use crate::encode_calls::{Call, Reply};
 use crate::item::{content_length, header_line, Command, CONTENT_LENGTH};
 use crate::random::Random;
 use crate::rewrite::{complaint, rewrite, Stop};
@@ -21,17 +22,16 @@ fn decoded(frame: &[u8]) -> Content {
 }
 
 /// What is written of a content, with as much room as it takes.
-fn encoded(content: &Content) -> Result<Vec<u8>, Refusal> {
+fn encoded(content: &Content, counted: bool) -> Result<Vec<u8>, Refusal> {
     let block = block::write(&content.entries);
-    encode(content.command.0 as u32, &block, &content.body, MAX_SLICE)
+    let command = content.command.0 as u32;
+    encode(command, &block, &content.body, MAX_SLICE, counted)
 }
 
 /// The content that is read where this one was written.
-fn with_length(content: &Content) -> Content {
+fn with_length(content: &Content, counted: bool) -> Content {
     let mut content = content.clone();
-    if adds_length(&content) {
-        content.entries.push(length_entry(content.body.len()));
-    }
+    content.entries = written(&content, counted);
     content
 }
 
@@ -40,17 +40,22 @@ fn examples_are_decoded_and_encoded() {
     let block = block::write(&decoded(P6).entries);
     assert_eq!(block, b"\x48\x44\x00\x0b\x00\x02destination/p");
     assert_eq!(block.len(), 19);
-    let image = encode(12, &block, b"ok", 41).expect("P6 written again");
-    assert_eq!(image, b"SEND\ndestination:/p\ncontent-length:2\n\nok\0");
-    assert_eq!(image.len(), 41);
-    let short = encode(12, &block, b"ok", 40);
-    assert_eq!(short, Err(Refusal { code: 56, index: 0 }));
+    let counted = b"SEND\ndestination:/p\ncontent-length:2\n\nok\0";
+    for (mark, length, expected) in [(true, 41, &counted[..]), (false, 24, P6)] {
+        let image = encode(12, &block, b"ok", length, mark).expect("P6 written again");
+        assert_eq!(image, expected);
+        assert_eq!(image.len(), length);
+        let short = encode(12, &block, b"ok", length - 1, mark);
+        assert_eq!(short, Err(Refusal { code: 56, index: 0 }));
+    }
 
     assert_eq!(decoded(P7).entries, [Entry::new(b"id", b"a:b")]);
     let runs = [Entry::new(b"run", b"b"), Entry::new(b"run", b"a")];
     assert_eq!(decoded(P13).entries, runs);
     for frame in [P7, P13] {
-        assert_eq!(encoded(&decoded(frame)), Ok(frame.to_vec()));
+        for counted in [false, true] {
+            assert_eq!(encoded(&decoded(frame), counted), Ok(frame.to_vec()));
+        }
     }
 }
 
@@ -75,13 +80,13 @@ fn colons_are_written_and_read() {
         b"STOMP\npasscode:a\\cb\n\n\0",
     ];
     for frame in frames {
-        assert_eq!(encoded(&decoded(frame)), Ok(frame.to_vec()));
+        assert_eq!(encoded(&decoded(frame), false), Ok(frame.to_vec()));
     }
     assert_eq!(decoded(frames[0]).entries[0].value, b"a:b");
     assert_eq!(decoded(frames[3]).entries[0].value, b"a:b");
     let refused = |command, name: &[u8], value: &[u8]| {
         let block = block::write(&[Entry::new(b"a", b""), Entry::new(name, value)]);
-        encode(command, &block, b"", MAX_SLICE).err()
+        encode(command, &block, b"", MAX_SLICE, false).err()
     };
     let second = Some(Refusal { code: 53, index: 1 });
     for command in [5, 6] {
@@ -111,17 +116,63 @@ fn only_whole_frames_are_decoded() {
 #[test]
 fn examples_are_rewritten() {
     let stream = [b"\r\n", P6, b"\n", P7, b"SENT"].concat();
-    let rewritten = rewrite(&stream);
     let p6 = b"SEND\ndestination:/p\ncontent-length:2\n\nok\0";
-    assert_eq!(rewritten.octets, [b"\n", &p6[..], b"\n", P7].concat());
-    assert_eq!(complaint(&rewritten), "rewrite: 41 refused 1 3\n");
-    let more = rewrite(b"\nACK\n");
-    assert_eq!(complaint(&more), "rewrite: 1 more\n");
-    let full = [b"\r\nSEND\n", &b"a:\n".repeat(32)[..], b"\nb\0\n"].concat();
-    let full = rewrite(&full);
-    assert_eq!(full.octets, b"\n");
-    assert_eq!(complaint(&full), "rewrite: 2 unwritten 52\n");
-    assert_eq!(complaint(&rewrite(b"")), "");
+    for (counted, p6) in [(false, P6), (true, &p6[..])] {
+        let rewritten = rewrite(&stream, counted);
+        assert_eq!(rewritten.octets, [b"\n", p6, b"\n", P7].concat());
+        assert_eq!(complaint(&rewritten), "rewrite: 41 refused 1 3\n");
+        let more = rewrite(b"\nACK\n", counted);
+        assert_eq!(complaint(&more), "rewrite: 1 more\n");
+        assert_eq!(complaint(&rewrite(b"", counted)), "");
+    }
+    let full = [b"SEND\n", &b"a:\n".repeat(32)[..], b"\nb\0\n"].concat();
+    let stream = [b"\r\n", &full[..]].concat();
+    let without = rewrite(&stream, false);
+    assert_eq!(without.octets, [b"\n", &full[..]].concat());
+    assert_eq!(complaint(&without), "");
+    let with = rewrite(&stream, true);
+    assert_eq!(with.octets, b"\n");
+    assert_eq!(complaint(&with), "rewrite: 2 unwritten 52\n");
+}
+
+/// C-16's line, as document 02 and the issue of it have it: the answers of the fixed calls.
+#[test]
+fn a_line_is_added_where_it_is_needed_or_asked_for() {
+    let answer = |options, command, entries, body: &[u8]| {
+        let block = block::write(&vec![Entry::new(b"a", b"1"); entries]);
+        let body = body.to_vec();
+        let room = MAX_SLICE;
+        let call = Call {
+            options,
+            command,
+            block,
+            body,
+            room,
+        };
+        Reply::of(&call).answer
+    };
+    let refused = |code: usize| 65_536 * code;
+    for (body, plain, counted) in [
+        (&b""[..], 7, 7),
+        (b"ok", 9, 26),
+        (b"\0ok", 27, 27),
+        (b"ok\0", 27, 27),
+        (b"\0", 25, 25),
+    ] {
+        assert_eq!(answer(0, 12, 0, body), plain);
+        assert_eq!(answer(1, 12, 0, body), counted);
+        assert_eq!(answer(u32::MAX - 1, 12, 0, body), plain);
+        assert_eq!(answer(u32::MAX, 12, 0, body), counted);
+    }
+    assert_eq!(answer(0, 12, 32, b"x"), 8 + 4 * 32);
+    assert_eq!(answer(1, 12, 32, b"x"), refused(52));
+    assert_eq!(answer(0, 2, 32, b"x"), refused(54));
+    assert_eq!(answer(1, 2, 32, b"x"), refused(52));
+    for command in [2, 12] {
+        for options in [0, 1] {
+            assert_eq!(answer(options, command, 32, b"\0"), refused(52));
+        }
+    }
 }
 
 /// Small frames put together by the grammar: written again they are as they were, but for line ends
@@ -133,11 +184,14 @@ fn small_frames_are_written_again() {
         for tail in (2..=7).flat_map(|length| tails(command, length)) {
             let frame = [&head[..], &tail].concat();
             let content = decoded(&frame);
-            let image = encoded(&content).expect("an image");
-            assert_eq!(decoded(&image), with_length(&content));
+            let image = encoded(&content, true).expect("an image");
+            assert_eq!(decoded(&image), with_length(&content, true));
+            let plain = encoded(&content, false).expect("an image");
+            assert_eq!(decoded(&plain), content);
             if content.body.is_empty() {
                 let line_ends: Vec<u8> = frame.into_iter().filter(|&octet| octet != 13).collect();
                 assert_eq!(image, line_ends);
+                assert_eq!(plain, line_ends);
             }
         }
     }
@@ -179,7 +233,8 @@ fn refusals_come_in_order() {
     entries[8] = Entry::new(b"", b"v");
     entries.push(wrong);
     let trailing = |entries: &[Entry]| [&block::write(entries)[..], b"\0"].concat();
-    let answer = |command, block: &[u8], body: &[u8], room| encode(command, block, body, room);
+    let answer =
+        |command, block: &[u8], body: &[u8], room| encode(command, block, body, room, true);
     let code = |code, index| Err(Refusal { code, index });
     assert_eq!(answer(16, &trailing(&entries), b"b", 0), code(50, 0));
     assert_eq!(answer(2, &trailing(&entries), b"b", 0), code(51, 0));
@@ -217,13 +272,18 @@ fn holds(call: &Call, code: usize) -> bool {
     let mut lengths = content.entries.iter();
     let length = lengths.find(|entry| entry.name == CONTENT_LENGTH);
     match code {
-        52 => with_length(&content).entries.len() > 32,
+        52 => with_length(&content, call.counted()).entries.len() > 32,
         53 => first_unreadable(&content).is_some(),
         54 => call.body.len() > 32_768 || (!command.has_body() && !call.body.is_empty()),
         55 => length
             .is_some_and(|entry| content_length(command, &entry.value) != Some(call.body.len())),
-        _ => image(&content).len() > call.room,
+        _ => image(&content, call.counted()).len() > call.room,
     }
+}
+
+/// What encoding answers to a call, with that much room.
+fn answer(call: &Call, room: usize) -> Result<Vec<u8>, Refusal> {
+    encode(call.command, &call.block, &call.body, room, call.counted())
 }
 
 fn content(call: &Call) -> Content {
@@ -253,7 +313,7 @@ fn calls_are_refused_for_the_first_reason() {
     let mut answers = BTreeSet::new();
     for _ in 0..5_000 {
         let call = calls::call(&mut random);
-        let answer = encode(call.command, &call.block, &call.body, call.room);
+        let answer = answer(&call, call.room);
         let refusal = answer.err();
         let code = refusal.map(|refusal| refusal.code);
         assert_eq!(code, (50..=56).find(|&code| holds(&call, code)));
@@ -274,14 +334,14 @@ fn images_are_read_again() {
     let mut random = Random::new(4);
     for _ in 0..5_000 {
         let call = calls::call(&mut random);
-        let answer = encode(call.command, &call.block, &call.body, MAX_SLICE);
+        let answer = answer(&call, MAX_SLICE);
         let refusal = answer.as_ref().map_or_else(|refusal| refusal.code, |_| 0);
         if refusal == 50 || refusal == 51 {
             continue;
         }
         let content = content(&call);
-        let image = image(&content);
-        let read = decode(&image) == Some(with_length(&content));
+        let image = image(&content, call.counted());
+        let read = decode(&image) == Some(with_length(&content, call.counted()));
         assert_eq!(read, refusal == 0);
         if read {
             assert_eq!(answer, Ok(image));
@@ -289,20 +349,22 @@ fn images_are_read_again() {
     }
 }
 
-/// "A frame that was read and is written again is refused only with 52"; what was written is written
-/// again as it is.
+/// "A frame that was read and is written again is refused only with 52", and that only with the mark; what
+/// was written is written again as it is.
 #[test]
 fn streams_are_rewritten_once() {
     let mut random = Random::new(5);
     for _ in 0..3_000 {
         let stream = streams::stream_to_rewrite(&mut random);
-        let rewritten = rewrite(&stream);
-        if let Stop::Unwritten { code } = rewritten.stop {
-            assert_eq!(code, 52);
+        for counted in [false, true] {
+            let rewritten = rewrite(&stream, counted);
+            if let Stop::Unwritten { code } = rewritten.stop {
+                assert_eq!((code, counted), (52, true));
+            }
+            let again = rewrite(&rewritten.octets, counted);
+            assert_eq!(again.stop, Stop::End);
+            assert_eq!(again.octets, rewritten.octets);
+            assert_eq!(again.items.len(), rewritten.items.len());
         }
-        let again = rewrite(&rewritten.octets);
-        assert_eq!(again.stop, Stop::End);
-        assert_eq!(again.octets, rewritten.octets);
-        assert_eq!(again.items.len(), rewritten.items.len());
     }
 }

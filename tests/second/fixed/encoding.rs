@@ -1,0 +1,150 @@
+//! The fixed calls of the encoder: document 01's P6, one for each refusal and its edge, and C-16's line
+//! without the mark and with it.
+
+use crate::block::{self, Entry};
+use crate::encode_calls::{Call, COUNTED};
+use crate::item::CONTENT_LENGTH;
+
+const ACK: u32 = 2;
+const CONNECT: u32 = 5;
+const SEND: u32 = 12;
+const STOMP: u32 = 13;
+
+/// The octets of the calls.
+pub fn calls() -> Vec<u8> {
+    all().iter().flat_map(Call::octets).collect()
+}
+
+/// The calls, in groups.
+fn all() -> Vec<Call> {
+    [
+        again(),
+        refused(),
+        opening(),
+        bodies(),
+        lines(),
+        other_options(),
+    ]
+    .concat()
+}
+
+/// A call with the mark, as all were before C-16.
+fn counted(command: u32, block: &[u8], body: &[u8], room: usize) -> Call {
+    Call {
+        options: COUNTED,
+        command,
+        block: block.to_vec(),
+        body: body.to_vec(),
+        room,
+    }
+}
+
+/// The same without.
+fn plain(command: u32, block: &[u8], body: &[u8], room: usize) -> Call {
+    Call {
+        options: 0,
+        ..counted(command, block, body, room)
+    }
+}
+
+/// Both.
+fn both(command: u32, block: &[u8], body: &[u8], room: usize) -> [Call; 2] {
+    [
+        plain(command, block, body, room),
+        counted(command, block, body, room),
+    ]
+}
+
+fn destination() -> Entry {
+    Entry::new(b"destination", b"/p")
+}
+
+/// The block of P6.
+fn p6() -> Vec<u8> {
+    block::write(&[destination()])
+}
+
+/// P6 written again: room for three octets more, for all and for all but one.
+fn again() -> Vec<Call> {
+    let with_mark = [44, 41, 40].map(|room| counted(SEND, &p6(), b"ok", room));
+    let without = [27, 24, 23].map(|room| plain(SEND, &p6(), b"ok", room));
+    [with_mark, without].concat()
+}
+
+/// Each refusal: 50 twice, 51, 52, 53, 54 and 55, and the length with a zero before it.
+fn refused() -> Vec<Call> {
+    let cut = &p6()[..18];
+    let nameless = [destination(), Entry::new(b"", b"1")];
+    let length = |value| block::write(&[destination(), Entry::new(CONTENT_LENGTH, value)]);
+    vec![
+        counted(0, &p6(), b"ok", 44),
+        counted(16, &p6(), b"ok", 44),
+        counted(SEND, cut, b"ok", 44),
+        counted(SEND, &same(33), b"", 400),
+        counted(SEND, &block::write(&nameless), b"ok", 64),
+        counted(ACK, &block::write(&[Entry::new(b"id", b"12")]), b"ok", 32),
+        counted(SEND, &length(b"3"), b"ok", 64),
+        counted(SEND, &length(b"02"), b"ok", 46),
+    ]
+}
+
+/// That many entries.
+fn same(count: usize) -> Vec<u8> {
+    block::write(&vec![Entry::new(b"a", b"1"); count])
+}
+
+/// A colon in a value and in a name of CONNECT, and in a value of STOMP.
+fn opening() -> Vec<Call> {
+    let with = |name: &[u8], value: &[u8]| {
+        let version = Entry::new(b"accept-version", b"1.2");
+        block::write(&[version, Entry::new(name, value)])
+    };
+    vec![
+        counted(CONNECT, &with(b"host", b"a:b"), b"", 64),
+        counted(CONNECT, &with(b"ho:st", b"ab"), b"", 64),
+        counted(STOMP, &with(b"host", b"a:b"), b"", 44),
+    ]
+}
+
+/// No body, and bodies without octet 0, with one first, last, in the middle and alone; and one with a
+/// content-length.
+fn bodies() -> Vec<Call> {
+    let bodies: [&[u8]; 6] = [b"", b"ok", b"\0ok", b"ok\0", b"o\0k", b"\0"];
+    let counts = block::write(&[destination(), Entry::new(CONTENT_LENGTH, b"1")]);
+    let mut calls: Vec<Call> = bodies
+        .iter()
+        .flat_map(|body| both(SEND, &p6(), body, 44))
+        .collect();
+    calls.extend(both(SEND, &counts, b"\0", 44));
+    calls
+}
+
+/// As many lines as may be: one more is too many only where it is added. With ACK the body, which it may
+/// not have, is asked for after that.
+fn lines() -> Vec<Call> {
+    let counts = [
+        vec![Entry::new(b"a", b"1"); 31],
+        vec![Entry::new(CONTENT_LENGTH, b"1")],
+    ];
+    let counts = block::write(&counts.concat());
+    let mut calls = Vec::new();
+    for body in [&b""[..], b"ok", b"\0", b"a\0"] {
+        calls.extend(both(SEND, &same(32), body, 140));
+    }
+    calls.extend(both(SEND, &counts, b"\0", 160));
+    for body in [b"x", b"\0"] {
+        calls.extend(both(ACK, &same(32), body, 140));
+    }
+    calls
+}
+
+/// Bits that are not looked at, without the mark and with it.
+fn other_options() -> Vec<Call> {
+    let options = [2, 3, u32::MAX - 1, u32::MAX];
+    options
+        .map(|options| Call {
+            options,
+            ..plain(SEND, &p6(), b"ok", 44)
+        })
+        .to_vec()
+}
