@@ -89,11 +89,16 @@ enum stomp_find_refusal {
     STOMP_FIND_MALFORMED = 22 /* the block is not a row of whole records */
 };
 
-/* The numbers of stomp_encode, in the order in which they are given. */
+/* The options of stomp_encode_with: bits, to be joined by |. Other bits are not looked at. */
+enum stomp_option {
+    STOMP_COUNTED = 1 /* a line with the body's length also where the body holds no octet 0 */
+};
+
+/* The numbers of stomp_encode and stomp_encode_with, in the order in which they are given. */
 enum stomp_encode_refusal {
     STOMP_ENCODE_COMMAND = 50,        /* unknown command */
     STOMP_ENCODE_MALFORMED = 51,      /* the block is not a row of whole records */
-    STOMP_ENCODE_LINE_COUNT = 52,     /* more than STOMP_MAX_LINES lines, the added one counted */
+    STOMP_ENCODE_LINE_COUNT = 52,     /* more than STOMP_MAX_LINES lines, an added one counted */
     STOMP_ENCODE_ENTRY = 53,          /* an empty name, a raw line over STOMP_MAX_LINE, or in CONNECT and
                                          CONNECTED octet 10 or 13, or a colon in the name; the index says
                                          which entry */
@@ -149,8 +154,8 @@ uint64_t stomp_decode(const uint8_t *frame, size_t frame_len, uint8_t *block, si
 uint64_t stomp_find(const uint8_t *block, size_t block_len, const uint8_t *name, size_t name_len);
 
 /* Encodes a frame: the command, the entries of the block in order, escaped where the command has
- * escapes, and the body. Where the body is not empty and no entry is named content-length, a line
- * with the body's length follows the entries.
+ * escapes, and the body. Where the body holds octet 0 and no entry is named content-length, a line
+ * with the body's length follows the entries: without it the body would end at that octet.
  *
  * The answer is the length of the encoded frame, or 2^16*code + index: the first of 50 to 56 that
  * fits, and the entry's index from 0 with 53, else index 0. The frame stands at the front of the
@@ -158,6 +163,11 @@ uint64_t stomp_find(const uint8_t *block, size_t block_len, const uint8_t *name,
  * `body` and `target` must not overlap. */
 uint64_t stomp_encode(uint32_t command, const uint8_t *block, size_t block_len, const uint8_t *body,
                       size_t body_len, uint8_t *target, size_t target_len);
+
+/* The same with options; with 0 it is stomp_encode. With STOMP_COUNTED the line is added wherever the
+ * body is not empty and no entry is named content-length. */
+uint64_t stomp_encode_with(uint32_t options, uint32_t command, const uint8_t *block, size_t block_len,
+                           const uint8_t *body, size_t body_len, uint8_t *target, size_t target_len);
 
 /* Readers of what stomp_parse answered. */
 
@@ -269,7 +279,7 @@ static inline size_t stomp_feed_offset(uint64_t answer)
     return stomp_feed_kind(answer) == STOMP_INVALID ? (size_t)(answer >> 26) : 0;
 }
 
-/* Readers of what stomp_decode and stomp_encode answered. */
+/* Readers of what stomp_decode, stomp_encode and stomp_encode_with answered. */
 
 /* Whether it was refused, and nothing is written. */
 static inline int stomp_refused(uint64_t answer)
@@ -283,7 +293,7 @@ static inline unsigned stomp_code(uint64_t answer)
     return (unsigned)(answer >> 16);
 }
 
-/* The index of the entry that stomp_encode refused with 53; else 0. */
+/* The index of the entry that encoding refused with 53; else 0. */
 static inline size_t stomp_index(uint64_t answer)
 {
     return stomp_refused(answer) ? (size_t)(answer & 0xffff) : 0;

@@ -66,6 +66,7 @@ static void add(struct block *b, const char *name, const uint8_t *value, size_t 
 int main(void)
 {
     static const char name[] = "port", where[] = "/ports/ice";
+    static const uint8_t text[] = "salt";
     static struct block read, reply;
     static uint8_t target[STOMP_MAX_FRAME];
 
@@ -101,6 +102,14 @@ int main(void)
         stop("encode", stomp_code(written), stomp_index(written));
     printf("wrote a frame of %zu octets\n", stomp_length(written));
     print_octets(target, stomp_length(written));
+
+    /* A body without octet 0 needs no line with its length; an option asks for one. */
+    written = stomp_encode(STOMP_COMMAND_SEND, reply.octets, reply.length, text, sizeof text - 1, target,
+                           sizeof target);
+    printf("with the body salt it has %zu octets", stomp_length(written));
+    written = stomp_encode_with(STOMP_COUNTED, STOMP_COMMAND_SEND, reply.octets, reply.length, text,
+                                sizeof text - 1, target, sizeof target);
+    printf(", and %zu where its length is asked for\n", stomp_length(written));
 
     /* What a refusal looks like: a command without a body, and octets that begin no frame. */
     written = stomp_encode(STOMP_COMMAND_ACK, reply.octets, reply.length, body, body_length, target,

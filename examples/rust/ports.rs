@@ -53,6 +53,19 @@ fn main() -> Result<(), Refusal> {
     println!("wrote a frame of {written} octets");
     println!("{}", shown(&target[..written]));
 
+    // A body without octet 0 needs no line with its length; an option asks for one.
+    let plain = stomp::encode(stomp::COMMAND_SEND, &reply, b"salt", &mut target)?;
+    let counted = stomp::encode_with(
+        stomp::COUNTED,
+        stomp::COMMAND_SEND,
+        &reply,
+        b"salt",
+        &mut target,
+    )?;
+    println!(
+        "with the body salt it has {plain} octets, and {counted} where its length is asked for"
+    );
+
     // What a refusal looks like: a command without a body, and octets that begin no frame.
     if let Err(refusal) = stomp::encode(stomp::COMMAND_ACK, &reply, body, &mut target) {
         println!("as an ACK it is refused with {}", refusal.code);

@@ -25,6 +25,9 @@ pub const COMMAND_STOMP: u32 = 13;
 pub const COMMAND_SUBSCRIBE: u32 = 14;
 pub const COMMAND_UNSUBSCRIBE: u32 = 15;
 
+/// The option of `encode_with`: a line with the body's length also where the body holds no octet 0.
+pub const COUNTED: u32 = 1;
+
 /// The numbers of `parse`: what the octet at the place does. Where several fit one octet, the first of
 /// 1, 2, 10, 3, 8, 9, 4, 5, 6, 7 that fits is given.
 pub const INVALID_COMMAND: u32 = 1; // leaves no command, and begins no heart-beat
@@ -53,7 +56,8 @@ mod library {
             name: *const u8,
             name_len: usize,
         ) -> u64;
-        pub fn stomp_encode(
+        pub fn stomp_encode_with(
+            options: u32,
             command: u32,
             block: *const u8,
             block_len: usize,
@@ -150,15 +154,28 @@ pub fn find<'a>(block: &'a [u8], name: &[u8]) -> Result<Option<&'a [u8]>, Refusa
     }
 }
 
-/// Writes a frame; its length.
+/// Writes a frame; its length. A line with the body's length is added where the body holds octet 0 and
+/// no entry is named content-length.
 pub fn encode(
     command: u32,
     block: &[u8],
     body: &[u8],
     target: &mut [u8],
 ) -> Result<usize, Refusal> {
+    encode_with(0, command, block, body, target)
+}
+
+/// The same with options.
+pub fn encode_with(
+    options: u32,
+    command: u32,
+    block: &[u8],
+    body: &[u8],
+    target: &mut [u8],
+) -> Result<usize, Refusal> {
     length(unsafe {
-        library::stomp_encode(
+        library::stomp_encode_with(
+            options,
             command,
             block.as_ptr(),
             block.len(),
