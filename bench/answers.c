@@ -277,6 +277,8 @@ static void check_null(void)
     right = right && stomp_feed(state, sizeof state, buffer, sizeof buffer, NULL, 0) == STOMP_INCOMPLETE;
     right = right && stomp_code(stomp_encode(STOMP_COMMAND_ACK, NULL, 0, NULL, 0, NULL, 0)) ==
                          STOMP_ENCODE_SHORT_TARGET;
+    right = right && stomp_code(stomp_encode_with(STOMP_COUNTED, STOMP_COMMAND_ACK, NULL, 0, NULL, 0, NULL, 0)) ==
+                         STOMP_ENCODE_SHORT_TARGET;
     right = right && stomp_encode(STOMP_COMMAND_ACK, NULL, 0, NULL, 0, image, sizeof image) == sizeof ack;
     if (!right || memcmp(image, ack, sizeof ack) != 0) {
         fprintf(stderr, "bench: an empty slice with the null pointer has another answer\n");

@@ -1,7 +1,7 @@
 /* Parsing, decoding, encoding and looking up of STOMP 1.2 items by hand, to compare the proved calls with.
  *
- * The answers are packed as those of stomp_parse, stomp_decode, stomp_encode and stomp_find, and a refusal
- * writes nothing. */
+ * The answers are packed as those of stomp_parse, stomp_decode, stomp_encode_with and stomp_find, and a
+ * refusal writes nothing. */
 #ifndef BASELINE_H
 #define BASELINE_H
 
@@ -20,13 +20,14 @@ uint64_t baseline_decode(const uint8_t *frame, size_t length, uint8_t *block, si
 /* The same with memchr and memcpy, as one who wants speed would write it. */
 uint64_t baseline_decode_memchr(const uint8_t *frame, size_t length, uint8_t *block, size_t block_length);
 
-/* Goes over the block once for its records, once to measure and once to write. */
-uint64_t baseline_encode(uint32_t command, const uint8_t *block, size_t block_length, const uint8_t *body,
-                         size_t body_length, uint8_t *target, size_t target_length);
+/* Goes over the block once for its records, once to measure and once to write; looks for octet 0 in the
+ * body with memchr, where that decides. */
+uint64_t baseline_encode_with(uint32_t options, uint32_t command, const uint8_t *block, size_t block_length,
+                              const uint8_t *body, size_t body_length, uint8_t *target, size_t target_length);
 
 /* The same, but texts without an octet that is escaped are copied by memcpy. */
-uint64_t baseline_encode_memcpy(uint32_t command, const uint8_t *block, size_t block_length, const uint8_t *body,
-                                size_t body_length, uint8_t *target, size_t target_length);
+uint64_t baseline_encode_memcpy(uint32_t options, uint32_t command, const uint8_t *block, size_t block_length,
+                                const uint8_t *body, size_t body_length, uint8_t *target, size_t target_length);
 
 /* Goes over the block once. */
 uint64_t baseline_find(const uint8_t *block, size_t block_length, const uint8_t *name, size_t name_length);

@@ -23,7 +23,8 @@ static void check_written(void)
         put_parts(&block, e->input, WRITTEN_PARTS);
         put_parts(&body, e->body, 1);
         put_parts(&image, e->image, WRITTEN_PARTS);
-        struct call c = {e->encodes, e->command, block.octets, block.length, body.octets, body.length};
+        struct call c = {e->encodes,   e->options,  e->command, block.octets,
+                         block.length, body.octets, body.length};
         uint64_t answer = try_call(&c);
         if (stomp_code(answer) != e->code || stomp_index(answer) != e->index ||
             stomp_length(answer) != image.length || memcmp(last_written(), image.octets, image.length) != 0) {
@@ -34,8 +35,8 @@ static void check_written(void)
     printf("%zu written examples of decode and encode have theirs\n", written_example_count);
 }
 
-/* What an accepted call wrote is one frame, with the same body and entries, and behind these at most
- * the length that was added. */
+/* What an accepted call wrote is one frame, with the same body and entries, and after these at most the
+ * length, which is added only where the body holds octet 0 or the option asks for it. */
 static void check_image(const struct call *c, size_t length)
 {
     static uint8_t decoded[STOMP_MAX_BLOCK];
@@ -47,6 +48,8 @@ static void check_image(const struct call *c, size_t length)
         fail_call("what is written is not the frame", c);
     size_t used = stomp_length(decoders[BASELINE](last_written(), length, decoded, sizeof decoded));
     if (used != c->input_length) {
+        if (!(c->options & STOMP_COUNTED) && !memchr(c->body, 0, c->body_length))
+            fail_call("a length is added that is neither needed nor asked for", c);
         int count = snprintf(digits, sizeof digits, "%zu", c->body_length);
         uint8_t head[] = {72, 68, 0, 14, 0, (uint8_t)count};
         put(&block, head, sizeof head);
@@ -162,7 +165,23 @@ static void make_body(uint64_t *seed)
         break;
     default:
         if (random_between(seed, 0, 1))
-            put(&body, "\0\r\n:\\abcdefghijkl", random_between(seed, 1, 17));
+            put(&body, "\r\n:\\abcdefghijkl", random_between(seed, 1, 16));
+    }
+    /* Octet 0 first, last, somewhere, or alone. */
+    switch (body.length > 0 ? random_between(seed, 0, 7) : 7) {
+    case 0:
+        body.octets[0] = 0;
+        break;
+    case 1:
+        body.octets[body.length - 1] = 0;
+        break;
+    case 2:
+        body.octets[random_between(seed, 0, body.length - 1)] = 0;
+        break;
+    case 3:
+        body.length = 0;
+        put(&body, "", 1);
+        break;
     }
 }
 
@@ -187,7 +206,10 @@ static void check_made(uint64_t *seed)
             damage(&block, seed);
         if (random_between(seed, 0, 63) == 0)
             block.length = random_between(seed, 0, block.length);
-        struct call c = {true, command, block.octets, block.length, body.octets, body.length};
+        uint32_t options = (uint32_t)random_between(seed, 0, 1);
+        if (random_between(seed, 0, 7) == 0)
+            options |= (uint32_t)random_next(seed) << 1;
+        struct call c = {true, options, command, block.octets, block.length, body.octets, body.length};
         uint64_t answer = try_call(&c);
         if (!stomp_refused(answer))
             check_image(&c, stomp_length(answer));

@@ -50,8 +50,11 @@ static uint64_t run(size_t who, const struct call *c, uint8_t *buffer, size_t le
     const uint8_t *input = input_end - c->input_length;
     if (!c->encodes)
         return decoders[who](input, c->input_length, buffer, length);
-    return encoders[who](c->command, input, c->input_length, body_end - c->body_length, c->body_length,
-                         buffer, length);
+    const uint8_t *body = body_end - c->body_length;
+    if (who == OURS && c->options == 0)
+        return stomp_encode(c->command, input, c->input_length, body, c->body_length, buffer, length);
+    return encoders[who](c->options, c->command, input, c->input_length, body, c->body_length, buffer,
+                         length);
 }
 
 static void lay_out(const struct call *c)
@@ -72,7 +75,8 @@ void fail_call(const char *what, const struct call *c)
                 stomp_code(answer), stomp_index(answer));
     }
     if (c->encodes)
-        fprintf(stderr, "  command %lu\n", (unsigned long)c->command);
+        fprintf(stderr, "  options %lu, command %lu\n", (unsigned long)c->options,
+                (unsigned long)c->command);
     show_octets(c->encodes ? "the block" : "the frame", c->input, c->input_length);
     if (c->encodes)
         show_octets("the body", c->body, c->body_length);
@@ -149,6 +153,7 @@ static void try_damaged(const struct call *c)
 {
     static struct row made;
     struct call changed = *c;
+    changed.options = (uint32_t)random_between(&seed, 0, 3);
     switch (random_between(&seed, 0, 5)) {
     case 0:
         changed.command = (uint32_t)random_between(&seed, 0, 17);
@@ -177,13 +182,17 @@ void try_buffers(const uint8_t *octets, size_t length)
     uint64_t frame = parsers[BASELINE](octets, length);
     memcpy(block, written, stomp_length(decoded));
     struct call encode = {true,
+                          0,
                           stomp_parse_command(frame),
                           block,
                           stomp_length(decoded),
                           octets + stomp_parse_body(frame),
                           stomp_parse_body_length(frame)};
-    uint64_t encoded = try_call(&encode);
-    if (stomp_refused(encoded) && stomp_code(encoded) != STOMP_ENCODE_LINE_COUNT)
+    if (stomp_refused(try_call(&encode)))
+        fail_call("a frame that was read is refused", &encode);
+    encode.options = STOMP_COUNTED;
+    uint64_t counted = try_call(&encode);
+    if (stomp_refused(counted) && stomp_code(counted) != STOMP_ENCODE_LINE_COUNT)
         fail_call("a frame that was read is refused", &encode);
     try_damaged(&encode);
 }

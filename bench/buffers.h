@@ -9,6 +9,7 @@
 /* A call of decode, whose input is a frame, or of encode, whose input is a block. */
 struct call {
     bool encodes;
+    uint32_t options;
     uint32_t command;
     const uint8_t *input;
     size_t input_length;

@@ -7,8 +7,8 @@
 
 typedef uint64_t parser(const uint8_t *octets, size_t length);
 typedef uint64_t decoder(const uint8_t *frame, size_t length, uint8_t *block, size_t block_length);
-typedef uint64_t encoder(uint32_t command, const uint8_t *block, size_t block_length, const uint8_t *body,
-                         size_t body_length, uint8_t *target, size_t target_length);
+typedef uint64_t encoder(uint32_t options, uint32_t command, const uint8_t *block, size_t block_length,
+                         const uint8_t *body, size_t body_length, uint8_t *target, size_t target_length);
 
 typedef uint64_t finder(const uint8_t *block, size_t block_length, const uint8_t *name, size_t name_length);
 

@@ -7,7 +7,7 @@
 #include "rules.h"
 
 #ifdef WITH_MEMCPY
-#define baseline_encode baseline_encode_memcpy
+#define baseline_encode_with baseline_encode_memcpy
 #endif
 
 /* The letter that stands for an octet behind a backslash, or 0. */
@@ -136,15 +136,23 @@ static uint8_t *put_decimal(uint8_t *to, size_t n)
     return to + length;
 }
 
-uint64_t baseline_encode(uint32_t command, const uint8_t *block, size_t block_length, const uint8_t *body,
-                         size_t body_length, uint8_t *target, size_t target_length)
+/* Whether a line with the body's length is added. */
+static bool adds_length(uint32_t options, const struct entries *e, const uint8_t *body, size_t body_length)
+{
+    if (body_length == 0 || e->content_length > 0)
+        return false;
+    return (options & STOMP_COUNTED) || memchr(body, 0, body_length);
+}
+
+uint64_t baseline_encode_with(uint32_t options, uint32_t command, const uint8_t *block, size_t block_length,
+                              const uint8_t *body, size_t body_length, uint8_t *target, size_t target_length)
 {
     struct entries e = {0, 0, 0};
     if (command < 1 || command > COMMANDS)
         return refused(STOMP_ENCODE_COMMAND, 0);
     if (!read_block(block, block_length, &e))
         return refused(STOMP_ENCODE_MALFORMED, 0);
-    bool added = body_length > 0 && e.content_length == 0;
+    bool added = adds_length(options, &e, body, body_length);
     if (e.count + added > STOMP_MAX_LINES)
         return refused(STOMP_ENCODE_LINE_COUNT, 0);
     bool escapes = has_escapes(command);

@@ -49,7 +49,7 @@ static const size_t measured = COMPARED;
 
 parser *const parsers[VARIANTS] = {stomp_parse, baseline_parse, baseline_parse_memchr, before_parse};
 decoder *const decoders[VARIANTS] = {stomp_decode, baseline_decode, baseline_decode_memchr, before_decode};
-encoder *const encoders[VARIANTS] = {stomp_encode, baseline_encode, baseline_encode_memcpy, before_encode};
+encoder *const encoders[VARIANTS] = {stomp_encode_with, baseline_encode_with, baseline_encode_memcpy, before_encode};
 finder *const finders[PAIR] = {stomp_find, baseline_find};
 const char *const names[VARIANTS] = {"ours", "baseline", "memchr", "before"};
 
@@ -161,7 +161,7 @@ static uint64_t encode_pass(const struct work *w, size_t who)
     uint64_t sum = 0;
     for (size_t i = 0; i < w->stream->items; i++) {
         const struct frame *f = &w->frames[i];
-        uint64_t answer = encode(f->command, f->block, f->block_length, f->body, f->body_length, target,
+        uint64_t answer = encode(0, f->command, f->block, f->block_length, f->body, f->body_length, target,
                                  sizeof target);
         if (stomp_refused(answer))
             no_result(w, "encode", (size_t)(f->octets - w->stream->octets));

@@ -1,8 +1,11 @@
 /* The written examples of decode and encode. */
 #include "written.h"
 
+#include "../include/stomp.h"
+
 #define DECODE(...) .input = {__VA_ARGS__}
 #define ENCODE(number, ...) .encodes = true, .command = number, .input = {__VA_ARGS__}
+#define COUNTED(number, ...) .options = STOMP_COUNTED, ENCODE(number, __VA_ARGS__)
 #define BODY(part) .body = {part}
 #define GIVES(...) .image = {__VA_ARGS__}
 #define IS_REFUSED(number) .code = number
@@ -54,7 +57,23 @@ const struct written_example written_examples[] = {
     {"P6 again",
      ENCODE(12, T(HEAD("\0\13", "\0\2") "destination/p")),
      BODY(T("ok")),
+     GIVES(T("SEND\ndestination:/p\n\nok\0"))},
+    {"P6 again, counted",
+     COUNTED(12, T(HEAD("\0\13", "\0\2") "destination/p")),
+     BODY(T("ok")),
      GIVES(T("SEND\ndestination:/p\ncontent-length:2\n\nok\0"))},
+    {"counted, of no body", COUNTED(12, T("")), GIVES(T("SEND\n\n\0"))},
+    {"counted, and a content-length",
+     COUNTED(12, T(LENGTH_ENTRY("\0\2", "02"))),
+     BODY(T("ok")),
+     GIVES(T("SEND\ncontent-length:02\n\nok\0"))},
+    {"octet 0 first", ENCODE(12, T("")), BODY(T("\0ok")), GIVES(T("SEND\ncontent-length:3\n\n\0ok\0"))},
+    {"octet 0 last", ENCODE(9, T("")), BODY(T("ok\0")), GIVES(T("MESSAGE\ncontent-length:3\n\nok\0\0"))},
+    {"octet 0 alone", ENCODE(8, T("")), BODY(T("\0")), GIVES(T("ERROR\ncontent-length:1\n\n\0\0"))},
+    {"octet 0 alone, counted",
+     COUNTED(8, T("")),
+     BODY(T("\0")),
+     GIVES(T("ERROR\ncontent-length:1\n\n\0\0"))},
     {"P7 again", ENCODE(2, T(HEAD("\0\2", "\0\3") "ida:b")), GIVES(T("ACK\nid:a\\cb\n\n\0"))},
     {"P10 again",
      ENCODE(12, T(LENGTH_ENTRY("\0\1", "1"))),
@@ -87,8 +106,12 @@ const struct written_example written_examples[] = {
     {"a line of 512 with an escape",
      ENCODE(12, T(HEAD("\0\1", "\1\375") ":"), N(509, "b")),
      GIVES(T("SEND\n\\c:"), N(509, "b"), T("\n\n\0"))},
+    {"32 entries and a body",
+     ENCODE(12, N(32, HEAD("\0\1", "\0\1") "ab")),
+     BODY(T("ok")),
+     GIVES(T("SEND\n"), N(32, "a:b\n"), T("\nok\0"))},
     {"32 lines, the added one counted",
-     ENCODE(12, N(31, HEAD("\0\1", "\0\1") "ab")),
+     COUNTED(12, N(31, HEAD("\0\1", "\0\1") "ab")),
      BODY(T("ok")),
      GIVES(T("SEND\n"), N(31, "a:b\n"), T("content-length:2\n\nok\0"))},
     {"32 entries, one of them content-length",
@@ -97,6 +120,10 @@ const struct written_example written_examples[] = {
      GIVES(T("SEND\n"), N(31, "a:b\n"), T("content-length:2\n\nok\0"))},
     {"a body of 32768",
      ENCODE(9, T("")),
+     BODY(N(32768, "b")),
+     GIVES(T("MESSAGE\n\n"), N(32768, "b"), T("\0"))},
+    {"a body of 32768, counted",
+     COUNTED(9, T("")),
      BODY(N(32768, "b")),
      GIVES(T("MESSAGE\ncontent-length:32768\n\n"), N(32768, "b"), T("\0"))},
 
@@ -111,13 +138,16 @@ const struct written_example written_examples[] = {
     {"malformed behind 33 entries", ENCODE(2, N(33, HEAD("\0\1", "\0\1") "ab"), T("H")), IS_REFUSED(51)},
     {"33 entries, none with a name", ENCODE(2, N(33, HEAD("\0\0", "\0\1") "b")), IS_REFUSED(52)},
     {"32 entries and a length to add",
-     ENCODE(12, N(32, HEAD("\0\1", "\0\1") "ab")),
+     COUNTED(12, N(32, HEAD("\0\1", "\0\1") "ab")),
      BODY(T("ok")),
      IS_REFUSED(52)},
-    {"the same where no body is allowed",
+    {"32 entries and octet 0", ENCODE(12, N(32, HEAD("\0\1", "\0\1") "ab")), BODY(T("\0")), IS_REFUSED(52)},
+    {"32 entries and a body not allowed",
      ENCODE(2, N(32, HEAD("\0\1", "\0\1") "ab")),
-     BODY(T("ok")),
-     IS_REFUSED(52)},
+     BODY(T("x")),
+     IS_REFUSED(54)},
+    {"the same, counted", COUNTED(2, N(32, HEAD("\0\1", "\0\1") "ab")), BODY(T("x")), IS_REFUSED(52)},
+    {"the same with octet 0", ENCODE(2, N(32, HEAD("\0\1", "\0\1") "ab")), BODY(T("\0")), IS_REFUSED(52)},
     {"an empty name", ENCODE(2, T(HEAD("\0\1", "\0\1") "ab" HEAD("\0\0", "\0\1") "b")), ENTRY_IS_REFUSED(1)},
     {"the last of 32",
      ENCODE(12, N(31, HEAD("\0\1", "\0\1") "ab"), T(HEAD("\0\0", "\0\1") "b")),

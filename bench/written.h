@@ -14,6 +14,7 @@ enum { WRITTEN_PARTS = 5 };
 struct written_example {
     const char *what;
     bool encodes;
+    uint32_t options;
     uint32_t command;
     struct part input[WRITTEN_PARTS];
     struct part body[1];

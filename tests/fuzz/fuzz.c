@@ -4,7 +4,7 @@
  *
  *   0 parse    octets; with the fourth bit they are fed in pieces, see feed.c
  *   1 decode   room 2, frame
- *   2 encode   command 4, room 2, body length 2, body, block
+ *   2 encode   options 4, command 4, room 2, body length 2, body, block
  *   3 find     name length 2, name, block
  *
  * A number that is missing is 0, and a slice is not longer than what is left. With the fourth bit
@@ -29,6 +29,7 @@ enum { NAME_END = 254, ENTRY_END = 255 };
 
 struct call {
     unsigned which;
+    uint32_t options;
     uint32_t command;
     const uint8_t *read[BUFFER];
     size_t length[SLICES];
@@ -46,9 +47,10 @@ static bool at_end;
 static void fail(const char *what, const struct call *c, uint64_t ours, uint64_t other)
 {
     static const char *const names[] = {"parse", "decode", "encode", "find"};
-    fprintf(stderr, "fuzz: %s: %s: ours %#llx, the other %#llx; command %lu, lengths %zu %zu, room %zu\n",
+    fprintf(stderr, "fuzz: %s: %s: ours %#llx, the other %#llx; options %lu, command %lu, lengths %zu %zu, room %zu\n",
             names[c->which], what, (unsigned long long)ours, (unsigned long long)other,
-            (unsigned long)c->command, c->length[FIRST], c->length[SECOND], c->length[BUFFER]);
+            (unsigned long)c->options, (unsigned long)c->command, c->length[FIRST], c->length[SECOND],
+            c->length[BUFFER]);
     abort();
 }
 
@@ -97,8 +99,12 @@ static uint64_t call_ours(const struct call *c)
         answer = stomp_decode(s[FIRST], c->length[FIRST], s[BUFFER], c->length[BUFFER]);
         break;
     case ENCODE:
-        answer = stomp_encode(c->command, s[FIRST], c->length[FIRST], s[SECOND], c->length[SECOND], s[BUFFER],
-                              c->length[BUFFER]);
+        if (c->options == 0)
+            answer = stomp_encode(c->command, s[FIRST], c->length[FIRST], s[SECOND], c->length[SECOND],
+                                  s[BUFFER], c->length[BUFFER]);
+        else
+            answer = stomp_encode_with(c->options, c->command, s[FIRST], c->length[FIRST], s[SECOND],
+                                       c->length[SECOND], s[BUFFER], c->length[BUFFER]);
         break;
     case FIND:
         answer = stomp_find(s[FIRST], c->length[FIRST], s[SECOND], c->length[SECOND]);
@@ -170,8 +176,8 @@ static uint64_t agreed(const struct call *c)
         other = baseline_decode(first.octets, c->length[FIRST], buffer.octets, room);
         break;
     case ENCODE:
-        other = baseline_encode(c->command, first.octets, c->length[FIRST], second.octets, c->length[SECOND],
-                                buffer.octets, room);
+        other = baseline_encode_with(c->options, c->command, first.octets, c->length[FIRST], second.octets,
+                                     c->length[SECOND], buffer.octets, room);
         break;
     case FIND:
         other = plain_find(first.octets, c->length[FIRST], second.octets, c->length[SECOND]);
@@ -281,8 +287,10 @@ int LLVMFuzzerTestOneInput(const uint8_t *octets, size_t length)
         fuzz_feed(r.octets, r.length);
         return 0;
     }
-    if (c.which == ENCODE)
+    if (c.which == ENCODE) {
+        c.options = take_number(&r, 4);
         c.command = take_number(&r, 4);
+    }
     if (c.which == DECODE || c.which == ENCODE)
         c.length[BUFFER] = take_number(&r, 2);
     if (c.which == ENCODE || c.which == FIND)

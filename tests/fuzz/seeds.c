@@ -1,7 +1,7 @@
 /* Writes inputs of fuzz.c made of streams: seeds DIRECTORY STREAM.. Each stream is fed in pieces, in some
  * ways. For each item one input that parses; for each frame also ones that decode it, encode what it
- * holds, and find its first two names and one that it does not have. They are read with the baseline. A
- * block is there as it is and as the text that fuzz.c makes it of. */
+ * holds, with the option and without, and find its first two names and one that it does not have. They
+ * are read with the baseline. A block is there as it is and as the text that fuzz.c makes it of. */
 #include <stdio.h>
 #include <stdlib.h>
 #include <string.h>
@@ -93,12 +93,15 @@ static void write_frame(const uint8_t *frame, uint64_t parsed)
     put_number(sizeof block, 2);
     put(frame, stomp_parse_used(parsed));
     finish();
-    begin(ENCODE);
-    put_number(stomp_parse_command(parsed), 4);
-    put_number(STOMP_MAX_FRAME, 2);
-    put_number(stomp_parse_body_length(parsed), 2);
-    put(frame + stomp_parse_body(parsed), stomp_parse_body_length(parsed));
-    finish_with(block, used);
+    for (unsigned options = 0; options <= STOMP_COUNTED; options++) {
+        begin(ENCODE);
+        put_number(options, 4);
+        put_number(stomp_parse_command(parsed), 4);
+        put_number(STOMP_MAX_FRAME, 2);
+        put_number(stomp_parse_body_length(parsed), 2);
+        put(frame + stomp_parse_body(parsed), stomp_parse_body_length(parsed));
+        finish_with(block, used);
+    }
     for (int i = 0; i < 2 && at < used; i++) {
         size_t name = number_at(block + at + 2);
         write_find(block + at + HEAD, name, block, used);

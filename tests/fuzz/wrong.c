@@ -6,6 +6,8 @@ uint64_t right_decode(const uint8_t *frame, size_t frame_len, uint8_t *block, si
 uint64_t right_find(const uint8_t *block, size_t block_len, const uint8_t *name, size_t name_len);
 uint64_t right_feed(uint8_t *state, size_t state_len, uint8_t *buffer, size_t buffer_len, const uint8_t *piece,
                     size_t piece_len);
+uint64_t right_encode_with(uint32_t options, uint32_t command, const uint8_t *block, size_t block_len,
+                           const uint8_t *body, size_t body_len, uint8_t *target, size_t target_len);
 uint64_t right_encode(uint32_t command, const uint8_t *block, size_t block_len, const uint8_t *body,
                       size_t body_len, uint8_t *target, size_t target_len);
 
@@ -47,6 +49,17 @@ uint64_t stomp_encode(uint32_t command, const uint8_t *block, size_t block_len, 
     if (WRONG == 7 && stomp_code(answer) == STOMP_ENCODE_BODY && target_len > 0)
         target[0]++;
     return answer;
+}
+
+/* 13: does not look at the option; 14: takes every option for it. */
+uint64_t stomp_encode_with(uint32_t options, uint32_t command, const uint8_t *block, size_t block_len,
+                           const uint8_t *body, size_t body_len, uint8_t *target, size_t target_len)
+{
+    if (WRONG == 13)
+        options = 0;
+    if (WRONG == 14)
+        options = STOMP_COUNTED;
+    return right_encode_with(options, command, block, block_len, body, body_len, target, target_len);
 }
 
 /* 8: takes the octet that is refused; 9: goes on after a refusal; 10: writes an octet behind what it takes;
