@@ -4,6 +4,7 @@
 --     claims-parsed    what a reply claims holds of no reply but `parsed`
 --     exact-once       no two replies are exact
 --     decodes-once     no two answers and blocks are what decoding gives
+--     encodes-once     no two answers and targets are what encoding gives
 --     body-back        the octets at the start and of the length that are told of a frame are its body
 use mathlib.Core.Path.{_≡_, refl, sym, _∙_, ap}
 use mathlib.Core.Bool.{Bool, true, false}
@@ -21,6 +22,7 @@ use Rattle.frames.specs.Parsing.{parsed}
 use Rattle.frames.specs.Refusals.{Reason, fits, order, numbered, number-of, refusal, First}
 use Rattle.frames.specs.Exactness.{Claims, Exact}
 use Rattle.frames.specs.Decoding.{decode-answer, decoded-records, tree-entries, Decodes}
+use Rattle.frames.specs.Encoding.{Call, Encoding, Encodes}
 use Rattle.frames.proofs.Table.{at-refused}
 use Rattle.frames.proofs.Exact.{exact}
 use Rattle.frames.proofs.Readings.{reading-once}
@@ -59,6 +61,10 @@ module _ (ver : Version) where
         d .answered ∙ ap (decode-answer (length before)) same ∙ sym (e .answered),
         d .written ∙ ap (λ o. left-in (decode-answer (length before) o) (decoded-records o) before) same ∙ sym (e .written),
       )
+
+  -- no two answers and targets are what encoding gives
+  pub encodes-once : {k : Call} {before : List ℕ} {a b : Encoding} {y z : List ℕ} → Encodes ver k before a y → Encodes ver k before b z → (a ≡ b) × (y ≡ z)
+  encodes-once d e = (d .answered ∙ sym (e .answered), d .written ∙ sym (e .written))
 
   -- the numbers that are told of a frame cut its body
   pub body-back : (h : Head) (e : Bool) (b rest : List ℕ) → take (length b) (drop (length (head h ++ end e)) (octets (frame h e b) ++ rest)) ≡ b
