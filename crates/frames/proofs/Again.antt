@@ -3,7 +3,7 @@
 --     one                     what parsing told: the octets are one frame
 --     call-again, again-is    the call with what parse and decode gave is the call of the frame's tree
 --     again-refused           it is refused only with 52 or 56
---     again-refused-default   without the mark only with 56
+--     again-refused-default   not counted, only with 56
 --     front-is                the first octets of the target, as many as encode answered, are the image
 --     front-parsed            parsing them is Complete, with the numbers of the call
 --     front-decoded           decoding them gives the block's entries and the added one, and nothing else
@@ -43,7 +43,7 @@ decode-length room m es e = by (ltb room (length (image es))) (any too-long es) 
     by false false e = cc
 
 module _ (ver : Version) {xs before after : List ℕ} {c n s l m : ℕ} (o : every is-octet xs ≡ true) (p : parsed ver xs ≡ Complete 2 (length xs) c n s l) (d : Decodes ver xs before (accepted (m ∷ [])) after) where
-  -- the call with what parse and decode gave, with the mark or without
+  -- the call with what parse and decode gave, counted or not
   abbrev pub call-again : Bool → Call
   call-again counted = record { command = c; block = take m after; body = take l (drop s xs); counted = counted }
 
@@ -68,7 +68,7 @@ module _ (ver : Version) {xs before after : List ℕ} {c n s l m : ℕ} (o : eve
       ⊎ ((k ≡ 56) × (room < length (encode-image ver (call-of ver (one .h) (one .b) counted))))
   again-refused counted room k r = rewrite-refused-only ver (one .h) (one .e) (one .b) (one .valid) counted room k (ap (λ z. encode-answer ver z room) (sym (again-is counted)) ∙ r)
 
-  -- without the mark only with 56
+  -- not counted, only with 56
   pub again-refused-default : (room k : ℕ) → encode-answer ver (call-again false) room ≡ refused k → (k ≡ 56) × (room < length (encode-image ver (call-of ver (one .h) (one .b) false)))
   again-refused-default room k r = rewrite-refused-default ver (one .h) (one .e) (one .b) (one .valid) room k (ap (λ z. encode-answer ver z room) (sym (again-is false)) ∙ r)
 

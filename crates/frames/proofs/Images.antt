@@ -3,7 +3,7 @@
 --     Accepted, accepted-checks          what holds where no check fails
 --     Encoded, encoded-call              the same of a call, with its command and its entries
 --     zero-any                           whether a body holds octet 0
---     adds-counted                       with the mark the length line is added as document 01 has it
+--     adds-counted                       counted, the length line is added as document 01 has it
 --     image-valid                        the tree is valid
 --     image-octets-small                 what is written from octets is octets
 --     image-entries                      it decodes to the entries of the block and the added one, and nothing else
@@ -184,7 +184,7 @@ zero-any (suc x ∷ xs) = rw (eqb·zero-suc x, eqb·suc-zero x) (zero-any xs)
 no-zero : (xs : List ℕ) → any (eqb 0) xs ≡ false → every (λ x. not (eqb x 0)) xs ≡ true
 no-zero xs h = not-false _ (sym (zero-any xs) ∙ h)
 
--- with the mark the line is that of document 01: "If the body is not empty and no entry is named content-length"
+-- counted, the line is that of document 01: "If the body is not empty and no entry is named content-length"
 pub adds-counted : (es : List Entry) (body : List ℕ) → adds-length es body true ≡ not (empty body) && not (any is-length es)
 adds-counted es [] = and-no (not (any is-length es))
 adds-counted es (x ∷ body) = rw or-yes (and-yes (not (any is-length es)))

@@ -1,12 +1,12 @@
 -- A frame that was read and is encoded again. Assumes nothing.
 --     rewrite-answer             of the checks only 52 and 56 can fail
 --     rewrite-refused-only       52 only where 32 lines were read and one is added
---     adds-none                  without the mark none is added: the body holds octet 0 only where a content-length is
---     rewrite-refused-default    so without it only 56 is given
+--     adds-none                  not counted, none is added: the body holds octet 0 only where a content-length is
+--     rewrite-refused-default    so then only 56 is given
 --     rewrite-image              written are the names, values and body that were read, with line ends of octet 10, and the added line
 --     rewrite-reading            which is what it is read as again
 --     decode-again, decode-same  its entries are those that were read, and the added one
---     decode-default             without the mark they are those that were read
+--     decode-default             not counted, they are those that were read
 use mathlib.Core.Path.{_≡_, refl, sym, _∙_, ap, ap₂, subst}
 use mathlib.Core.Logic.{_⊎_, inl, inr, ⊎-map, ⊎-elim}
 use mathlib.Core.Bool.{Bool, true, false, cond, _&&_, not}
@@ -40,7 +40,7 @@ use Rattle.frames.proofs.Commands.{each-same}
 use Rattle.frames.proofs.Named.{declared-decoded, declared-named}
 use Rattle.frames.proofs.Images.{zero-any, raw-of, image-head, image-octets, length-line, raw-length, decode-digits, accepted-checks, image-valid, image-octets-small, image-entries}
 
--- the call that encodes a frame's head and body again, with the mark or without
+-- the call that encodes a frame's head and body again, counted or not
 abbrev pub call-of : Version → Head → List ℕ → Bool → Call
 call-of ver h b counted = record { command = number (h .command); block = image (head-entries ver h); body = b; counted = counted }
 
@@ -94,7 +94,7 @@ body-says s m (some v) b l h =
     let n = decimal 0 v in
     (omega (arith, l .small), rw (decode-digits s v (l .digits), empty-not v (l .some-digit), l .digits, h, le-leb n n (omega arith), eq-eqb n n refl))
 
--- without the mark a line is added only where no entry says a length and the body holds octet 0: never where a frame was read
+-- not counted, a line is added only where no entry says a length and the body holds octet 0: never where a frame was read
 none-added : (s : Style) (m : ℕ) (es : List Entry) (d : Option (List ℕ)) (b : List ℕ) → first-length es ≡ Option·map (decode s) d → BodyOk m d b → adds-length es b false ≡ false
 none-added s m es none b f h = rw (zero-any b, h .1) (and-no (not (any is-length es)))
 none-added s m es (some v) b f h = rw (any-value content-length es (decode s v) f)
@@ -186,7 +186,7 @@ module _ (ver : Version) (h : Head) (e : Bool) (b : List ℕ) (v : Valid ver (fr
       let s = style ver (h .command) in
       first-decoded s (h .entries) ∙ ap (Option·map (decode s)) (declared-named s (h .entries) (v .0 .0 .each))
 
-  -- without the mark no line is added: the body holds octet 0 only where a content-length is
+  -- not counted, no line is added: the body holds octet 0 only where a content-length is
   pub adds-none : adds-length (head-entries ver h) b false ≡ false
   adds-none = none-added (style ver (h .command)) (most (h .command)) (head-entries ver h) (declared (h .entries)) b first-said (v .0 .1)
 

@@ -19,7 +19,7 @@ use Rattle.frames.specs.Decoding.{decode-answer, decoded-records, tree-e
 use Rattle.frames.specs.Encoding.{Call, encode-answer, encode-image}
 
 -- An example: its label, octets, and what parsing them replies. Where the documents say it, also the header block that
--- they decode to and its length; the images that the frame is encoded to again, without the mark of C-16 (false) or with it (true), and
+-- they decode to and its length; the images that the frame is encoded to again, not counted (false) or counted (true, C-16), and
 -- their lengths; a header's name and its value in the block.
 pub record Example : Type 0 where
   pub label : String
@@ -93,7 +93,7 @@ DecodesTo es (n, xs) = (decode-answer n es ≡ accepted (n ∷ [])) × (decoded-
 abbrev pub EncodesTo : Call → ℕ × List ℕ → Type 0
 EncodesTo k (n, xs) = (encode-answer v1-2 k n ≡ accepted (n ∷ [])) × (encode-image v1-2 k ≡ xs)
 
--- the same of the call with the reply's command, the block, the body that the reply's numbers cut from the input, and the mark
+-- the same of the call with the reply's command, the block, the body that the reply's numbers cut from the input, counted or not
 abbrev pub EncodesAgain : List ℕ → Reply → List ℕ → Bool × ℕ × List ℕ → Type 0
 EncodesAgain input (Complete kind used command headers start len) block (counted, n, xs) =
     EncodesTo (record { command = command; block = block; body = take len (drop start input); counted = counted }) (n, xs)
