@@ -6,9 +6,10 @@ use Rattle.headers.specs.Rows.{All}
 use Rattle.headers.specs.Block.{entries, entries-within, at-record}
 use Rattle.headers.specs.Numbers.{evaluate, numeral, amount}
 use Rattle.headers.specs.Answers.{is-block}
+use Rattle.headers.specs.Parts.{split}
 use Rattle.sessions.specs.Stores.{ids, laid, clean, distinct, valid-store, first-from, replaced}
 use Rattle.sessions.specs.Deliveries.{with-pending, valid-deliveries}
-use Rattle.sessions.specs.Values.{split, is-item, versions, heart-beats}
+use Rattle.sessions.specs.Values.{is-item, versions, heart-beats}
 use Rattle.sessions.specs.Sessions.{is-valid}
 use Rattle.sessions.specs.Calls.{made, making-answer, frame-answer, frame-session, heart-beat-answer, heart-beat-session, timed-out-answer}
 use Rattle.sessions.specs.Calls.{deliver-answer, deliver-session}

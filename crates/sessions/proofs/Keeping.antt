@@ -20,9 +20,10 @@ use Rattle.headers.specs.Answers.{Answer, accepted, refused, settle}
 use Rattle.headers.proofs.Rows.{cond-case, and-left, and-right, or-false-left, or-false-right}
 use Rattle.headers.proofs.Decimals.{amount-record}
 use Rattle.frames.specs.Grammar.{DISCONNECT}
+use Rattle.headers.specs.Parts.{split}
 use Rattle.sessions.specs.Stores.{distinct, valid-store, used, use-checks}
 use Rattle.sessions.specs.Places.{Fits}
-use Rattle.sessions.specs.Values.{HeartBeats, heart-beat-max, both, heart-beats-in, heart-beats, split}
+use Rattle.sessions.specs.Values.{HeartBeats, heart-beat-max, both, heart-beats-in, heart-beats}
 use Rattle.sessions.specs.Opening.{may-offer, interval}
 use Rattle.sessions.specs.Headers.{value-of, is, opens, naming}
 use Rattle.sessions.specs.Sessions.{subscriptions-max, transactions-max, id-max, fresh-phase, open-phase, closed-phase, in-phase, fresh}

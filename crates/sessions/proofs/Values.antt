@@ -1,5 +1,4 @@
 -- Laws of header values with parts. Assumes nothing.
---     split-here, split-none                                        a row split at its first octet c, or where it has none
 --     digits-none, digits-some                                      whether a part is digits, at least one
 --     front, behind                                                 the parts before and after a place
 --     item-none, item-front, item-behind                            an item by its two numbers
@@ -11,75 +10,26 @@ use mathlib.Core.Logic.{_⊎_, inl, inr, ⊎-elim}
 use mathlib.Core.Bool.{Bool, true, false, cond, _&&_, _||_, not, or-assoc}
 use mathlib.Core.Option.{Option, none, some}
 use mathlib.Core.List.{List, [], _∷_}
-use Prim.Native.Nat.{ℕ, suc, _+_, _-_, _≤_, _<_}
+use Prim.Native.Nat.{ℕ, _+_, _-_, _≤_, _<_}
 use native.Mathlib.Omega.{arith}
 use lib.Dec.{eqb, ltb}
 use lib.ListN.{length, take, drop, replicate, length-drop}
-use lib.Seq.{drop-drop, take-all}
+use lib.Seq.{take-all}
 use borrow.Author.Tests.{eqb-true, ltb-true, ltb-false}
 use Rattle.headers.specs.Rows.{empty, every}
+use Rattle.headers.specs.Parts.{split, until, parts-from}
 use Rattle.headers.specs.Numbers.{is-digit, amount}
 use Rattle.headers.specs.Answers.{read-says}
 use Rattle.headers.specs.declared.decimal.DecimalRead.{DecimalRead}
 use Rattle.headers.proofs.Rows.{and-no, or-no}
-use Rattle.headers.specs.Stretches.{span}
-use Rattle.sessions.specs.Values.{onto, split, before, some-digits, two-numbers, is-item, counts, versions, heart-beat-max, both, heart-beats-in, heart-beats}
+use Rattle.headers.proofs.Parts.{split-first, part-last, part-next}
+use Rattle.sessions.specs.Values.{some-digits, two-numbers, is-item, counts, versions, heart-beat-max, both, heart-beats-in, heart-beats}
 use Rattle.sessions.specs.Opening.{flag}
 use Rattle.sessions.specs.Reads.{counted}
 
--- ## Splitting
+-- ## One part or several
 
 module _ (c : ℕ) where
-  -- at the first c
-  pub split-here : (xs : List ℕ) → before c xs < length xs → split c xs ≡ take (before c xs) xs ∷ split c (drop (before c xs + 1) xs)
-  unfolding split span
-  split-here [] h = absurd (omega arith)
-  split-here (x ∷ xs) h = by (eqb x c) h (split-here xs)
-    where
-      by : (t : Bool) → cond (not t) (1 + before c xs) 0 < suc (length xs) → (before c xs < length xs → split c xs ≡ take (before c xs) xs ∷ split c (drop (before c xs + 1) xs))
-          → cond t ([] ∷ split c xs) (onto x (split c xs)) ≡ take (cond (not t) (1 + before c xs) 0) (x ∷ xs) ∷ split c (drop (cond (not t) (1 + before c xs) 0 + 1) (x ∷ xs))
-      by true h go = refl
-      by false h go =
-          let one : 1 + before c xs ≡ suc (before c xs) = omega arith in
-          let two : 1 + before c xs + 1 ≡ suc (before c xs + 1) = omega arith in
-          rw (two, one) (ap (onto x) (go (omega arith)))
-
-  -- where there is none
-  pub split-none : (xs : List ℕ) → length xs ≤ before c xs → split c xs ≡ xs ∷ []
-  unfolding split span
-  split-none [] h = refl
-  split-none (x ∷ xs) h = by (eqb x c) h (split-none xs)
-    where
-      by : (t : Bool) → suc (length xs) ≤ cond (not t) (1 + before c xs) 0 → (length xs ≤ before c xs → split c xs ≡ xs ∷ [])
-          → cond t ([] ∷ split c xs) (onto x (split c xs)) ≡ (x ∷ xs) ∷ []
-      by true h go = absurd (omega arith)
-      by false h go = ap (onto x) (go (omega arith))
-
-  -- the part from place at to e, up to the next c or the end
-  module _ (v : List ℕ) (at e : ℕ) (is : e ≡ at + before c (drop at v)) where
-    part-last : length v ≤ e → split c (drop at v) ≡ take (e - at) (drop at v) ∷ []
-    part-last h =
-        let long : length (drop at v) ≤ e - at = simp length-drop (omega arith) in
-        split-none (drop at v) (omega (arith, length-drop at v)) ∙ ap (_∷ []) (sym (take-all (e - at) (drop at v) long))
-
-    part-next : e < length v → split c (drop at v) ≡ take (e - at) (drop at v) ∷ split c (drop (e + 1) v)
-    part-next h =
-        let to : before c (drop at v) ≡ e - at = omega arith in
-        let on : at + (before c (drop at v) + 1) ≡ e + 1 = omega arith in
-        split-here (drop at v) (omega (arith, length-drop at v))
-        ∙ ap₂ (λ n xs. take n (drop at v) ∷ split c xs) to (drop-drop (before c (drop at v) + 1) at v ∙ ap (λ k. drop k v) on)
-
-  -- there is a first part
-  some-part : (xs : List ℕ) → (p : List ℕ) × (ps : List (List ℕ)) × (split c xs ≡ p ∷ ps)
-  unfolding split
-  some-part [] = ([], [], refl)
-  some-part (x ∷ xs) = by (eqb x c) (some-part xs)
-    where
-      by : (t : Bool) → (p : List ℕ) × (ps : List (List ℕ)) × (split c xs ≡ p ∷ ps)
-          → (p : List ℕ) × (ps : List (List ℕ)) × (cond t ([] ∷ split c xs) (onto x (split c xs)) ≡ p ∷ ps)
-      by true (p, ps, e) = ([], split c xs, refl)
-      by false (p, ps, e) = (x ∷ p, ps, ap (onto x) e)
-
   -- a row of several parts, where c is no digit, is no digits
   record Several (xs : List ℕ) : Type 0 where
     pub first : List ℕ
@@ -96,8 +46,9 @@ module _ (c : ℕ) where
     where
       by : (t : Bool) → eqb x c ≡ t → (split c xs ≡ xs ∷ []) ⊎ Several xs → (split c (x ∷ xs) ≡ (x ∷ xs) ∷ []) ⊎ Several (x ∷ xs)
       by true e go =
-          let (p, ps, q) = some-part xs in
-          inr (record { first = []; second = p; rest = ps; parts = rw e (ap ([] ∷_) q); no-digits = rw (eqb-true x c e, d) })
+          let p : List ℕ = take (until c xs) xs in
+          let ps : List (List ℕ) = parts-from c xs (until c xs + 1) in
+          inr (record { first = []; second = p; rest = ps; parts = rw e (ap ([] ∷_) (split-first c xs)); no-digits = rw (eqb-true x c e, d) })
       by false e (inl q) = inl (rw (e, q))
       by false e (inr s) =
           inr (record { first = x ∷ s .first; second = s .second; rest = s .rest; parts = rw (e, s .parts); no-digits = rw (s .no-digits) (and-no (is-digit x)) })
@@ -131,7 +82,7 @@ front n xs = take (n - 0) xs
 abbrev pub behind : ℕ → List ℕ → List ℕ
 behind n xs = take (length xs - (n + 1)) (drop (n + 1) xs)
 
-parts-at : (c : ℕ) (xs : List ℕ) (n : ℕ) → n ≡ 0 + before c xs → n < length xs → split c xs ≡ front n xs ∷ split c (behind n xs)
+parts-at : (c : ℕ) (xs : List ℕ) (n : ℕ) → n ≡ 0 + until c xs → n < length xs → split c xs ≡ front n xs ∷ split c (behind n xs)
 parts-at c xs n first h =
     part-next c xs 0 n first h
     ∙ ap (λ ys. front n xs ∷ split c ys) (sym (take-all (length xs - (n + 1)) (drop (n + 1) xs) (simp length-drop (omega arith))))
@@ -142,7 +93,7 @@ by-parts : {A : Type 0} (f : List (List ℕ) → A) (c : ℕ) (xs : List ℕ) �
 by-parts f c xs d more = ⊎-elim (λ e. ap f e) (λ s. ap f (s .parts) ∙ more (s .first) (s .second) (s .rest) (s .no-digits)) (parted c d xs)
 
 -- an item with its first point at place n
-module _ (p : List ℕ) (n : ℕ) (first : n ≡ 0 + before 46 p) where
+module _ (p : List ℕ) (n : ℕ) (first : n ≡ 0 + until 46 p) where
   pub item-none : length p ≤ n → is-item p ≡ false
   unfolding is-item
   item-none h = rw (part-last 46 p 0 n first h)
@@ -160,7 +111,7 @@ module _ (p : List ℕ) (n : ℕ) (first : n ≡ 0 + before 46 p) where
   item-behind h e = item-parts h ∙ ap (_&& some-digits (behind n p)) e
 
 -- a heart-beat value with its first comma at place n
-module _ (v : List ℕ) (n : ℕ) (first : n ≡ 0 + before 44 v) where
+module _ (v : List ℕ) (n : ℕ) (first : n ≡ 0 + until 44 v) where
   pub heart-beats-none : length v ≤ n → heart-beats v ≡ none
   unfolding heart-beats
   heart-beats-none h = rw (part-last 44 v 0 n first h)
@@ -207,7 +158,7 @@ unfolding versions versions-from
 versions-start v = refl
 
 -- the item from place at to e, up to the next comma or the end
-module _ (v : List ℕ) (at e : ℕ) (fs : List Bool) (is : e ≡ at + before 44 (drop at v)) where
+module _ (v : List ℕ) (at e : ℕ) (fs : List Bool) (is : e ≡ at + until 44 (drop at v)) where
   abbrev item : List ℕ
   item = take (e - at) (drop at v)
 

@@ -4,23 +4,9 @@ use mathlib.Core.Option.{Option, none, some}
 use mathlib.Core.List.{List, [], _∷_}
 use Prim.Native.Nat.{ℕ}
 use Prim.Native.String.{String}
-use lib.Dec.{eqb}
 use Rattle.headers.specs.Rows.{octets-of, empty, every, any, same}
+use Rattle.headers.specs.Parts.{split}
 use Rattle.headers.specs.Numbers.{is-digit, amount}
-use Rattle.headers.specs.Stretches.{span}
-
--- the parts of a row that octets c stand between: one more than there are such octets
-abbrev pub onto : ℕ → List (List ℕ) → List (List ℕ)
-onto x [] = (x ∷ []) ∷ []
-onto x (p ∷ ps) = (x ∷ p) ∷ ps
-
-unfoldable pub split : ℕ → List ℕ → List (List ℕ)
-split c [] = [] ∷ []
-split c (x ∷ xs) = cond (eqb x c) ([] ∷ split c xs) (onto x (split c xs))
-
--- how many octets stand before the first c
-abbrev pub before : ℕ → List ℕ → ℕ
-before c xs = span (λ x. not (eqb x c)) xs
 
 -- "items of digits, a point, digits (no part empty), joined by commas"
 abbrev pub some-digits : List ℕ → Bool

@@ -4,7 +4,8 @@ ghost use mathlib.Core.Option.{none, some};
 ghost use Prim.Native.Nat.{_+_, _≤_};
 ghost use lib.ListN.{length, drop};
 ghost use Rattle.headers.specs.Rows.{same};
-ghost use Rattle.sessions.specs.Values.{before, some-digits, is-item, versions, heart-beats};
+ghost use Rattle.headers.specs.Parts.{until};
+ghost use Rattle.sessions.specs.Values.{some-digits, is-item, versions, heart-beats};
 ghost use Rattle.sessions.specs.Opening.{shared-flags, none-shared, may-offer, interval as interval-of};
 ghost use Rattle.sessions.specs.Headers.{mode-named};
 ghost use Rattle.sessions.specs.Reads.{version, counted, versions-say, heart-beats-say, mode-says};
@@ -36,7 +37,7 @@ pub(crate) const HEART_BEAT_MAX: u32 = 3600000;
 // The place of the first such octet from a place on, or the end.
 fn end_of(value: &[u8], from: usize, octet: u8) -> usize
     requires { ⌜ from ≤ length (now value) ⌝ }
-    ensures { λ r. ⌜ (r ≡ from + before octet (drop from (now (value .entry)))) × (r ≤ length (now (value .entry))) ⌝ }
+    ensures { λ r. ⌜ (r ≡ from + until octet (drop from (now (value .entry)))) × (r ≤ length (now (value .entry))) ⌝ }
 {
     let mut i = from;
     while i < value.len() {

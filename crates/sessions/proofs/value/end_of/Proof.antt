@@ -1,18 +1,16 @@
 -- `value::end_of` meets its contract: the octets passed, and those before the next such octet, are those before the first.
 use borrow.Author.Needs.{needs}
-use borrow.Author.Tests.{eq-eqb, ne-eqb}
-use mathlib.Core.Path.{_≡_, _∙_, ap}
-use mathlib.Core.Bool.{not}
+use mathlib.Core.Path.{_≡_}
 use Prim.Native.Nat.{_+_, _-_, _≤_}
 use native.Mathlib.Omega.{arith}
 use lib.ListN.{length, drop}
-use Rattle.headers.proofs.Stretches.{span-more, span-stop, span-end}
-use Rattle.sessions.specs.Values.{before}
+use Rattle.headers.specs.Parts.{until}
+use Rattle.headers.proofs.Parts.{until-more, until-stop, until-end}
 use Rattle.sessions.proofs.value.end_of.Statement.{statement}
 use Rattle.sessions.proofs.value.end_of.Tie as tie
 
 abbrev Inv-loop : tie.InvT-loop
-Inv-loop value from octet i₀ i = (i ≤ length value) × (i + before octet (drop i value) ≡ from + before octet (drop from value))
+Inv-loop value from octet i₀ i = (i ≤ length value) × (i + until octet (drop i value) ≡ from + until octet (drop from value))
 
 abbrev μ-loop : tie.MeasureT-loop
 μ-loop value from octet i₀ i = length value - i
@@ -26,7 +24,8 @@ shared-slice-read-if1 c = search needs
 returns : tie.Need-returns Inv-loop μ-loop
 returns c =
     let l = c .before .before .before .loop in
-    (span-stop _ _ _ (c .before .before .loop-test .taken) (ap not (eq-eqb _ _ (c .if1 .taken))) ∙ l .inv .1, l .inv .0)
+    let a = c .before .before .before .before .args in
+    (omega (arith, until-stop (a .octet) (a .value .now) (l .i) (c .before .before .loop-test .taken) (c .if1 .taken)), l .inv .0)
 
 add-i : tie.Need-add-i Inv-loop μ-loop
 add-i c = search needs
@@ -37,10 +36,13 @@ loop-less c = search needs
 loop-again : tie.Need-loop-again Inv-loop μ-loop
 loop-again c =
     let l = c .before .before .before .loop in
-    (omega arith, span-more _ _ _ (c .before .before .loop-test .taken) (ap not (ne-eqb _ _ (c .if1 .left))) ∙ l .inv .1)
+    let a = c .before .before .before .before .args in
+    (omega arith, omega (arith, until-more (a .octet) (a .value .now) (l .i) (c .before .before .loop-test .taken) (c .if1 .left)))
 
 returns-2 : tie.Need-returns-2 Inv-loop μ-loop
-returns-2 c = (span-end _ _ _ (c .loop-test .left) ∙ c .before .loop .inv .1, c .before .loop .inv .0)
+returns-2 c =
+    let a = c .before .before .args in
+    (omega (arith, until-end (a .octet) (a .value .now) (c .before .loop .i) (c .loop-test .left)), c .before .loop .inv .0)
 
 pub end-of-spec : {M : Type 1} → statement M
 end-of-spec =

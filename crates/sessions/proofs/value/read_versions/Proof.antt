@@ -4,7 +4,8 @@ use borrow.Author.Tests.{not-true, not-false}
 use mathlib.Core.Path.{_≡_, sym, _∙_}
 use Prim.Native.Nat.{_-_, _≤_}
 use lib.ListN.{length, drop}
-use Rattle.sessions.specs.Values.{split, versions}
+use Rattle.headers.specs.Parts.{split}
+use Rattle.sessions.specs.Values.{versions}
 use Rattle.sessions.proofs.Values.{versions-from, versions-start, versions-stop, versions-turn, versions-end}
 use Rattle.sessions.proofs.value.read_versions.Statement.{statement}
 use Rattle.sessions.proofs.value.read_versions.Tie as tie
