@@ -4,6 +4,7 @@
 mod deliveries;
 mod feeding;
 mod histories;
+mod matching;
 mod opening;
 mod records;
 mod replays;

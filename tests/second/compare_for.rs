@@ -3,7 +3,8 @@
 use crate::comparison::quietly;
 use crate::random::Random;
 use crate::{
-    compare, compare_encode, compare_feed, compare_replay, compare_rewrite, compare_session,
+    compare, compare_encode, compare_feed, compare_match, compare_replay, compare_rewrite,
+    compare_session,
 };
 use std::io;
 use std::path::Path;
@@ -20,7 +21,7 @@ struct Comparison {
 }
 
 /// The comparisons; the batches take about as long as each other.
-const COMPARISONS: [Comparison; 6] = [
+const COMPARISONS: [Comparison; 7] = [
     Comparison {
         mode: "compare",
         program: "list",
@@ -62,6 +63,13 @@ const COMPARISONS: [Comparison; 6] = [
         what: "streams",
         batch: 500,
         run: quietly::<compare_feed::Tally>,
+    },
+    Comparison {
+        mode: "compare-match",
+        program: "match_calls",
+        what: "calls",
+        batch: 50_000,
+        run: quietly::<compare_match::Tally>,
     },
 ];
 

@@ -4,6 +4,7 @@
 mod deliveries;
 pub mod encoding;
 pub mod feeding;
+pub mod matching;
 mod records;
 
 use self::deliveries::holding;

@@ -1,6 +1,6 @@
-//! An independent second program: it parses, decodes and encodes STOMP frames and keeps a client's
-//! session by document 01, and compares what it finds with what other programs write. README.md has the
-//! modes.
+//! An independent second program: it parses, decodes and encodes STOMP frames, keeps a client's session
+//! and matches patterns by documents 01 and 02, and compares what it finds with what other programs
+//! write. README.md has the modes.
 
 mod block;
 mod calls;
@@ -9,6 +9,7 @@ mod compare;
 mod compare_encode;
 mod compare_feed;
 mod compare_for;
+mod compare_match;
 mod compare_replay;
 mod compare_rewrite;
 mod compare_session;
@@ -32,6 +33,8 @@ mod session_calls;
 mod specification;
 mod streams;
 mod table;
+mod topic;
+mod topic_calls;
 mod vectors;
 
 #[cfg(test)]
@@ -52,18 +55,21 @@ second encode
 second replay [SENDS WANTS] [log]
 second session
 second feed
+second match
 second compare PROGRAM COUNT SEED
 second compare-rewrite PROGRAM COUNT SEED
 second compare-encode PROGRAM COUNT SEED
 second compare-replay PROGRAM COUNT SEED
 second compare-session PROGRAM COUNT SEED
 second compare-feed PROGRAM COUNT SEED
+second compare-match PROGRAM COUNT SEED
 second compare-for SECONDS SEED PROGRAMS
 second make DIR
 second make-encode FILE
 second make-replay FILE
 second make-session FILE
 second make-feed FILE
+second make-match FILE
 second vectors DIR";
 
 fn main() -> ExitCode {
@@ -80,6 +86,7 @@ fn main() -> ExitCode {
         ["replay", sends, wants, "log"] => replay(sends, wants, true),
         ["session"] => session(),
         ["feed"] => feed(),
+        ["match"] => match_patterns(),
         ["compare-for", seconds, seed, programs] => compare_for(seconds, seed, programs),
         [mode, program, count, seed] => match comparison(mode) {
             Some(compare) => compare_by(compare, program, count, seed),
@@ -90,6 +97,7 @@ fn main() -> ExitCode {
         ["make-replay", file] => fs::write(file, fixed::stream()).map(|()| true),
         ["make-session", file] => fs::write(file, fixed::calls()).map(|()| true),
         ["make-feed", file] => fs::write(file, fixed::feeding::calls()).map(|()| true),
+        ["make-match", file] => fs::write(file, fixed::matching::calls()).map(|()| true),
         ["vectors", folder] => vectors::write_listings(Path::new(folder)).map(|()| true),
         _ => Err(io::Error::other(USAGE)),
     };
@@ -186,6 +194,16 @@ fn feed() -> io::Result<bool> {
     Ok(true)
 }
 
+/// Reads calls of the matcher from standard input and writes the answers.
+fn match_patterns() -> io::Result<bool> {
+    let mut input = Vec::new();
+    io::stdin().read_to_end(&mut input)?;
+    let calls = topic_calls::read(&input).ok_or(io::Error::other("match: a call is cut off"))?;
+    let replies: Vec<u8> = calls.iter().flat_map(topic_calls::Call::reply).collect();
+    io::stdout().write_all(&replies)?;
+    Ok(true)
+}
+
 type Comparison = fn(&str, usize, u64) -> io::Result<bool>;
 
 fn comparison(mode: &str) -> Option<Comparison> {
@@ -196,6 +214,7 @@ fn comparison(mode: &str) -> Option<Comparison> {
         "compare-replay" => comparison::compare::<compare_replay::Tally>,
         "compare-session" => comparison::compare::<compare_session::Tally>,
         "compare-feed" => comparison::compare::<compare_feed::Tally>,
+        "compare-match" => comparison::compare::<compare_match::Tally>,
         _ => return None,
     })
 }
