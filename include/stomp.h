@@ -1,7 +1,9 @@
-/* Mouhtali: STOMP 1.2 frames, parsed, also piece by piece, decoded, searched and encoded.
+/* Mouhtali: STOMP 1.2 frames, parsed, also piece by piece, decoded, searched and encoded; patterns of
+ * names, matched.
  *
- * The functions are in libframes.a, which `rt staticlib frames` writes, for x86-64. For C99, C11
- * and C++. docs/MANUAL.md has the rules of the format and what to do about each number.
+ * stomp_match is in libtopics.a, which `rt staticlib topics` writes, the other functions are in
+ * libframes.a, which `rt staticlib frames` writes, both for x86-64. For C99, C11 and C++.
+ * docs/MANUAL.md has the rules of the format and what to do about each number.
  *
  * A slice is passed as a pointer to its first octet and its length. An empty slice may have any
  * pointer. Slices are used during the call only. The slices of one call must not overlap.
@@ -37,13 +39,15 @@ enum stomp_command {
 
 /* The sizes. */
 enum stomp_size {
-    STOMP_MAX_LINES = 32,     /* header lines of a frame */
-    STOMP_MAX_LINE = 512,     /* octets of a raw header line, its line end not counted */
-    STOMP_MAX_BODY = 32768,   /* octets of a body */
-    STOMP_MAX_FRAME = 49228,  /* octets of a frame: holds every encoded frame */
-    STOMP_MAX_BLOCK = 16544,  /* octets of a decoded frame's header block: holds those of every frame */
-    STOMP_FEED_STATE = 16,    /* octets of a stream parser's state */
-    STOMP_FEED_BUFFER = 49228 /* octets that a stream parser's buffer has at least */
+    STOMP_MAX_LINES = 32,        /* header lines of a frame */
+    STOMP_MAX_LINE = 512,        /* octets of a raw header line, its line end not counted */
+    STOMP_MAX_BODY = 32768,      /* octets of a body */
+    STOMP_MAX_FRAME = 49228,     /* octets of a frame: holds every encoded frame */
+    STOMP_MAX_BLOCK = 16544,     /* octets of a decoded frame's header block: holds those of every frame */
+    STOMP_FEED_STATE = 16,       /* octets of a stream parser's state */
+    STOMP_FEED_BUFFER = 49228,   /* octets that a stream parser's buffer has at least */
+    STOMP_MATCH_MAX_WORDS = 32,  /* words of a name or a pattern */
+    STOMP_MATCH_MAX_OCTETS = 256 /* octets of a name or a pattern, points counted */
 };
 
 /* What stomp_parse and stomp_feed found. */
@@ -107,6 +111,18 @@ enum stomp_encode_refusal {
     STOMP_ENCODE_SHORT_TARGET = 56    /* the target is shorter than the encoded frame */
 };
 
+/* What stomp_match answers where it does not refuse. */
+enum stomp_match_answer {
+    STOMP_NO_MATCH = 0,
+    STOMP_MATCH = 1
+};
+
+/* The numbers of stomp_match, in the order in which they are given. */
+enum stomp_match_refusal {
+    STOMP_MATCH_NAME = 80,   /* the name is malformed */
+    STOMP_MATCH_PATTERN = 81 /* the pattern is malformed */
+};
+
 /* Parses the first item of the octets. Octets behind it change nothing. Writes nothing.
  *
  * The answer is 0 where they are incomplete, 1 + 4*length for a heart-beat,
@@ -168,6 +184,15 @@ uint64_t stomp_encode(uint32_t command, const uint8_t *block, size_t block_len, 
  * body is not empty and no entry is named content-length. */
 uint64_t stomp_encode_with(uint32_t options, uint32_t command, const uint8_t *block, size_t block_len,
                            const uint8_t *body, size_t body_len, uint8_t *target, size_t target_len);
+
+/* Whether a pattern matches a name. Both are words with a point (46) between each two: 1 to
+ * STOMP_MATCH_MAX_WORDS words, none of them empty, and at most STOMP_MATCH_MAX_OCTETS octets. In a
+ * pattern the word `*` stands for exactly one word of the name, the word `#` for none or more; in a
+ * longer word, or in a name, both are ordinary octets. Writes nothing.
+ *
+ * The answer is STOMP_MATCH, STOMP_NO_MATCH or 2^16*code: 80, else 81. `name` and `pattern` must not
+ * overlap. */
+uint64_t stomp_match(const uint8_t *name, size_t name_len, const uint8_t *pattern, size_t pattern_len);
 
 /* Readers of what stomp_parse answered. */
 
@@ -279,7 +304,7 @@ static inline size_t stomp_feed_offset(uint64_t answer)
     return stomp_feed_kind(answer) == STOMP_INVALID ? (size_t)(answer >> 26) : 0;
 }
 
-/* Readers of what stomp_decode, stomp_encode and stomp_encode_with answered. */
+/* Readers of what stomp_decode, stomp_encode, stomp_encode_with and stomp_match answered. */
 
 /* Whether it was refused, and nothing is written. */
 static inline int stomp_refused(uint64_t answer)
@@ -303,6 +328,12 @@ static inline size_t stomp_index(uint64_t answer)
 static inline size_t stomp_length(uint64_t answer)
 {
     return stomp_refused(answer) ? 0 : (size_t)answer;
+}
+
+/* A reader of what stomp_match answered: whether the pattern matches. It is 0 where it was refused. */
+static inline int stomp_matches(uint64_t answer)
+{
+    return answer == (uint64_t)STOMP_MATCH;
 }
 
 /* Readers of what stomp_find answered. */

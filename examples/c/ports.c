@@ -1,4 +1,5 @@
-/* Reads a frame that a relay passed on, finds its first port, and writes a frame that answers it. */
+/* Reads a frame that a relay passed on, finds its first port, writes a frame that answers it, and asks
+ * which of some names a pattern matches. */
 #include <stdio.h>
 #include <stdlib.h>
 #include <string.h>
@@ -63,8 +64,15 @@ static void add(struct block *b, const char *name, const uint8_t *value, size_t 
     b->length += 6 + name_length + value_length;
 }
 
+/* Asks whether the pattern matches the name. */
+static uint64_t match(const char *name, const char *pattern)
+{
+    return stomp_match((const uint8_t *)name, strlen(name), (const uint8_t *)pattern, strlen(pattern));
+}
+
 int main(void)
 {
+    static const char *const names[] = {"port.ocean", "port.ocean.sst.1", "port.ice.1"};
     static const char name[] = "port", where[] = "/ports/ice";
     static const uint8_t text[] = "salt";
     static struct block read, reply;
@@ -111,11 +119,20 @@ int main(void)
                                 sizeof text - 1, target, sizeof target);
     printf(", and %zu where its length is asked for\n", stomp_length(written));
 
+    /* All ports of the ocean: its words, and none or more after them. */
+    for (size_t i = 0; i < sizeof names / sizeof *names; i++) {
+        uint64_t answer = match(names[i], "port.ocean.#");
+        if (stomp_refused(answer))
+            stop("match", stomp_code(answer), 0);
+        printf("port.ocean.# %s %s\n", stomp_matches(answer) ? "matches" : "does not match", names[i]);
+    }
+
     /* What a refusal looks like: a command without a body, and octets that begin no frame. */
     written = stomp_encode(STOMP_COMMAND_ACK, reply.octets, reply.length, body, body_length, target,
                            sizeof target);
     printf("as an ACK it is refused with %u\n", stomp_code(written));
     parsed = stomp_parse((const uint8_t *)"SENT", 4);
     printf("SENT is refused with %u at %zu\n", stomp_parse_code(parsed), stomp_parse_offset(parsed));
+    printf("the name port..1 is refused with %u\n", stomp_code(match("port..1", "#")));
     return 0;
 }

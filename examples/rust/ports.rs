@@ -1,4 +1,5 @@
-//! Reads a frame that a relay passed on, finds its first port, and writes a frame that answers it.
+//! Reads a frame that a relay passed on, finds its first port, writes a frame that answers it, and asks
+//! which of some names a pattern matches.
 
 mod stomp;
 
@@ -66,12 +67,24 @@ fn main() -> Result<(), Refusal> {
         "with the body salt it has {plain} octets, and {counted} where its length is asked for"
     );
 
+    // All ports of the ocean: its words, and none or more after them.
+    for name in ["port.ocean", "port.ocean.sst.1", "port.ice.1"] {
+        let matches = stomp::matches(name.as_bytes(), b"port.ocean.#")?;
+        println!(
+            "port.ocean.# {} {name}",
+            if matches { "matches" } else { "does not match" }
+        );
+    }
+
     // What a refusal looks like: a command without a body, and octets that begin no frame.
     if let Err(refusal) = stomp::encode(stomp::COMMAND_ACK, &reply, body, &mut target) {
         println!("as an ACK it is refused with {}", refusal.code);
     }
     if let Parsed::Invalid(refusal) = stomp::parse(b"SENT") {
         println!("SENT is refused with {} at {}", refusal.code, refusal.place);
+    }
+    if let Err(refusal) = stomp::matches(b"port..1", b"#") {
+        println!("the name port..1 is refused with {}", refusal.code);
     }
     Ok(())
 }

@@ -41,6 +41,10 @@ pub const INVALID_SECOND_COLON: u32 = 8; // is a second colon; never in CONNECT 
 pub const INVALID_NO_COLON: u32 = 9; // ends a header line, or begins its end, before the colon
 pub const INVALID_ESCAPE: u32 = 10; // follows a backslash and makes no escape with it
 
+/// The numbers of `matches`, in the order in which they are given.
+pub const MATCH_NAME: u32 = 80; // the name is malformed
+pub const MATCH_PATTERN: u32 = 81; // the pattern is malformed
+
 mod library {
     extern "C" {
         pub fn stomp_parse(octets: *const u8, len: usize) -> u64;
@@ -55,6 +59,12 @@ mod library {
             block_len: usize,
             name: *const u8,
             name_len: usize,
+        ) -> u64;
+        pub fn stomp_match(
+            name: *const u8,
+            name_len: usize,
+            pattern: *const u8,
+            pattern_len: usize,
         ) -> u64;
         pub fn stomp_encode_with(
             options: u32,
@@ -121,7 +131,7 @@ pub fn parse(octets: &[u8]) -> Parsed {
     }
 }
 
-/// The length that decode or encode wrote.
+/// The length that decode or encode wrote, or what matches answers.
 fn length(answer: u64) -> Result<usize, Refusal> {
     match answer >> 16 {
         0 => Ok(answer as usize),
@@ -185,6 +195,14 @@ pub fn encode_with(
             target.len(),
         )
     })
+}
+
+/// Whether a pattern matches a name: in the pattern the word `*` stands for exactly one word, `#` for none
+/// or more.
+pub fn matches(name: &[u8], pattern: &[u8]) -> Result<bool, Refusal> {
+    let answer =
+        unsafe { library::stomp_match(name.as_ptr(), name.len(), pattern.as_ptr(), pattern.len()) };
+    length(answer).map(|yes| yes == 1)
 }
 
 /// Adds an entry at the end of a block.
