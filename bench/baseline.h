@@ -1,6 +1,7 @@
-/* Parsing, decoding, encoding and looking up of STOMP 1.2 items by hand, to compare the proved calls with.
+/* Parsing, decoding, encoding and looking up of STOMP 1.2 items, and matching, by hand, to compare the proved
+ * calls with.
  *
- * The answers are packed as those of stomp_parse, stomp_decode, stomp_encode_with and stomp_find, and a
+ * The answers are packed as those of stomp_parse, stomp_decode, stomp_encode_with, stomp_find and stomp_match, and a
  * refusal writes nothing. */
 #ifndef BASELINE_H
 #define BASELINE_H
@@ -31,5 +32,8 @@ uint64_t baseline_encode_memcpy(uint32_t options, uint32_t command, const uint8_
 
 /* Goes over the block once. */
 uint64_t baseline_find(const uint8_t *block, size_t block_length, const uint8_t *name, size_t name_length);
+
+/* Goes over name and pattern once for their words, then fills a row of answers. */
+uint64_t baseline_match(const uint8_t *name, size_t name_length, const uint8_t *pattern, size_t pattern_length);
 
 #endif

@@ -3,7 +3,7 @@
  * The rest is cut into the arguments, numbers high octet first:
  *
  *   0 parse    octets; with the fourth bit they are fed in pieces, see feed.c
- *   1 decode   room 2, frame
+ *   1 decode   room 2, frame; with the fourth bit match: pattern length 2, pattern, name
  *   2 encode   options 4, command 4, room 2, body length 2, body, block
  *   3 find     name length 2, name, block
  *
@@ -22,8 +22,8 @@
 #include "../../include/stomp.h"
 #include "fuzz.h"
 
-enum { PARSE, DECODE, ENCODE, FIND };
-enum { PAGE_BEHIND = 4, AS_TEXT = 8, IN_PIECES = 8 };
+enum { PARSE, DECODE, ENCODE, FIND, MATCH };
+enum { PAGE_BEHIND = 4, AS_TEXT = 8, IN_PIECES = 8, MATCHED = 8 };
 enum { HEAD = 6 };
 enum { NAME_END = 254, ENTRY_END = 255 };
 
@@ -46,7 +46,7 @@ static bool at_end;
 
 static void fail(const char *what, const struct call *c, uint64_t ours, uint64_t other)
 {
-    static const char *const names[] = {"parse", "decode", "encode", "find"};
+    static const char *const names[] = {"parse", "decode", "encode", "find", "match"};
     fprintf(stderr, "fuzz: %s: %s: ours %#llx, the other %#llx; options %lu, command %lu, lengths %zu %zu, room %zu\n",
             names[c->which], what, (unsigned long long)ours, (unsigned long long)other,
             (unsigned long)c->options, (unsigned long)c->command, c->length[FIRST], c->length[SECOND],
@@ -108,6 +108,9 @@ static uint64_t call_ours(const struct call *c)
         break;
     case FIND:
         answer = stomp_find(s[FIRST], c->length[FIRST], s[SECOND], c->length[SECOND]);
+        break;
+    case MATCH:
+        answer = stomp_match(s[FIRST], c->length[FIRST], s[SECOND], c->length[SECOND]);
         break;
     }
     for (size_t i = 0; i < SLICES; i++) {
@@ -181,6 +184,9 @@ static uint64_t agreed(const struct call *c)
         break;
     case FIND:
         other = plain_find(first.octets, c->length[FIRST], second.octets, c->length[SECOND]);
+        break;
+    case MATCH:
+        other = baseline_match(first.octets, c->length[FIRST], second.octets, c->length[SECOND]);
         break;
     }
     if (ours != other)
@@ -287,13 +293,15 @@ int LLVMFuzzerTestOneInput(const uint8_t *octets, size_t length)
         fuzz_feed(r.octets, r.length);
         return 0;
     }
+    if (c.which == DECODE && (choice & MATCHED))
+        c.which = MATCH;
     if (c.which == ENCODE) {
         c.options = take_number(&r, 4);
         c.command = take_number(&r, 4);
     }
     if (c.which == DECODE || c.which == ENCODE)
         c.length[BUFFER] = take_number(&r, 2);
-    if (c.which == ENCODE || c.which == FIND)
+    if (c.which == ENCODE || c.which == FIND || c.which == MATCH)
         take_slice(&r, take_number(&r, 2), &c, SECOND);
     take_slice(&r, r.length, &c, FIRST);
     if ((c.which == ENCODE || c.which == FIND) && (choice & AS_TEXT))

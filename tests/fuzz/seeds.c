@@ -1,7 +1,8 @@
 /* Writes inputs of fuzz.c made of streams: seeds DIRECTORY STREAM.. Each stream is fed in pieces, in some
  * ways. For each item one input that parses; for each frame also ones that decode it, encode what it
  * holds, with the option and without, and find its first two names and one that it does not have. They
- * are read with the baseline. A block is there as it is and as the text that fuzz.c makes it of. */
+ * are read with the baseline. A block is there as it is and as the text that fuzz.c makes it of. Then some
+ * names and patterns to match. */
 #include <stdio.h>
 #include <stdlib.h>
 #include <string.h>
@@ -10,7 +11,7 @@
 #include "../../include/stomp.h"
 
 enum { HEAD = 6, STREAM = 1 << 18, LONGEST_INPUT = 66000 };
-enum { PARSE, DECODE, ENCODE, FIND, PAGE_BEHIND = 4, AS_TEXT = 8, IN_PIECES = 8 };
+enum { PARSE, DECODE, ENCODE, FIND, PAGE_BEHIND = 4, AS_TEXT = 8, IN_PIECES = 8, MATCHED = 8 };
 enum { NAME_END = 254, ENTRY_END = 255 };
 
 static const char *directory;
@@ -123,6 +124,33 @@ static void write_feeds(const uint8_t *stream, size_t size)
     }
 }
 
+/* Each name with each pattern, and both as many words as may be, and one more. */
+static void write_matches(void)
+{
+    static const char *const texts[] = {"a",   "*",   "#",     "a.b", "a.#",   "#.a",    "#.a.#",
+                                        "*.b", "a..", "a.*.c", "a*",  "a.b.c", "a.#.b.#"};
+    static char words[2 * (STOMP_MATCH_MAX_WORDS + 1)];
+    enum { TEXTS = sizeof texts / sizeof *texts };
+    for (size_t i = 0; i < TEXTS; i++) {
+        for (size_t j = 0; j < TEXTS; j++) {
+            begin(DECODE | MATCHED);
+            put_number(strlen(texts[j]), 2);
+            put(texts[j], strlen(texts[j]));
+            put(texts[i], strlen(texts[i]));
+            finish();
+        }
+    }
+    for (size_t i = 0; i < sizeof words; i++)
+        words[i] = i % 2 ? '.' : 'a';
+    for (size_t count = STOMP_MATCH_MAX_WORDS; count <= STOMP_MATCH_MAX_WORDS + 1; count++) {
+        begin(DECODE | MATCHED);
+        put_number(2 * count - 1, 2);
+        put(words, 2 * count - 1);
+        put(words, 2 * STOMP_MATCH_MAX_WORDS - 1);
+        finish();
+    }
+}
+
 int main(int argc, char **argv)
 {
     static uint8_t stream[STREAM];
@@ -149,6 +177,7 @@ int main(int argc, char **argv)
                 write_frame(stream + at, parsed);
         }
     }
+    write_matches();
     printf("%lu seeds\n", count);
     return 0;
 }

@@ -10,6 +10,7 @@ uint64_t right_encode_with(uint32_t options, uint32_t command, const uint8_t *bl
                            const uint8_t *body, size_t body_len, uint8_t *target, size_t target_len);
 uint64_t right_encode(uint32_t command, const uint8_t *block, size_t block_len, const uint8_t *body,
                       size_t body_len, uint8_t *target, size_t target_len);
+uint64_t right_match(const uint8_t *name, size_t name_len, const uint8_t *pattern, size_t pattern_len);
 
 /* 1: reads the octet behind its slice. */
 uint64_t stomp_parse(const uint8_t *octets, size_t len)
@@ -81,4 +82,15 @@ uint64_t stomp_feed(uint8_t *state, size_t state_len, uint8_t *buffer, size_t bu
     if (WRONG == 12 && stomp_feed_code(answer) == STOMP_FEED_INVALID_STATE)
         state[0]++;
     return answer;
+}
+
+/* 13: a malformed pattern is told before a malformed name; 14: one word `#` takes no more than one word. */
+uint64_t stomp_match(const uint8_t *name, size_t name_len, const uint8_t *pattern, size_t pattern_len)
+{
+    static const uint8_t a[] = "a";
+    if (WRONG == 13 && stomp_refused(right_match(a, 1, pattern, pattern_len)))
+        return right_match(a, 1, pattern, pattern_len);
+    if (WRONG == 14 && pattern_len == 1 && pattern[0] == '#')
+        return right_match(name, name_len, (const uint8_t *)"*", 1);
+    return right_match(name, name_len, pattern, pattern_len);
 }
