@@ -110,6 +110,18 @@ static void check_pair(const struct pair *p)
     }
 }
 
+/* An empty slice may have any pointer. */
+static void check_empty(void)
+{
+    const uint8_t *a = (const uint8_t *)"a";
+    if (stomp_code(stomp_match(NULL, 0, NULL, 0)) != STOMP_MATCH_NAME ||
+        stomp_code(stomp_match(NULL, 0, a, 1)) != STOMP_MATCH_NAME ||
+        stomp_code(stomp_match(a, 1, NULL, 0)) != STOMP_MATCH_PATTERN) {
+        fprintf(stderr, "bench: match: an empty slice has another answer\n");
+        exit(1);
+    }
+}
+
 /* Each pair; then rows of few octets, well-formed or not, against each other, and the limits. */
 static void check_answers(const struct pair pairs[PAIRS])
 {
@@ -175,6 +187,7 @@ int main(int argc, char **argv)
     static struct pair pairs[PAIRS];
     bool check = argc > 1 && strcmp(argv[1], "--check") == 0, good = true;
     make_pairs(pairs);
+    check_empty();
     check_answers(pairs);
     printf("\nmatch, ns per call\n");
     printf("%-24s %9s %9s %9s %9s %9s\n", "pattern", "ours", "baseline", "ratio", "fnmatch", "ratio");
