@@ -1,5 +1,5 @@
 //! Whether a pattern matches a name, by document 02 (C-20), with sets of positions: the name is read
-//! word by word, and a position is how many words of the pattern are behind.
+//! word by word, and a position is how many words of the pattern are passed.
 
 use std::collections::BTreeSet;
 
@@ -52,7 +52,7 @@ fn words(text: &[u8]) -> Option<Vec<&[u8]>> {
     formed.then_some(words)
 }
 
-/// Whether the whole pattern can be behind when the whole name is read.
+/// Whether the whole pattern can be passed when the whole name is read.
 pub fn matches(pattern: &[&[u8]], name: &[&[u8]]) -> bool {
     let mut positions = with_none(pattern, BTreeSet::from([0]));
     for word in name {
@@ -62,7 +62,7 @@ pub fn matches(pattern: &[&[u8]], name: &[&[u8]]) -> bool {
     positions.contains(&pattern.len())
 }
 
-/// The position after a word of the name: a `#` can take more words, so it is not left behind.
+/// The position after a word of the name: a `#` can take more words, so it is not passed yet.
 fn after(pattern: &[&[u8]], position: usize, word: &[u8]) -> Option<usize> {
     match *pattern.get(position)? {
         b"#" => Some(position),
@@ -71,7 +71,7 @@ fn after(pattern: &[&[u8]], position: usize, word: &[u8]) -> Option<usize> {
     }
 }
 
-/// The positions, and those behind a `#` that takes no word, or no word more.
+/// The positions, and those after a `#` that takes no word, or no word more.
 fn with_none(pattern: &[&[u8]], mut positions: BTreeSet<usize>) -> BTreeSet<usize> {
     for position in 0..pattern.len() {
         if pattern[position] == b"#" && positions.contains(&position) {

@@ -14,7 +14,7 @@ pub extern "C" fn stomp_match(name: &[u8], pattern: &[u8]) -> u64
     match crate::pattern::matches(name, pattern) {
         Match::Yes => 1,
         Match::No => 0,
-        Match::BadName => 65536 * 80,
-        Match::BadPattern => 65536 * 81,
+        Match::BadName => 65536 * Match::BAD_NAME,
+        Match::BadPattern => 65536 * Match::BAD_PATTERN,
     }
 }

@@ -17,6 +17,13 @@ pub enum Match {
     BadPattern,
 }
 
+// The numbers of its refusals.
+impl Match {
+    pub const BAD_NAME: u64 = 80;
+
+    pub const BAD_PATTERN: u64 = 81;
+}
+
 // The plain form: whether the words of a pattern from place p on match those of a name from place n on. From a place after the end
 // there are no words.
 fn match_rest(pattern: &[u8], p: usize, name: &[u8], n: usize) -> bool
@@ -46,8 +53,8 @@ fn match_rest(pattern: &[u8], p: usize, name: &[u8], n: usize) -> bool
     match_rest(pattern, after, name, next)
 }
 
-// The plain form of matches. Where a pattern has many `#` it can take a time that grows as their combinations do, so callers get
-// matches, which meets the same contract.
+// The plain form of matches. It tries one way after another to share the name's words out among the `#`, which can take very long, so
+// callers get matches, which meets the same contract.
 fn matches_plainly(name: &[u8], pattern: &[u8]) -> Match
     ensures { λ r. ⌜ match-says r ≡ match-answer (now (name .entry)) (now (pattern .entry)) ⌝ }
 {
@@ -102,7 +109,7 @@ fn put_any(row: &mut [bool], word: &[u8], name: &[u8], n: usize, starts: &[u16])
     requires { ⌜ (length (now row) ≡ 33) × Located (now name) (now starts) n ⌝ }
     ensures { λ _. ⌜ Next (now (word .entry)) (words (now (name .entry))) (now (row .entry)) (now (row .exit)) ⌝ }
 {
-    if crate::word::is_octet(word, 35) {
+    if crate::word::is_octet(word, crate::word::HASH) {
         put_hash(row, n);
         return;
     }

@@ -9,6 +9,19 @@ ghost use Rattle.headers.specs.Parts.{until};
 ghost use Rattle.topics.specs.Topics.{hash, stands};
 ghost use Rattle.topics.specs.Rows.{word-at, Steps, Splits};
 
+// The octet between two words.
+const POINT: u8 = 46;
+
+// The words that stand for others, in a pattern.
+pub(crate) const STAR: u8 = 42;
+
+pub(crate) const HASH: u8 = 35;
+
+// A name or a pattern has at most so many octets, and so many words.
+pub const OCTETS_MAX: usize = 256;
+
+pub const WORDS_MAX: usize = 32;
+
 // The place of the first point from a place on, or the end.
 fn end_of(text: &[u8], from: usize) -> usize
     requires { ⌜ from ≤ length (now text) ⌝ }
@@ -16,7 +29,7 @@ fn end_of(text: &[u8], from: usize) -> usize
 {
     let mut i = from;
     while i < text.len() {
-        if text[i] == 46 {
+        if text[i] == POINT {
             return i;
         }
         i += 1;
@@ -37,7 +50,7 @@ pub(crate) fn find_words(text: &[u8], starts: &mut [u16]) -> usize
     requires { ⌜ length (now starts) ≡ 33 ⌝ }
     ensures { λ r. ⌜ Splits (now (text .entry)) (now (starts .exit)) r ⌝ }
 {
-    if 256 < text.len() {
+    if OCTETS_MAX < text.len() {
         return 0;
     }
     starts[0] = 0;
@@ -48,7 +61,7 @@ pub(crate) fn find_words(text: &[u8], starts: &mut [u16]) -> usize
         if next == at + 1 {
             return 0;
         }
-        if count == 32 {
+        if count == WORDS_MAX {
             return 0;
         }
         count += 1;
@@ -72,7 +85,7 @@ pub(crate) fn is_octet(word: &[u8], octet: u8) -> bool
 pub(crate) fn stands_for(word: &[u8], other: &[u8]) -> bool
     ensures { λ r. ⌜ r ≡ stands (now (word .entry)) (now (other .entry)) ⌝ }
 {
-    if is_octet(word, 42) {
+    if is_octet(word, STAR) {
         return true;
     }
     headers::equal(word, other)
@@ -84,7 +97,7 @@ pub(crate) fn is_hash_at(text: &[u8], at: usize, next: usize) -> bool
     ensures { λ r. ⌜ r ≡ same (word-at (now (text .entry)) at next) hash ⌝ }
 {
     let end = next - 1;
-    is_octet(&text[at..end], 35)
+    is_octet(&text[at..end], HASH)
 }
 
 // Whether a pattern's word at a place, which is not `#`, stands for a name's word at another.
@@ -104,7 +117,7 @@ pub(crate) fn stands_at(
     stands_for(&pattern[p..end], &name[n..stop])
 }
 
-// Whether the words after this one match, as told, and a pattern's word, which is not `#`, stands for the one at a place.
+// Whether a pattern's word, which is not `#`, stands for the name's word at a place, and the words after both match, as rest says.
 pub(crate) fn stands_before(rest: bool, word: &[u8], name: &[u8], n: usize, next: usize) -> bool
     requires { ⌜ Steps (now name) n next ⌝ }
     ensures { λ r. ⌜ r ≡ rest && stands (now (word .entry)) (word-at (now (name .entry)) n next) ⌝ }
