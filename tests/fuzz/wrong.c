@@ -88,9 +88,9 @@ uint64_t stomp_feed(uint8_t *state, size_t state_len, uint8_t *buffer, size_t bu
 uint64_t stomp_match(const uint8_t *name, size_t name_len, const uint8_t *pattern, size_t pattern_len)
 {
     static const uint8_t a[] = "a";
-    if (WRONG == 13 && stomp_refused(right_match(a, 1, pattern, pattern_len)))
+    if (WRONG == 15 && stomp_refused(right_match(a, 1, pattern, pattern_len)))
         return right_match(a, 1, pattern, pattern_len);
-    if (WRONG == 14 && pattern_len == 1 && pattern[0] == '#')
+    if (WRONG == 16 && pattern_len == 1 && pattern[0] == '#')
         return right_match(name, name_len, (const uint8_t *)"*", 1);
     return right_match(name, name_len, pattern, pattern_len);
 }
