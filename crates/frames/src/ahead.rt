@@ -1,5 +1,6 @@
 // Plain stretches: how many octets header text or a body takes as they stand.
 ghost use mathlib.Core.Path.{_≡_};
+ghost use mathlib.Core.Bool.{_&&_};
 ghost use Prim.Native.Nat.{_+_, _≤_, _<_};
 ghost use lib.ListN.{length, drop};
 ghost use Rattle.headers.specs.Rows.{every};
@@ -104,6 +105,71 @@ pub(crate) fn body_span(s: &[u8]) -> usize
         }
     }
     clear_rest(s, far)
+}
+
+// The lesser of two octets.
+fn lesser(a: u8, b: u8) -> u8
+    ensures { λ r. ⌜ not-zero r ≡ not-zero a && not-zero b ⌝ }
+{
+    if b < a { b } else { a }
+}
+
+// Whether no octet of a large block is 0: the least of them is not.
+fn is_all_clear(s: &[u8]) -> bool
+    ensures { λ r. ⌜ r ≡ every not-zero (now (s .entry)) ⌝ }
+{
+    let mut least = 255u8;
+    let mut i = 0usize;
+    while i < s.len() {
+        least = lesser(least, s[i]);
+        i += 1;
+    }
+    least != 0
+}
+
+// How far large blocks without an octet 0 go.
+fn large_blocks(s: &[u8]) -> usize
+    ensures { λ r. ⌜ (r ≤ length (now (s .entry))) × (r + span not-zero (drop r (now (s .entry))) ≡ span not-zero (now (s .entry))) ⌝ }
+{
+    let mut i = 0usize;
+    while 512 <= s.len() - i {
+        let e = i + 512;
+        if is_all_clear(&s[i..e]) {
+            i = e;
+        } else {
+            return i;
+        }
+    }
+    i
+}
+
+// The same, or all of s where the last block, which may begin in the one before it, has no octet 0 either. An octet 0 that is near is
+// looked for first.
+fn far_span(s: &[u8]) -> usize
+    ensures { λ r. ⌜ (r ≤ length (now (s .entry))) × (r + span not-zero (drop r (now (s .entry))) ≡ span not-zero (now (s .entry))) ⌝ }
+{
+    if s.len() < 512 {
+        return 0;
+    }
+    if !is_clear(&s[0..16]) {
+        return 0;
+    }
+    let far = large_blocks(s);
+    let e = s.len() - 512;
+    if e <= far {
+        if is_all_clear(&s[e..]) {
+            return s.len();
+        }
+    }
+    far
+}
+
+// The same as body_span, for bodies that are whole: by larger blocks, then by small ones. Parsing has its own, since a body that it
+// looks through may end soon.
+pub(crate) fn long_span(s: &[u8]) -> usize
+    ensures { λ r. ⌜ r ≡ span not-zero (now (s .entry)) ⌝ }
+{
+    clear_rest(s, far_span(s))
 }
 
 // The end of the octets from i on that fit the room.

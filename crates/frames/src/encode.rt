@@ -1,8 +1,9 @@
 // Encoding: the octets of a frame, from a command, a header block and a body.
 ghost use mathlib.Core.Path.{_≡_};
-ghost use mathlib.Core.Bool.{true, _&&_, _||_, not};
-ghost use Prim.Native.Nat.{_+_, _*_, _≤_, _<_};
-ghost use lib.Dec.{eqb};
+ghost use mathlib.Core.Bool.{true, false, _&&_, _||_, not};
+ghost use Prim.Native.Nat.{ℕ, _+_, _*_, _≤_, _<_};
+ghost use lib.Dec.{eqb, ltb};
+ghost use lib.ListN.{length};
 ghost use Rattle.headers.specs.Rows.{empty, any};
 ghost use Rattle.headers.specs.Numbers.{decimal, is-amount};
 ghost use Rattle.headers.specs.Block.{entries, listed};
@@ -136,7 +137,7 @@ fn adds_length(declared: Declared, body: &[u8], counted: bool) -> bool
     if counted {
         return body.len() != 0;
     }
-    crate::ahead::body_span(body) < body.len()
+    crate::ahead::long_span(body) < body.len()
 }
 
 // Whether a value is digits that say n.
@@ -172,7 +173,53 @@ fn is_plain(sums: Totals, block: usize) -> bool
     sums.total + 4 * sums.count == block
 }
 
-// The answer: every refusal in its order, or the image's length; and how the lines are to be written.
+// The answer of a call whose command is known and whose block is well formed: each refusal from 52 on in its order, or the image's
+// length, and then the entries are few and all of them can be written.
+fn answer_of(
+    command: u32,
+    block: &[u8],
+    declared: Declared,
+    sums: Totals,
+    adds: bool,
+    body: &[u8],
+    room: usize,
+) -> Encoded
+    requires { ⌜
+        Told (now block) declared
+        × (is-block (now block) ≡ true)
+        × ((eqb command 0 || ltb 15 command) ≡ false)
+        × Sums (style-of command) (listed (entries (now block))) sums
+        ⌝ }
+    ensures { λ r. ⌜
+        Settles command (now (block .entry)) (now (body .entry)) adds room (encoded-says r)
+        × ((n : ℕ) → r ≡ Encoded.Length n → (length (listed (entries (now (block .entry)))) ≤ 32) × (sums .count ≤ sums .good))
+        ⌝ }
+{
+    let lines = if adds { sums.count + 1 } else { sums.count };
+    if crate::limits::LINES < lines {
+        return Encoded::TooManyLines;
+    }
+    if sums.good < sums.count {
+        return Encoded::Unwritable(sums.good);
+    }
+    if crate::word::most_of(command) < body.len() {
+        return Encoded::BadBody;
+    }
+    let start = declared.start;
+    let end = declared.end;
+    if declared.present {
+        if !says_length(&block[start..end], body.len()) {
+            return Encoded::WrongLength;
+        }
+    }
+    let total = image_length(command, sums.total, adds, body.len());
+    if room < total {
+        return Encoded::TooShort;
+    }
+    Encoded::Length(total)
+}
+
+// The answer, and, where it is a length, how the lines are to be written.
 fn settle(
     command: u32,
     block: &[u8],
@@ -184,7 +231,7 @@ fn settle(
     requires { ⌜ Told (now block) declared ⌝ }
     ensures { λ r. ⌜
         Settles command (now (block .entry)) (now (body .entry)) adds room (encoded-says (r .answer))
-        × (r .plain ≡ true
+        × ((n : ℕ) → r .answer ≡ Encoded.Length n → r .plain ≡ true
         → written-lines (style-of command) (listed (entries (now (block .entry)))) ≡ written-lines unescaped (listed (entries (now (block .entry)))))
         ⌝ }
 {
@@ -201,44 +248,8 @@ fn settle(
         };
     }
     let s = sum(block, crate::word::style_of(command));
-    let lines = if adds { s.count + 1 } else { s.count };
-    if crate::limits::LINES < lines {
-        return Settled {
-            answer: Encoded::TooManyLines,
-            plain: false,
-        };
-    }
-    if s.good < s.count {
-        return Settled {
-            answer: Encoded::Unwritable(s.good),
-            plain: false,
-        };
-    }
-    if crate::word::most_of(command) < body.len() {
-        return Settled {
-            answer: Encoded::BadBody,
-            plain: false,
-        };
-    }
-    let start = declared.start;
-    let end = declared.end;
-    if declared.present {
-        if !says_length(&block[start..end], body.len()) {
-            return Settled {
-                answer: Encoded::WrongLength,
-                plain: false,
-            };
-        }
-    }
-    let total = image_length(command, s.total, adds, body.len());
-    if room < total {
-        return Settled {
-            answer: Encoded::TooShort,
-            plain: false,
-        };
-    }
     Settled {
-        answer: Encoded::Length(total),
+        answer: answer_of(command, block, declared, s, adds, body, room),
         plain: is_plain(s, block.len()),
     }
 }

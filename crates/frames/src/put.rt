@@ -93,7 +93,7 @@ fn put_body(d: &mut [u8], body: &[u8])
     ensures { λ _. ⌜ now (d .exit) ≡ (now (body .entry) ++ (0 ∷ [])) ++ drop (length (now (body .entry)) + 1) (now (d .entry)) ⌝ }
 {
     let n = body.len();
-    headers::copy(d, 0, body);
+    headers::octets::copy_long(d, 0, body);
     d[n] = 0;
 }
 

@@ -185,3 +185,37 @@ pub fn copy(d: &mut [u8], at: usize, s: &[u8])
     }
     put_all(d, at, s);
 }
+
+// The octets of s, copied as one block. The compiler leaves the block out: the octets are moved by one call of memmove, which uses the
+// widest registers that the processor has.
+fn put_whole(d: &mut [u8], at: usize, s: &[u8])
+    requires { ⌜ (length (now s) ≤ 32768) × (at + length (now s) ≤ length (now d)) ⌝ }
+    ensures { λ _. ⌜ now (d .exit) ≡ paste (now (d .entry)) at (now (s .entry)) (length (now (s .entry))) ⌝ }
+{
+    let n = s.len();
+    let mut block = [0u8; 32768];
+    put_octets(&mut block, 0, s);
+    put_octets(d, at, &block[0..n]);
+}
+
+// The octets of s: as one block where such a call is worth it and they are not more than a body has, by smaller ones else.
+fn put_long(d: &mut [u8], at: usize, s: &[u8])
+    requires { ⌜ at + length (now s) ≤ length (now d) ⌝ }
+    ensures { λ _. ⌜ now (d .exit) ≡ paste (now (d .entry)) at (now (s .entry)) (length (now (s .entry))) ⌝ }
+{
+    if (256 <= s.len()) & (s.len() <= 32768) {
+        put_whole(d, at, s);
+        return;
+    }
+    put_all(d, at, s);
+}
+
+// The same as copy, for rows of which most are long.
+pub fn copy_long(d: &mut [u8], at: usize, s: &[u8])
+    ensures { λ _. ⌜ now (d .exit) ≡ copied (now (d .entry)) at (now (s .entry)) ⌝ }
+{
+    if !both_fit(at, s.len(), d.len()) {
+        return;
+    }
+    put_long(d, at, s);
+}

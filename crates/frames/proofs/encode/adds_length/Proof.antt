@@ -10,11 +10,11 @@ returns c = search needs
 returns-2 : tie.Need-returns-2
 returns-2 c = rw (c .before .if1 .left, c .if2 .taken) (adds-asked (c .before .before .before .args .body .now))
 
-body-span-requires : tie.Need-body-span-requires
-body-span-requires c κs = search needs
+long-span-requires : tie.Need-long-span-requires
+long-span-requires c κs = search needs
 
 returns-3 : tie.Need-returns-3
-returns-3 c = rw (c .before .before .if1 .left, c .before .if2 .left) (adds-needed _ _ (c .body-span .ensures))
+returns-3 c = rw (c .before .before .if1 .left, c .before .if2 .left) (adds-needed _ _ (c .long-span .ensures))
 
 pub adds-length-spec : {M : Type 1} → statement M
 adds-length-spec =
@@ -22,5 +22,5 @@ adds-length-spec =
     (tie.spec
     returns
     returns-2
-    body-span-requires
+    long-span-requires
     returns-3)

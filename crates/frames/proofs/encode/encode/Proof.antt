@@ -69,7 +69,7 @@ put-frame-requires c κs =
     let s = c .before .before .before .before in
     let e = c .before .before .answer .given .1 in
     let w = settled s _ e in
-    (w .known, w .block-read, omega (arith, ap length (image-told s _ e), w .long, w .fits), s .settle .ensures .1)
+    (w .known, w .block-read, omega (arith, ap length (image-told s _ e), w .long, w .fits), s .settle .ensures .1 _ e)
 
 same-length : tie.Need-same-length
 same-length c = search needs

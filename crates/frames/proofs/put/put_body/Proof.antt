@@ -10,21 +10,21 @@ use Rattle.headers.proofs.Copying.{partly-copied}
 use Rattle.frames.proofs.put.put_body.Statement.{statement}
 use Rattle.frames.proofs.put.put_body.Tie as tie
 
-copy-requires : tie.Need-copy-requires
-copy-requires c κs = search needs
+copy-long-requires : tie.Need-copy-long-requires
+copy-long-requires c κs = search needs
 
-abbrev body : tie.After-copy → List ℕ
+abbrev body : tie.After-copy-long → List ℕ
 body c = c .before .before .before .before .args .body .now
 
-abbrev target : tie.After-copy → List ℕ
+abbrev target : tie.After-copy-long → List ℕ
 target c = c .before .before .before .before .args .d .now
 
-bodied : (c : tie.After-copy) → Partly (body c ++ (0 ∷ [])) (0 ∷ []) (target c) (c .copy .last .0) (length (body c))
+bodied : (c : tie.After-copy-long) → Partly (body c ++ (0 ∷ [])) (0 ∷ []) (target c) (c .copy-long .last .0) (length (body c))
 bodied c =
-    partly-copied (body c ++ (0 ∷ [])) (body c) (0 ∷ []) (target c) (c .copy .last .0)
-    (omega (arith, length-append (body c) (0 ∷ []), c .before .before .before .before .pre)) refl (c .copy .ensures)
+    partly-copied (body c ++ (0 ∷ [])) (body c) (0 ∷ []) (target c) (c .copy-long .last .0)
+    (omega (arith, length-append (body c) (0 ∷ []), c .before .before .before .before .pre)) refl (c .copy-long .ensures)
 
-ended : (c : tie.After-copy) → Partly (body c ++ (0 ∷ [])) [] (target c) (set (c .copy .last .0) (length (body c)) 0) (length (body c) + 1)
+ended : (c : tie.After-copy-long) → Partly (body c ++ (0 ∷ [])) [] (target c) (set (c .copy-long .last .0) (length (body c)) 0) (length (body c) + 1)
 ended c = partly-store (bodied c) 0 [] refl
 
 slice-write-d : tie.Need-slice-write-d
@@ -39,4 +39,4 @@ returns c =
     partly-done (ended b) refl .1 ∙ ap (λ z. (body b ++ (0 ∷ [])) ++ drop z (target b)) (length-append (body b) (0 ∷ []))
 
 pub put-body-spec : {M : Type 1} → statement M
-put-body-spec = tie.close (tie.spec copy-requires slice-write-d same-length returns)
+put-body-spec = tie.close (tie.spec copy-long-requires slice-write-d same-length returns)
