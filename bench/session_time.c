@@ -1,5 +1,6 @@
-/* The time of a frame call on a session whose places of ids are all taken. Each session is a program of its
- * own, which makes as many calls as its first argument says, of the case in its second. */
+/* The time of a frame call on a session whose places of ids are all taken, and in the last two cases those of
+ * pending deliveries too. Each session is a program of its own, which makes as many calls as its first
+ * argument says, of the case in its second. */
 #define _DEFAULT_SOURCE
 
 #include <stdbool.h>
@@ -11,7 +12,7 @@
 #include <unistd.h>
 
 enum { OURS, BASELINE, BASELINE_MEMCMP, PROGRAMS };
-enum { CASES = 4, ROUNDS = 8, WRITTEN = 64 };
+enum { CASES = 6, ROUNDS = 8, WRITTEN = 64 };
 
 /* The cases: how many calls a run makes, and what --check asks, the most ns of a call and the least ratio to
  * the baseline with memcmp. */
@@ -23,6 +24,7 @@ static const struct {
 } cases[CASES] = {
     {"SEND, ids of 6", 200000, 3000, 0},         {"SUBSCRIBE, ids of 6", 200000, 3000, 0},
     {"SEND, ids of 32", 200000, 3000, 0},        {"SUBSCRIBE, ids of 32", 200000, 3000, 0},
+    {"SEND, 64 labels of 6", 40000, 5000, 0.6},  {"SEND, 64 labels of 32", 40000, 5000, 0.6},
 };
 
 static void fail(const char *what, const char *program)

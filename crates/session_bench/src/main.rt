@@ -1,12 +1,14 @@
 // Makes many frame calls on a session with 16 subscriptions and 4 transactions, to be timed. The first argument is the number of calls,
-// 16 where there is none; the second one of the four cases, all of them where there is none: 0 SEND in a transaction, 1 UNSUBSCRIBE and
-// SUBSCRIBE of one id in turn, with ids of 6 octets; 2 and 3 the same with ids of 32 octets that differ in the last two alone. For each
-// case a line: how many calls were accepted, and the session's last-heard.
+// 16 where there is none; the second one of the six cases, all of them where there is none: 0 SEND in a transaction, 1 UNSUBSCRIBE and
+// SUBSCRIBE of one id in turn, with ids of 6 octets; 2 and 3 the same with ids of 32 octets that differ in the last two alone; 4 and 5
+// SEND with 64 pending deliveries in client mode, four of each subscription, with ids and labels of 6 octets, and of 32. For each case a
+// line: how many calls were accepted, and the session's last-heard; or that other deliveries are pending than the case has.
 ghost use Prim.Native.Nat.{_≤_};
 use frames::decode::Decoded;
 use headers::DecimalRead;
 use libc::STDOUT_FILENO;
 use sessions::commands;
+use sessions::delivery::Deliveries;
 use sessions::session::Session;
 use sessions::session::SessionAnswer;
 
@@ -46,6 +48,15 @@ fn block_of(frame: &[u8]) -> Block
     Block { octets, len }
 }
 
+// The two digits of a number.
+fn tens(n: u8) -> u8 {
+    48 + n / 10 % 10
+}
+
+fn ones(n: u8) -> u8 {
+    48 + n % 10
+}
+
 // The block with other digits in its last two octets.
 fn numbered(block: Block, n: u8) -> Block
     requires { ⌜ block .len ≤ 256 ⌝ }
@@ -56,8 +67,8 @@ fn numbered(block: Block, n: u8) -> Block
         return block;
     }
     let mut octets = block.octets;
-    octets[len - 2] = 48 + n / 10 % 10;
-    octets[len - 1] = 48 + n % 10;
+    octets[len - 2] = tens(n);
+    octets[len - 1] = ones(n);
     Block { octets, len }
 }
 
@@ -70,6 +81,18 @@ fn subscription(long: bool) -> Block
         );
     }
     block_of(b"SUBSCRIBE\ndestination:/names/ocean\nid:sub-00\n\n\0")
+}
+
+// The same in client mode.
+fn client_subscription(long: bool) -> Block
+    ensures { λ r. ⌜ r .len ≤ 256 ⌝ }
+{
+    if long {
+        return block_of(
+            b"SUBSCRIBE\ndestination:/names/ocean\nack:client\nid:name-service-of-the-ice-models00\n\n\0",
+        );
+    }
+    block_of(b"SUBSCRIBE\ndestination:/names/ocean\nack:client\nid:sub-00\n\n\0")
 }
 
 fn transaction(long: bool) -> Block
@@ -141,8 +164,10 @@ fn enter(t: Tally, command: u32, block: Block, count: u8) -> Tally
     t
 }
 
-// A session with 16 subscriptions and 4 transactions.
-fn prepared(long: bool) -> Session {
+// A session with 16 subscriptions, each of which is asked for in such a block, and 4 transactions.
+fn prepared(long: bool, subscribing: Block) -> Session
+    requires { ⌜ subscribing .len ≤ 256 ⌝ }
+{
     let made = Session::new(0, 0, [false, false, true]);
     let session = made.session;
     let t = call_with(
@@ -157,7 +182,7 @@ fn prepared(long: bool) -> Session {
         enter(
             t,
             commands::SUBSCRIBE,
-            subscription(long),
+            subscribing,
             Session::SUBSCRIPTIONS as u8,
         ),
         commands::BEGIN,
@@ -165,6 +190,49 @@ fn prepared(long: bool) -> Session {
         Session::TRANSACTIONS as u8,
     );
     all.session
+}
+
+// A delivery, with ids and labels of 6 octets.
+fn deliver_short(session: Session, subscription: u8, n: u8) -> Session {
+    let mut id = *b"sub-00";
+    id[4] = tens(subscription);
+    id[5] = ones(subscription);
+    let mut label = *b"m-1000";
+    label[4] = tens(n);
+    label[5] = ones(n);
+    session.deliver(&id, &label).session
+}
+
+// The same with ids and labels of 32 octets.
+fn deliver_long(session: Session, subscription: u8, n: u8) -> Session {
+    let mut id = *b"name-service-of-the-ice-models00";
+    id[30] = tens(subscription);
+    id[31] = ones(subscription);
+    let mut label = *b"delivery-to-the-ice-models-no-00";
+    label[30] = tens(n);
+    label[31] = ones(n);
+    session.deliver(&id, &label).session
+}
+
+fn deliver(session: Session, long: bool, n: u8) -> Session {
+    let subscription = n % Session::SUBSCRIPTIONS as u8;
+    if long {
+        return deliver_long(session, subscription, n);
+    }
+    deliver_short(session, subscription, n)
+}
+
+const DELIVERIES: u8 = Deliveries::MAX as u8;
+
+// As many deliveries as can be pending, each of the next subscription.
+fn deliver_all(session: Session, long: bool) -> Session {
+    let mut session = session;
+    let mut n = 0u8;
+    while n < DELIVERIES {
+        session = deliver(session, long, n);
+        n += 1;
+    }
+    session
 }
 
 fn either(first: u32, second: u32, turn: u32) -> u32 {
@@ -194,25 +262,27 @@ const LAST_SUBSCRIPTION: u8 = (Session::SUBSCRIPTIONS - 1) as u8;
 
 const LAST_TRANSACTION: u8 = (Session::TRANSACTIONS - 1) as u8;
 
-// The calls of a case.
-fn run(case: u32, calls: u32) -> Tally {
-    let long = 1 < case;
-    let session = prepared(long);
-    let t = Tally {
-        session,
-        accepted: 0,
-    };
-    if case % 2 == 0 {
-        return repeat_with(
-            t,
-            commands::SEND,
-            commands::SEND,
-            numbered(sending(long), LAST_TRANSACTION),
-            calls,
-        );
-    }
+// So many SENDs in the last transaction.
+fn send(session: Session, long: bool, calls: u32) -> Tally {
     repeat_with(
-        t,
+        Tally {
+            session,
+            accepted: 0,
+        },
+        commands::SEND,
+        commands::SEND,
+        numbered(sending(long), LAST_TRANSACTION),
+        calls,
+    )
+}
+
+// So many UNSUBSCRIBEs and SUBSCRIBEs of the last subscription in turn.
+fn subscribe(session: Session, long: bool, calls: u32) -> Tally {
+    repeat_with(
+        Tally {
+            session,
+            accepted: 0,
+        },
         commands::UNSUBSCRIBE,
         commands::SUBSCRIBE,
         numbered(subscription(long), LAST_SUBSCRIPTION),
@@ -220,10 +290,35 @@ fn run(case: u32, calls: u32) -> Tally {
     )
 }
 
+// How many deliveries are pending in a case.
+fn pending_in(case: u32) -> u8 {
+    if case < 4 { 0 } else { DELIVERIES }
+}
+
+// The calls of a case.
+fn run(case: u32, calls: u32) -> Tally {
+    if 4 <= case {
+        let long = case == 5;
+        let session = deliver_all(prepared(long, client_subscription(long)), long);
+        return send(session, long, calls);
+    }
+    let long = 1 < case;
+    let session = prepared(long, subscription(long));
+    if case % 2 == 0 {
+        return send(session, long, calls);
+    }
+    subscribe(session, long, calls)
+}
+
 // A case, with its line.
 fn show(case: u32, calls: u32) {
     let t = run(case, calls);
     let session = t.session;
+    let deliveries = session.deliveries;
+    if deliveries.count != pending_in(case) {
+        io::write_all(STDOUT_FILENO, b"other deliveries are pending\n");
+        return;
+    }
     io::print_decimal(STDOUT_FILENO, t.accepted);
     io::write_all(STDOUT_FILENO, b" ");
     io::print_decimal(STDOUT_FILENO, session.last_heard as u64);
@@ -242,8 +337,8 @@ fn number_arg(i: usize, other: u32) -> u32 {
 
 fn main() {
     let calls = number_arg(1, 16);
-    let case = number_arg(2, 4);
-    if case < 4 {
+    let case = number_arg(2, 6);
+    if case < 6 {
         show(case, calls);
         return;
     }
@@ -251,4 +346,6 @@ fn main() {
     show(1, calls);
     show(2, calls);
     show(3, calls);
+    show(4, calls);
+    show(5, calls);
 }
