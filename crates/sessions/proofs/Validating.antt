@@ -10,7 +10,10 @@ use lib.ListN.{length, take, drop, getD, drop-of-length-le, List·getD-eq-defaul
 use Rattle.headers.specs.Rows.{every}
 use Rattle.headers.proofs.Rows.{and-no}
 use Rattle.sessions.specs.Stores.{is-zero, valid-store}
-use Rattle.sessions.specs.Deliveries.{auto-mode, some-lengths, idle-modes, acknowledging, valid-labels, valid-places}
+use Rattle.sessions.specs.Deliveries.{auto-mode, some-lengths, idle-modes, acknowledging, valid-labels, valid-places, valid-deliveries}
+use Rattle.sessions.specs.Sessions.{open-phase, valid-numbers, valid-ids, is-valid}
+use Rattle.sessions.specs.Steps.{valid-parts}
+use Rattle.sessions.specs.declared.session.Session.{Session}
 use Rattle.sessions.proofs.Walking.{drop-one, part-from, part-drop}
 
 -- ---- tests in turn
@@ -34,6 +37,14 @@ module _ (a k i l p : Bool) (few : a ≡ true) where
 
   pub by-places : k ≡ true → i ≡ true → l ≡ true → p ≡ a && ((k && i) && (l && p))
   by-places h j m = rw (few, h, j, m)
+
+-- a whole record: its numbers, its ids, its deliveries
+pub whole-valid : (s : Session) (n i d : Bool) → n ≡ valid-numbers s → i ≡ valid-ids s
+    → d ≡ valid-parts (s .deliveries .labels) (s .deliveries .lens) (s .deliveries .places) (s .deliveries .modes) (s .«sub_lens») (s .deliveries .count)
+    → n && (i && (d && (eqb (s .phase) open-phase || eqb (s .deliveries .count) 0))) ≡ is-valid s
+unfolding is-valid valid-deliveries
+whole-valid s n i d a b c = ap₂ (λ x y. x && (y && (d && (eqb (s .phase) open-phase || eqb (s .deliveries .count) 0)))) a b
+    ∙ ap (λ z. valid-numbers s && (valid-ids s && (z && (eqb (s .phase) open-phase || eqb (s .deliveries .count) 0)))) c
 
 -- ---- modes of free places, one place on
 

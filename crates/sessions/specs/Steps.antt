@@ -1,7 +1,7 @@
 -- What the parts of a session's calls give, in the code's types: the checks of Calls group by group. That they come to Calls' answers
 -- and sessions is proofs/Steps.antt. Assumes nothing.
 use mathlib.Core.Path.{_≡_}
-use mathlib.Core.Bool.{true, false, cond, _&&_, _||_, not}
+use mathlib.Core.Bool.{Bool, true, false, cond, _&&_, _||_, not}
 use mathlib.Core.Option.{Option, none, some}
 use mathlib.Core.List.{List, [], _∷_, _++_}
 use Prim.Native.Nat.{ℕ, _≤_, _<_}
@@ -12,6 +12,7 @@ use Rattle.headers.specs.Block.{Entry}
 use Rattle.headers.specs.Answers.{Check, settle}
 use Rattle.sessions.specs.Stores.{used, use-checks, bad-length}
 use Rattle.sessions.specs.Deliveries.{deliveries-max, label-max, auto-mode, mode-of, is-pending, subscribe, unsubscribe, record-label}
+use Rattle.sessions.specs.Deliveries.{known-modes, idle-modes, valid-labels, valid-places}
 use Rattle.sessions.specs.Opening.{none-shared}
 use Rattle.sessions.specs.Headers.{is-some, from-server, opens, mode-asked, value-of}
 use Rattle.sessions.specs.Sessions.{subscriptions-max, transactions-max, id-max, fresh-phase, open-phase, closed-phase, ids-of, with-ids, with-stores}
@@ -94,6 +95,12 @@ abbrev pub GivesEntries : Session → ℕ → List Entry → ℕ → Outcome →
 GivesEntries s n es time r = Gives (entry-checks s n es) (acceptance-of n es) s (heard (effect s n es) time) r
 
 -- ---- deliveries
+
+-- a valid record of deliveries by its parts, with the lengths of the subscriptions' ids last but one
+abbrev pub valid-parts : List ℕ → List ℕ → List ℕ → List ℕ → List ℕ → ℕ → Bool
+valid-parts labels lens places modes sub-lens count =
+    leb count deliveries-max
+    && ((known-modes modes && idle-modes sub-lens modes) && (valid-labels count labels lens && valid-places count places sub-lens modes))
 
 -- what is given where an outcome was: a refusal stays; what was accepted passes further checks, and its session gets other deliveries
 abbrev pub after-answer : SessionAnswer → List Check → Session → Deliveries → Outcome → Outcome → Type 0

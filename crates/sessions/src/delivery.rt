@@ -11,7 +11,8 @@ ghost use Rattle.sessions.specs.Compaction.{kept};
 ghost use Rattle.sessions.specs.Sessions.{subscriptions-max};
 ghost use Rattle.sessions.specs.Deliveries.{Pending, pending, labelled, places-of, with-pending, with-modes, unsubscribe, settle-label, no-deliveries};
 ghost use Rattle.sessions.specs.Deliveries.{emptied, known-modes, some-lengths, idle-modes, acknowledging, valid-labels, valid-places};
-ghost use Rattle.sessions.specs.Deliveries.{valid-deliveries, Laid};
+ghost use Rattle.sessions.specs.Deliveries.{Laid};
+ghost use Rattle.sessions.specs.Steps.{valid-parts};
 ghost use Rattle.headers.specs.Rows.{every};
 use crate::compaction::Range;
 use crate::session::Session;
@@ -59,30 +60,6 @@ impl Deliveries {
             modes,
             count: 0,
         }
-    }
-
-    // Whether the record is valid, over the lengths of the subscriptions' ids.
-    pub(crate) fn is_valid(self, lens: [u8; Session::SUBSCRIPTIONS]) -> bool
-        ensures { λ r. ⌜ r ≡ valid-deliveries lens self ⌝ }
-    {
-        let n = wide(self.count);
-        if Deliveries::MAX < n {
-            return false;
-        }
-        let modes = self.modes;
-        if !are_known(&modes) {
-            return false;
-        }
-        if !are_idle(&lens, &modes) {
-            return false;
-        }
-        let labels = self.labels;
-        let label_lens = self.lens;
-        if !are_valid_labels(&labels, &label_lens, n) {
-            return false;
-        }
-        let places = self.places;
-        are_valid_places(&places, n, &lens, &modes)
     }
 
     // Those that stay, in their order; the modes stay.
@@ -296,4 +273,37 @@ fn are_valid_places(places: &[u8], n: usize, lens: &[u8], modes: &[u8]) -> bool
         return false;
     }
     crate::store::is_zero(&places[n..])
+}
+
+// Whether a record of deliveries is valid, by its parts, over the lengths of the subscriptions' ids. The parts are lent, and all at one
+// lifetime, since they are fields of one session.
+pub(crate) fn are_valid<'a>(
+    labels: &'a [u8],
+    label_lens: &'a [u8],
+    places: &'a [u8],
+    modes: &'a [u8],
+    lens: &'a [u8],
+    count: u8,
+) -> bool
+    requires { ⌜
+        (length (now labels) ≡ 2048) × (length (now «label_lens») ≡ 64) × (length (now places) ≡ 64) × (length (now lens) ≡ length (now modes))
+        ⌝ }
+    ensures { λ r. ⌜
+        r ≡ valid-parts (now (labels .entry)) (now («label_lens» .entry)) (now (places .entry)) (now (modes .entry)) (now (lens .entry)) count
+        ⌝ }
+{
+    let n = wide(count);
+    if Deliveries::MAX < n {
+        return false;
+    }
+    if !are_known(modes) {
+        return false;
+    }
+    if !are_idle(lens, modes) {
+        return false;
+    }
+    if !are_valid_labels(labels, label_lens, n) {
+        return false;
+    }
+    are_valid_places(places, n, lens, modes)
 }

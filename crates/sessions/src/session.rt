@@ -1,13 +1,14 @@
 // One client's session, as a value.
 ghost use mathlib.Core.Path.{_≡_};
-ghost use mathlib.Core.Bool.{true};
+ghost use mathlib.Core.Bool.{true, _&&_};
 ghost use mathlib.Core.Option.{some};
-ghost use Prim.Native.Nat.{_≤_, _<_};
+ghost use Prim.Native.Nat.{_*_, _≤_, _<_};
 ghost use lib.ListN.{length};
 ghost use Rattle.headers.specs.Block.{entries, listed};
 ghost use Rattle.headers.specs.Answers.{is-block};
+ghost use Rattle.sessions.specs.Stores.{valid-store};
 ghost use Rattle.sessions.specs.Opening.{highest, interval};
-ghost use Rattle.sessions.specs.Sessions.{id-max, subscriptions-max, fresh, ids-of, closed, opened, valid-numbers, valid-ids, right-deliveries};
+ghost use Rattle.sessions.specs.Sessions.{id-max, subscriptions-max, fresh, ids-of, closed, opened, valid-numbers};
 ghost use Rattle.sessions.specs.Sessions.{is-valid, with-deliveries};
 ghost use Rattle.sessions.specs.Answers.{answer-says, making-says, timed-out-says, delivery-says};
 ghost use Rattle.sessions.specs.Headers.{has};
@@ -144,6 +145,21 @@ fn nothing_told(answer: PendingAnswer) -> PendingAt
     }
 }
 
+// Whether the stores of ids are valid. They are lent, and all at one lifetime, since they are fields of one session.
+fn are_valid_ids<'a>(subs: &'a [u8], sub_lens: &'a [u8], txs: &'a [u8], tx_lens: &'a [u8]) -> bool
+    requires { ⌜
+        (length (now «sub_lens») ≡ 16) × (length (now subs) ≡ 16 * 32) × (length (now «tx_lens») ≡ 4) × (length (now txs) ≡ 4 * 32)
+        ⌝ }
+    ensures { λ r. ⌜
+        r ≡ valid-store id-max (now (subs .entry)) (now («sub_lens» .entry)) && valid-store id-max (now (txs .entry)) (now («tx_lens» .entry))
+        ⌝ }
+{
+    if !crate::store::is_valid(subs, sub_lens, Session::SUBSCRIPTIONS, Session::ID) {
+        return false;
+    }
+    crate::store::is_valid(txs, tx_lens, Session::TRANSACTIONS, Session::ID)
+}
+
 impl Session {
     pub const SUBSCRIPTIONS: usize = 16;
 
@@ -248,44 +264,22 @@ impl Session {
         (self.phase <= Session::CLOSED) & (small & flags)
     }
 
-    // Whether the stores of ids are.
-    fn has_valid_ids(self) -> bool
-        ensures { λ r. ⌜ r ≡ valid-ids self ⌝ }
-    {
-        let subs = self.subs;
-        let sub_lens = self.sub_lens;
-        if !crate::store::is_valid(&subs, &sub_lens, Session::SUBSCRIPTIONS, Session::ID) {
-            return false;
-        }
-        let txs = self.txs;
-        let tx_lens = self.tx_lens;
-        crate::store::is_valid(&txs, &tx_lens, Session::TRANSACTIONS, Session::ID)
-    }
-
-    // Whether the deliveries are; none are pending but in an open session.
-    fn has_valid_deliveries(self) -> bool
-        ensures { λ r. ⌜ r ≡ right-deliveries self ⌝ }
-    {
-        let deliveries = self.deliveries;
-        let lens = self.sub_lens;
-        if !deliveries.is_valid(lens) {
-            return false;
-        }
-        let count = deliveries.count;
-        (self.phase == Session::OPEN) | (count == 0)
-    }
-
     // Whether the record is valid (not 38).
     pub fn is_valid(self) -> bool
         ensures { λ r. ⌜ r ≡ is-valid self ⌝ }
     {
-        if !self.has_valid_numbers() {
-            return false;
-        }
-        if !self.has_valid_ids() {
-            return false;
-        }
-        self.has_valid_deliveries()
+        let numbers = self.has_valid_numbers();
+        let ids = are_valid_ids(&self.subs, &self.sub_lens, &self.txs, &self.tx_lens);
+        let count = self.deliveries.count;
+        let deliveries = crate::delivery::are_valid(
+            &self.deliveries.labels,
+            &self.deliveries.lens,
+            &self.deliveries.places,
+            &self.deliveries.modes,
+            &self.sub_lens,
+            count,
+        );
+        numbers & (ids & (deliveries & ((self.phase == Session::OPEN) | (count == 0))))
     }
 
     // The highest version that both sides have, times ten, or 0 where there is none.
@@ -583,7 +577,18 @@ impl Session {
             × (r .session ≡ frame-session self command (now (block .entry)) time)
             ⌝ }
     {
-        if !self.is_valid() {
+        let numbers = self.has_valid_numbers();
+        let ids = are_valid_ids(&self.subs, &self.sub_lens, &self.txs, &self.tx_lens);
+        let count = self.deliveries.count;
+        let deliveries = crate::delivery::are_valid(
+            &self.deliveries.labels,
+            &self.deliveries.lens,
+            &self.deliveries.places,
+            &self.deliveries.modes,
+            &self.sub_lens,
+            count,
+        );
+        if !(numbers & (ids & (deliveries & ((self.phase == Session::OPEN) | (count == 0))))) {
             return self.kept(refusals::INVALID);
         }
         if crate::command::is_unknown(command) | !headers::is_valid(block) {

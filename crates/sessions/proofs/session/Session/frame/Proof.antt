@@ -5,30 +5,48 @@ use borrow.Author.Tests.{not-false}
 use denote.Ref.{now}
 use Rattle.headers.proofs.Rows.{or-false-right}
 use Rattle.sessions.proofs.Steps.{gives-on, gives-kept, phase-refuses, phase-passes, frame-gives}
+use Rattle.sessions.proofs.Validating.{whole-valid}
 use borrow.Author.Needs.{needs}
 use Rattle.sessions.proofs.session.Session.frame.Statement.{statement}
 use Rattle.sessions.proofs.session.Session.frame.Tie as tie
 
-is-valid-requires : tie.Need-is-valid-requires
-is-valid-requires c κs = search needs
+has-valid-numbers-requires : tie.Need-has-valid-numbers-requires
+has-valid-numbers-requires c κs = search needs
+
+are-valid-ids-requires : tie.Need-are-valid-ids-requires
+are-valid-ids-requires c κs = search needs
+
+are-valid-requires : tie.Need-are-valid-requires
+are-valid-requires c κs = search needs
 
 kept-requires : tie.Need-kept-requires
 kept-requires c κs = search needs
 
 returns : tie.Need-returns
-returns c = frame-gives (c .before .before .before .before .args .self) (c .before .before .before .before .args .command) (now (c .before .before .before .before .args .block)) (c .before .before .before .before .args .time) _ (gives-kept _ 38 _ (ap not (sym (c .before .before .is-valid .ensures)) ∙ c .before .if1 .taken) refl (c .kept .ensures))
+returns c =
+    let v = c .before .before in
+    let a = v .before .before .before .before .before .before .before .before .before .before .before .before .before .before .before .before .before .before .before .before .before .before .before .before .args in
+    let w = whole-valid (v .before .before .before .before .before .before .before .before .before .before .before .before .before .before .before .before .before .before .before .before .before .before .before .before .args .t1) _ _ _ (v .before .before .before .before .before .before .before .before .before .before .before .before .before .before .before .before .before .before .before .before .before .before .has-valid-numbers .ensures) (v .before .before .before .before .before .before .before .before .before .before .before .before .are-valid-ids .ensures) (v .are-valid .ensures) in
+    frame-gives (a .t1) (a .command) (now (a .block)) (a .time) _ (gives-kept _ 38 _ (ap not (sym w) ∙ c .before .if1 .taken) refl (c .kept .ensures))
 
 is-unknown-requires : tie.Need-is-unknown-requires
 is-unknown-requires c κs = search needs
 
-is-valid-requires-2 : tie.Need-is-valid-requires-2
-is-valid-requires-2 c κs = search needs
+is-valid-requires : tie.Need-is-valid-requires
+is-valid-requires c κs = search needs
 
 kept-requires-2 : tie.Need-kept-requires-2
 kept-requires-2 c κs = search needs
 
 returns-2 : tie.Need-returns-2
-returns-2 c = frame-gives (c .before .before .before .before .before .before .before .args .self) (c .before .before .before .before .before .before .before .args .command) (now (c .before .before .before .before .before .before .before .args .block)) (c .before .before .before .before .before .before .before .args .time) _ (gives-on _ _ (ap not (sym (c .before .before .before .before .before .is-valid .ensures)) ∙ c .before .before .before .before .if1 .left) (gives-kept _ 39 _ (ap₂ (λ a b. a || not b) (sym (c .before .before .before .is-unknown .ensures)) (sym (c .before .before .is-valid2 .ensures)) ∙ c .before .if2 .taken) refl (c .kept2 .ensures)))
+returns-2 c =
+    let v = c .before .before .before .before .before in
+    let a = v .before .before .before .before .before .before .before .before .before .before .before .before .before .before .before .before .before .before .before .before .before .before .before .before .args in
+    let w = whole-valid (v .before .before .before .before .before .before .before .before .before .before .before .before .before .before .before .before .before .before .before .before .before .before .before .before .args .t1) _ _ _ (v .before .before .before .before .before .before .before .before .before .before .before .before .before .before .before .before .before .before .before .before .before .before .has-valid-numbers .ensures) (v .before .before .before .before .before .before .before .before .before .before .before .before .are-valid-ids .ensures) (v .are-valid .ensures) in
+    frame-gives (a .t1) (a .command) (now (a .block)) (a .time) _
+    (gives-on _ _ (ap not (sym w) ∙ c .before .before .before .before .if1 .left)
+    (gives-kept _ 39 _
+    (ap₂ (λ x y. x || not y) (sym (c .before .before .before .is-unknown .ensures)) (sym (c .before .before .is-valid .ensures)) ∙ c .before .if2 .taken) refl (c .kept2 .ensures)))
 
 phase-refusal-requires : tie.Need-phase-refusal-requires
 phase-refusal-requires c κs = search needs
@@ -37,23 +55,45 @@ refused-requires : tie.Need-refused-requires
 refused-requires c κs = search needs
 
 returns-3 : tie.Need-returns-3
-returns-3 c = frame-gives (c .before .before .before .before .before .before .before .before .before .args .self) (c .before .before .before .before .before .before .before .before .before .args .command) (now (c .before .before .before .before .before .before .before .before .before .args .block)) (c .before .before .before .before .before .before .before .before .before .args .time) _ (gives-on _ _ (ap not (sym (c .before .before .before .before .before .before .before .is-valid .ensures)) ∙ c .before .before .before .before .before .before .if1 .left) (gives-on _ _ (ap₂ (λ a b. a || not b) (sym (c .before .before .before .before .before .is-unknown .ensures)) (sym (c .before .before .before .before .is-valid2 .ensures)) ∙ c .before .before .before .if2 .left) (phase-refuses _ _ _ _ _ (c .before .before .phase-refusal .ensures) (c .before .if3 .taken) (c .refused .ensures))))
+returns-3 c =
+    let v = c .before .before .before .before .before .before .before in
+    let a = v .before .before .before .before .before .before .before .before .before .before .before .before .before .before .before .before .before .before .before .before .before .before .before .before .args in
+    let w = whole-valid (v .before .before .before .before .before .before .before .before .before .before .before .before .before .before .before .before .before .before .before .before .before .before .before .before .args .t1) _ _ _ (v .before .before .before .before .before .before .before .before .before .before .before .before .before .before .before .before .before .before .before .before .before .before .has-valid-numbers .ensures) (v .before .before .before .before .before .before .before .before .before .before .before .before .are-valid-ids .ensures) (v .are-valid .ensures) in
+    frame-gives (a .t1) (a .command) (now (a .block)) (a .time) _
+    (gives-on _ _ (ap not (sym w) ∙ c .before .before .before .before .before .before .if1 .left)
+    (gives-on _ _
+    (ap₂ (λ x y. x || not y) (sym (c .before .before .before .before .before .is-unknown .ensures)) (sym (c .before .before .before .before .is-valid .ensures)) ∙ c .before .before .before .if2 .left)
+    (phase-refuses _ _ _ _ _ (c .before .before .phase-refusal .ensures) (c .before .if3 .taken) (c .refused .ensures))))
 
 act-requires : tie.Need-act-requires
-act-requires c κs = (sym (c .before .before .before .before .before .before .is-valid .ensures) ∙ not-false _ (c .before .before .before .before .before .if1 .left), sym (c .before .before .before .is-valid2 .ensures) ∙ not-false _ (or-false-right (c .before .before .before .before .is-unknown .result) _ (c .before .before .if2 .left)))
+act-requires c κs =
+    let v = c .before .before .before .before .before .before in
+    let a = v .before .before .before .before .before .before .before .before .before .before .before .before .before .before .before .before .before .before .before .before .before .before .before .before .args in
+    let w = whole-valid (v .before .before .before .before .before .before .before .before .before .before .before .before .before .before .before .before .before .before .before .before .before .before .before .before .args .t1) _ _ _ (v .before .before .before .before .before .before .before .before .before .before .before .before .before .before .before .before .before .before .before .before .before .before .has-valid-numbers .ensures) (v .before .before .before .before .before .before .before .before .before .before .before .before .are-valid-ids .ensures) (v .are-valid .ensures) in
+    (sym w ∙ not-false _ (c .before .before .before .before .before .if1 .left), sym (c .before .before .before .is-valid .ensures) ∙ not-false _ (or-false-right (c .before .before .before .before .is-unknown .result) _ (c .before .before .if2 .left)))
 
 returns-4 : tie.Need-returns-4
-returns-4 c = frame-gives (c .before .before .before .before .before .before .before .before .before .args .self) (c .before .before .before .before .before .before .before .before .before .args .command) (now (c .before .before .before .before .before .before .before .before .before .args .block)) (c .before .before .before .before .before .before .before .before .before .args .time) _ (gives-on _ _ (ap not (sym (c .before .before .before .before .before .before .before .is-valid .ensures)) ∙ c .before .before .before .before .before .before .if1 .left) (gives-on _ _ (ap₂ (λ a b. a || not b) (sym (c .before .before .before .before .before .is-unknown .ensures)) (sym (c .before .before .before .before .is-valid2 .ensures)) ∙ c .before .before .before .if2 .left) (phase-passes _ _ _ _ _ (c .before .before .phase-refusal .ensures) (c .before .if3 .left) (c .act .ensures))))
+returns-4 c =
+    let v = c .before .before .before .before .before .before .before in
+    let a = v .before .before .before .before .before .before .before .before .before .before .before .before .before .before .before .before .before .before .before .before .before .before .before .before .args in
+    let w = whole-valid (v .before .before .before .before .before .before .before .before .before .before .before .before .before .before .before .before .before .before .before .before .before .before .before .before .args .t1) _ _ _ (v .before .before .before .before .before .before .before .before .before .before .before .before .before .before .before .before .before .before .before .before .before .before .has-valid-numbers .ensures) (v .before .before .before .before .before .before .before .before .before .before .before .before .are-valid-ids .ensures) (v .are-valid .ensures) in
+    frame-gives (a .t1) (a .command) (now (a .block)) (a .time) _
+    (gives-on _ _ (ap not (sym w) ∙ c .before .before .before .before .before .before .if1 .left)
+    (gives-on _ _
+    (ap₂ (λ x y. x || not y) (sym (c .before .before .before .before .before .is-unknown .ensures)) (sym (c .before .before .before .before .is-valid .ensures)) ∙ c .before .before .before .if2 .left)
+    (phase-passes _ _ _ _ _ (c .before .before .phase-refusal .ensures) (c .before .if3 .left) (c .act .ensures))))
 
 pub frame-spec : {M : Type 1} → statement M
 frame-spec =
     tie.close
     (tie.spec
-    is-valid-requires
+    has-valid-numbers-requires
+    are-valid-ids-requires
+    are-valid-requires
     kept-requires
     returns
     is-unknown-requires
-    is-valid-requires-2
+    is-valid-requires
     kept-requires-2
     returns-2
     phase-refusal-requires
