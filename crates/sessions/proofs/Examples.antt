@@ -1,6 +1,7 @@
 -- The examples hold. Assumes nothing.
 --     lives-hold               every row's claim
 --     flags-and-clock-hold     the clock, and the flags that no row shows
+--     pending-asked-hold       the question for a pending delivery
 use mathlib.Core.Path.{refl}
 use Rattle.headers.specs.Rows.{All}
 use Rattle.headers.specs.Block.{entries, entries-within, at-record}
@@ -14,7 +15,8 @@ use Rattle.sessions.specs.Sessions.{is-valid}
 use Rattle.sessions.specs.Calls.{made, making-answer, frame-answer, frame-session, heart-beat-answer, heart-beat-session, timed-out-answer}
 use Rattle.sessions.specs.Calls.{deliver-answer, deliver-session}
 use Rattle.sessions.specs.Accounts.{fate, accounts}
-use Rattle.sessions.specs.Examples.{Holds, lives, FlagsAndClock}
+use Rattle.sessions.specs.Held.{pending-answer}
+use Rattle.sessions.specs.Examples.{Holds, lives, FlagsAndClock, PendingAsked}
 use Rattle.sessions.specs.Examples.{intervals, clocks, makings, versions-counted, versions-malformed, heart-beats-malformed}
 use Rattle.sessions.specs.Examples.{missing-headers, accepted-frames, repeated-headers, server-commands, out-of-turn, bad-lengths}
 use Rattle.sessions.specs.Examples.{live-ids, full-stores, kept-and-closed, record-ids, record-numbers, modes-asked, settled-deliveries}
@@ -191,3 +193,7 @@ flags-and-clock-hold =
       highest-1-1 = refl;
       highest-1-2 = refl;
     }
+
+pub pending-asked-hold : PendingAsked
+unfolding pending-answer calls stores
+pending-asked-hold = record { oldest = refl; youngest = refl; no-more = refl; of-invalid = refl }

@@ -17,12 +17,14 @@ use Rattle.sessions.specs.Opening.{shared-flags, highest, passed}
 use Rattle.sessions.specs.Sessions.{fresh-phase, open-phase, closed-phase, fresh, ids-of, with-ids, with-stores, with-state, with-deliveries, heard}
 use Rattle.sessions.specs.Deliveries.{auto-mode, client-mode, individual-mode, Pending, with-pending, with-modes}
 use Rattle.sessions.specs.Accounts.{Delivery, Event, recorded, accounts, with-fate, is-acknowledged, is-refused, is-dropped, pending-in}
-use Rattle.sessions.specs.Held.{held-deliveries}
+use Rattle.sessions.specs.Held.{held-deliveries, pending-answer}
 use Rattle.sessions.specs.Calls.{made, making-answer, timed-out-answer}
 use Rattle.sessions.specs.Histories.{Call, frame, heart-beat, deliver, Answered, trace, told, after}
 use Rattle.sessions.specs.declared.command.Kind.the-variants.{Subscriptions, Transactions}
 use Rattle.sessions.specs.declared.delivery.Deliveries.{Deliveries}
 use Rattle.sessions.specs.declared.session.Session.{Session}
+use Rattle.sessions.specs.declared.session.PendingAnswer.{PendingAnswer}
+use Rattle.sessions.specs.declared.session.PendingAt.{PendingAt}
 
 -- ---- A row
 
@@ -1086,3 +1088,23 @@ pub record FlagsAndClock : Type 0 where
   pub highest-1-0 : highest (true ∷ false ∷ false ∷ []) ≡ 10
   pub highest-1-1 : highest (true ∷ true ∷ false ∷ []) ≡ 11
   pub highest-1-2 : highest (true ∷ true ∷ true ∷ []) ≡ 12
+
+-- ---- The question for a pending delivery, of a session with one of "a", in client mode, and then one of "c", in client-individual mode
+
+abbrev told-as : PendingAnswer → ℕ → ℕ → ℕ → ℕ → ℕ → PendingAt
+told-as a id id-length mode label label-length = record {
+  answer = a;
+  subscription = id ∷ replicate 31 0;
+  «subscription_len» = id-length;
+  mode = mode;
+  label = label ∷ replicate 31 0;
+  «label_len» = label-length;
+}
+
+pub record PendingAsked : Type 0 where
+  -- oldest first; "a" is 97 and "c" 99
+  pub oldest : pending-answer (three-with (two-deliveries 7 8)) 0 ≡ told-as PendingAnswer.Held 97 1 1 7 1
+  pub youngest : pending-answer (three-with (two-deliveries 7 8)) 1 ≡ told-as PendingAnswer.Held 99 1 2 8 1
+  pub no-more : pending-answer (three-with (two-deliveries 7 8)) 2 ≡ told-as PendingAnswer.Absent 0 0 0 0 0
+  -- 38
+  pub of-invalid : pending-answer (three-with (two-deliveries 7 7)) 0 ≡ told-as PendingAnswer.Invalid 0 0 0 0 0
