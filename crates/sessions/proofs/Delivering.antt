@@ -21,7 +21,7 @@ use lib.Dec.{eqb, leb, ltb}
 use borrow.Author.Tests.{eq-eqb, ne-eqb, eqb-true, leb-true, leb-false, ltb-false}
 use Rattle.headers.specs.Rows.{every, any, empty, same, first-of}
 use Rattle.headers.specs.Answers.{accepted, refused, settle}
-use Rattle.sessions.specs.Stores.{ids, padded, laid, live, bad-length, first-from}
+use Rattle.sessions.specs.Stores.{ids, padded, laid, live, is-zero, bad-length, first-from}
 use Rattle.sessions.specs.Places.{Fits, search-says, is-at}
 use Rattle.sessions.specs.Compaction.{kept}
 use Rattle.sessions.specs.Deliveries.{deliveries-max, label-max, auto-mode, client-mode, Pending, paired, pending, places-of, labels-of, labelled, is-pending, mode-of, goes-with, settled, settled-as, settle-label, without, with-pending, with-modes, emptied, subscribe, unsubscribe, record-label, acknowledging, idle-modes, Laid}
@@ -163,11 +163,17 @@ idle-at (x ∷ ls) (m ∷ ms) zero h l e =
     eqb-true m auto-mode (ap (λ z. not (eqb z 0) || eqb m auto-mode) (sym e) ∙ and-left (not (eqb x 0) || eqb m auto-mode) (idle-modes ls ms) h)
 idle-at (x ∷ ls) (m ∷ ms) (suc k) h l e = idle-at ls ms k (and-right (not (eqb x 0) || eqb m auto-mode) (idle-modes ls ms) h) (omega arith) e
 
--- an UNSUBSCRIBE of a subscription that has no delivery and mode auto
-pub dropped-idle : (d : Deliveries) → SizedDeliveries d → Laid d → (k : ℕ) → eqb (d .count) 0 && eqb (getD (d .modes) k auto-mode) auto-mode ≡ true → unsubscribe (some k) d ≡ d
-dropped-idle d sized l k h =
-    let count-is : d .count ≡ 0 = eqb-true (d .count) 0 (and-left (eqb (d .count) 0) (eqb (getD (d .modes) k auto-mode) auto-mode) h) in
-    let mode-is : getD (d .modes) k auto-mode ≡ auto-mode = eqb-true (getD (d .modes) k auto-mode) auto-mode (and-right (eqb (d .count) 0) (eqb (getD (d .modes) k auto-mode) auto-mode) h) in
+zero-at : (xs : List ℕ) (k : ℕ) → is-zero xs ≡ true → getD xs k 0 ≡ 0
+zero-at [] k h = refl
+zero-at (x ∷ xs) zero h = eqb-true x 0 (and-left (eqb x 0) (is-zero xs) h)
+zero-at (x ∷ xs) (suc k) h = zero-at xs k (and-right (eqb x 0) (is-zero xs) h)
+
+-- an UNSUBSCRIBE where there is no delivery and every mode is auto
+pub dropped-idle : (d : Deliveries) → SizedDeliveries d → Laid d → (o : Option ℕ) → eqb (d .count) 0 && is-zero (d .modes) ≡ true → unsubscribe o d ≡ d
+dropped-idle d sized l none h = refl
+dropped-idle d sized l (some k) h =
+    let count-is : d .count ≡ 0 = eqb-true (d .count) 0 (and-left (eqb (d .count) 0) (is-zero (d .modes)) h) in
+    let mode-is : getD (d .modes) k auto-mode ≡ auto-mode = zero-at (d .modes) k (and-right (eqb (d .count) 0) (is-zero (d .modes)) h) in
     sym (dropped-none d sized l k count-is) ∙ ap (with-modes d) (set-same (d .modes) k auto-mode mode-is)
 
 -- an outcome with the deliveries that it has

@@ -482,20 +482,18 @@ impl Session {
         crate::store::find(&subs, &lens, Session::SUBSCRIPTIONS, Session::ID, id)
     }
 
-    // An outcome that was accepted, with the deliveries of a subscription dropped, by its id, and its mode. Most often there is neither.
+    // An outcome that was accepted, with the deliveries of a subscription dropped, by its id, and its mode. Most often no subscription has either, and none is looked for.
     fn without_deliveries(self, named: Outcome, id: &[u8]) -> Outcome
         requires { ⌜ (is-valid self ≡ true) × (named .session .deliveries ≡ self .deliveries) ⌝ }
         ensures { λ r. ⌜ r ≡ outcome-with named (unsubscribe (place-named self (some (now (id .entry)))) (self .deliveries)) ⌝ }
     {
+        let deliveries = self.deliveries;
+        let modes = deliveries.modes;
+        if (deliveries.count == 0) & crate::store::is_zero(&modes) {
+            return named;
+        }
         match self.find_subscription(id) {
-            Search::At(k) => {
-                let deliveries = self.deliveries;
-                let modes = deliveries.modes;
-                if (deliveries.count == 0) & (modes[k] == Deliveries::AUTO) {
-                    return named;
-                }
-                named.with_deliveries(deliveries.unsubscribed(k))
-            }
+            Search::At(k) => named.with_deliveries(deliveries.unsubscribed(k)),
             Search::Nowhere => named,
         }
     }
