@@ -5,7 +5,7 @@
 --     count-long, counted-none, -more, -empty, -full     the number of words, counted one by one
 --     no-words, noted-none, noted-more, noted-all        where the words begin, noted one by one
 --     located-small, located-step, located-word          the word with a number, by where the words begin
---     malformed, formed                                  what a count says
+--     malformed, formed, counted-formed                  what a count says
 --     bad-name, bad-pattern, answered                    what asking for a match answers
 --     rest-none, rest-hash-.., rest-word-..              whether the words that remain match
 use mathlib.Core.Path.{_≡_, refl, sym, _∙_, ap, ap₂, subst}
@@ -18,7 +18,7 @@ use native.Mathlib.Omega.{arith}
 use lib.Dec.{eqb, ltb, leb}
 use lib.ListN.{length, take, drop, getD, set, length-drop, length-set}
 use lib.Seq.{getD-drop, drop-drop, getD-set-same, getD-set-other}
-use borrow.Author.Tests.{le-leb, lt-leb, leb-true}
+use borrow.Author.Tests.{eq-eqb, ne-eqb, le-leb, lt-leb, leb-true}
 use Rattle.headers.specs.Rows.{empty, same}
 use Rattle.headers.specs.Answers.{accepted, refused}
 use Rattle.headers.proofs.Rows.{and-no, and-yes, and-left, refuted, same-eq}
@@ -252,6 +252,13 @@ module _ (xs : List ℕ) (n : ℕ) (is : n ≡ count-of xs) where
       by false w = absurd (ne (is ∙ ap (λ t. cond t (length (words xs)) 0) w))
       by true w =
           record { well = w; short = leb-true (length xs) 256 (and-left (leb (length xs) 256) (good-words (words xs)) w) }
+
+  pub counted-formed : not (eqb n 0) ≡ well-formed xs
+  counted-formed = by (well-formed xs) refl
+    where
+      by : (t : Bool) → well-formed xs ≡ t → not (eqb n 0) ≡ t
+      by false w = ap not (eq-eqb n 0 (is ∙ ap (λ t. cond t (length (words xs)) 0) w))
+      by true w = ap not (ne-eqb n 0 (well-count w))
 
 -- ## What asking for a match answers
 

@@ -1,4 +1,8 @@
--- The definitions of names and patterns that the contracts cite, by file.
+-- The definitions of names, patterns and plans that the contracts cite, by file.
 pub mod Topics
 pub mod Rows
 pub mod Examples
+pub mod Lists
+pub mod Plans
+pub mod Places
+pub mod Ascending

@@ -6,7 +6,7 @@ ghost use Prim.Native.Nat.{_+_, _-_, _≤_};
 ghost use lib.ListN.{length, drop};
 ghost use Rattle.headers.specs.Rows.{same};
 ghost use Rattle.headers.specs.Parts.{until};
-ghost use Rattle.topics.specs.Topics.{hash, stands};
+ghost use Rattle.topics.specs.Topics.{well-formed, hash, stands};
 ghost use Rattle.topics.specs.Rows.{word-at, Steps, Splits};
 
 // The octet between two words.
@@ -69,6 +69,14 @@ pub(crate) fn find_words(text: &[u8], starts: &mut [u16]) -> usize
         at = next;
     }
     count
+}
+
+// Whether a name or pattern is well formed.
+pub(crate) fn is_well_formed(text: &[u8]) -> bool
+    ensures { λ r. ⌜ r ≡ well-formed (now (text .entry)) ⌝ }
+{
+    let mut starts = [0u16; 33];
+    find_words(text, &mut starts) != 0
 }
 
 // Whether a word is one octet, as `*` and `#` are.
