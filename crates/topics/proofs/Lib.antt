@@ -12,3 +12,4 @@ pub mod Ascending
 pub mod Checking
 pub mod Assignments
 pub mod LaidOut
+pub mod PlanExamples

@@ -6,3 +6,4 @@ pub mod Lists
 pub mod Plans
 pub mod Places
 pub mod Ascending
+pub mod PlanExamples
