@@ -1,8 +1,8 @@
 /* Mouhtali: STOMP 1.2 frames, parsed, also piece by piece, decoded, searched and encoded; patterns of
- * names, matched.
+ * names, matched; plans for handing out queued messages, checked.
  *
- * stomp_match is in libtopics.a, which `rt staticlib topics` writes, the other functions are in
- * libframes.a, which `rt staticlib frames` writes, both for x86-64. For C99, C11 and C++.
+ * stomp_match and stomp_check_plan are in libtopics.a, which `rt staticlib topics` writes, the other
+ * functions are in libframes.a, which `rt staticlib frames` writes, both for x86-64. For C99, C11 and C++.
  * docs/MANUAL.md has the rules of the format and what to do about each number.
  *
  * A slice is passed as a pointer to its first octet and its length. An empty slice may have any
@@ -39,15 +39,17 @@ enum stomp_command {
 
 /* The sizes. */
 enum stomp_size {
-    STOMP_MAX_LINES = 32,        /* header lines of a frame */
-    STOMP_MAX_LINE = 512,        /* octets of a raw header line, its line end not counted */
-    STOMP_MAX_BODY = 32768,      /* octets of a body */
-    STOMP_MAX_FRAME = 49228,     /* octets of a frame: holds every encoded frame */
-    STOMP_MAX_BLOCK = 16544,     /* octets of a decoded frame's header block: holds those of every frame */
-    STOMP_FEED_STATE = 16,       /* octets of a stream parser's state */
-    STOMP_FEED_BUFFER = 49228,   /* octets that a stream parser's buffer has at least */
-    STOMP_MATCH_MAX_WORDS = 32,  /* words of a name or a pattern */
-    STOMP_MATCH_MAX_OCTETS = 256 /* octets of a name or a pattern, points counted */
+    STOMP_MAX_LINES = 32,         /* header lines of a frame */
+    STOMP_MAX_LINE = 512,         /* octets of a raw header line, its line end not counted */
+    STOMP_MAX_BODY = 32768,       /* octets of a body */
+    STOMP_MAX_FRAME = 49228,      /* octets of a frame: holds every encoded frame */
+    STOMP_MAX_BLOCK = 16544,      /* octets of a decoded frame's header block: holds those of every frame */
+    STOMP_FEED_STATE = 16,        /* octets of a stream parser's state */
+    STOMP_FEED_BUFFER = 49228,    /* octets that a stream parser's buffer has at least */
+    STOMP_MATCH_MAX_WORDS = 32,   /* words of a name or a pattern */
+    STOMP_MATCH_MAX_OCTETS = 256, /* octets of a name or a pattern, points counted */
+    STOMP_PLAN_MAX_PAIRS = 64,    /* pairs of a plan */
+    STOMP_PLAN_PAIR = 8           /* octets of a pair */
 };
 
 /* What stomp_parse and stomp_feed found. */
@@ -123,6 +125,20 @@ enum stomp_match_refusal {
     STOMP_MATCH_PATTERN = 81 /* the pattern is malformed */
 };
 
+/* The numbers of stomp_check_plan: STOMP_PLAN_TOO_MANY_PAIRS, else STOMP_PLAN_MALFORMED; else of the
+ * first bad pair the lowest that fits; else STOMP_PLAN_LEFT_OUT. */
+enum stomp_plan_refusal {
+    STOMP_PLAN_UNKNOWN_MESSAGE = 96, /* no such message waits */
+    STOMP_PLAN_MESSAGE_AGAIN = 97,   /* an earlier pair has the message */
+    STOMP_PLAN_NOT_MATCHING = 98,    /* the subscription is not live, or does not match the destination */
+    STOMP_PLAN_OVER_ROOM = 99,       /* the earlier pairs take all the subscription's room */
+    STOMP_PLAN_LEFT_OUT = 100,       /* no pair is bad, and no pair has a message that waits */
+    STOMP_PLAN_TOO_MANY_PAIRS = 101, /* more than STOMP_PLAN_MAX_PAIRS whole pairs */
+    STOMP_PLAN_MALFORMED = 102       /* a list is not of whole records, a number is twice among the
+                                        messages or among the subscriptions, or a destination or pattern
+                                        is malformed */
+};
+
 /* Parses the first item of the octets. Octets behind it change nothing. Writes nothing.
  *
  * The answer is 0 where they are incomplete, 1 + 4*length for a heart-beat,
@@ -193,6 +209,19 @@ uint64_t stomp_encode_with(uint32_t options, uint32_t command, const uint8_t *bl
  * The answer is STOMP_MATCH, STOMP_NO_MATCH or 2^16*code: 80, else 81. `name` and `pattern` must not
  * overlap. */
 uint64_t stomp_match(const uint8_t *name, size_t name_len, const uint8_t *pattern, size_t pattern_len);
+
+/* Whether a plan hands out each waiting message exactly once, and no other, to a live subscription whose
+ * pattern matches its destination, and none gets more messages than its room. Each list is a row of
+ * records, numbers in four octets, high first: a message is its number, the length of its destination in
+ * two octets, high first, and the destination; a subscription its number, the length of its pattern, the
+ * pattern, and its room in four octets; a pair the number of a message and that of a subscription.
+ * Destinations and patterns are as for stomp_match. Writes nothing.
+ *
+ * The answer is 0 where the plan is accepted, else 2^32*code, plus with 96 to 99 the index of the first bad
+ * pair, from 0, with 100 the number of the first listed message that is left out. The slices must not
+ * overlap. */
+uint64_t stomp_check_plan(const uint8_t *messages, size_t messages_len, const uint8_t *subscriptions,
+                          size_t subscriptions_len, const uint8_t *plan, size_t plan_len);
 
 /* Readers of what stomp_parse answered. */
 
@@ -334,6 +363,26 @@ static inline size_t stomp_length(uint64_t answer)
 static inline int stomp_matches(uint64_t answer)
 {
     return answer == (uint64_t)STOMP_MATCH;
+}
+
+/* Readers of what stomp_check_plan answered. */
+
+/* The number of the refusal; 0 where the plan is accepted. */
+static inline unsigned stomp_plan_code(uint64_t answer)
+{
+    return (unsigned)(answer >> 32);
+}
+
+/* The index of the first bad pair, with 96 to 99; else 0. */
+static inline size_t stomp_plan_index(uint64_t answer)
+{
+    return stomp_plan_code(answer) < (unsigned)STOMP_PLAN_LEFT_OUT ? (size_t)(answer & 0xffffffff) : 0;
+}
+
+/* The number of the message left out, with 100; else 0. */
+static inline uint32_t stomp_plan_message(uint64_t answer)
+{
+    return stomp_plan_code(answer) == (unsigned)STOMP_PLAN_LEFT_OUT ? (uint32_t)(answer & 0xffffffff) : 0;
 }
 
 /* Readers of what stomp_find answered. */

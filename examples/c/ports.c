@@ -1,5 +1,5 @@
-/* Reads a frame that a relay passed on, finds its first port, writes a frame that answers it, and asks
- * which of some names a pattern matches. */
+/* Reads a frame that a relay passed on, finds its first port, writes a frame that answers it, asks which of
+ * some names a pattern matches, and checks a plan. */
 #include <stdio.h>
 #include <stdlib.h>
 #include <string.h>
@@ -19,6 +19,14 @@ static const uint8_t message[] = "MESSAGE\n"
 
 /* All of it; the octet 0 that ends the frame is the one that ends the text in C. */
 enum { MESSAGE_LENGTH = sizeof message };
+
+/* Two messages that wait, 7 and 8; two members, 1 and 2, with room for one each; and who gets what. */
+static const uint8_t waiting[] = "\0\0\0\7\0\16port.ocean.sst"
+                                 "\0\0\0\10\0\16port.ocean.ssh";
+static const uint8_t members[] = "\0\0\0\1\0\14port.ocean.#\0\0\0\1"
+                                 "\0\0\0\2\0\12port.*.sst\0\0\0\1";
+static const uint8_t plan[] = "\0\0\0\10\0\0\0\1"
+                              "\0\0\0\7\0\0\0\2";
 
 /* A header block and the length in use. */
 struct block {
@@ -120,12 +128,24 @@ int main(void)
     printf(", and %zu where its length is asked for\n", stomp_length(written));
 
     /* All ports of the ocean: its words, and none or more after them. */
+    uint64_t answer;
     for (size_t i = 0; i < sizeof names / sizeof *names; i++) {
-        uint64_t answer = match(names[i], "port.ocean.#");
+        answer = match(names[i], "port.ocean.#");
         if (stomp_refused(answer))
             stop("match", stomp_code(answer), 0);
         printf("port.ocean.# %s %s\n", stomp_matches(answer) ? "matches" : "does not match", names[i]);
     }
+
+    /* Two messages wait for the ice members; the plan hands out both, then forgets one. */
+    answer = stomp_check_plan(waiting, sizeof waiting - 1, members, sizeof members - 1, plan,
+                              sizeof plan - 1);
+    if (stomp_plan_code(answer))
+        stop("check_plan", stomp_plan_code(answer), stomp_plan_index(answer));
+    printf("the plan is accepted\n");
+    answer = stomp_check_plan(waiting, sizeof waiting - 1, members, sizeof members - 1, plan,
+                              STOMP_PLAN_PAIR);
+    printf("with one pair it is refused with %u: message %lu\n", stomp_plan_code(answer),
+           (unsigned long)stomp_plan_message(answer));
 
     /* What a refusal looks like: a command without a body, and octets that begin no frame. */
     written = stomp_encode(STOMP_COMMAND_ACK, reply.octets, reply.length, body, body_length, target,

@@ -76,6 +76,23 @@ fn main() -> Result<(), Refusal> {
         );
     }
 
+    // Two messages wait for the ice members; the plan hands out both, then forgets one.
+    let (mut messages, mut members, mut plan) = (Vec::new(), Vec::new(), Vec::new());
+    stomp::add_message(&mut messages, 7, b"port.ocean.sst");
+    stomp::add_message(&mut messages, 8, b"port.ocean.ssh");
+    stomp::add_subscription(&mut members, 1, b"port.ocean.#", 1);
+    stomp::add_subscription(&mut members, 2, b"port.*.sst", 1);
+    stomp::add_pair(&mut plan, 8, 1);
+    stomp::add_pair(&mut plan, 7, 2);
+    stomp::check_plan(&messages, &members, &plan)?;
+    println!("the plan is accepted");
+    if let Err(refusal) = stomp::check_plan(&messages, &members, &plan[..8]) {
+        println!(
+            "with one pair it is refused with {}: message {}",
+            refusal.code, refusal.place
+        );
+    }
+
     // What a refusal looks like: a command without a body, and octets that begin no frame.
     if let Err(refusal) = stomp::encode(stomp::COMMAND_ACK, &reply, body, &mut target) {
         println!("as an ACK it is refused with {}", refusal.code);

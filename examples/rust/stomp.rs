@@ -45,6 +45,15 @@ pub const INVALID_ESCAPE: u32 = 10; // follows a backslash and makes no escape w
 pub const MATCH_NAME: u32 = 80; // the name is malformed
 pub const MATCH_PATTERN: u32 = 81; // the pattern is malformed
 
+/// The numbers of `check_plan`: 101, else 102; else of the first bad pair the lowest that fits; else 100.
+pub const PLAN_UNKNOWN_MESSAGE: u32 = 96; // no such message waits
+pub const PLAN_MESSAGE_AGAIN: u32 = 97; // an earlier pair has the message
+pub const PLAN_NOT_MATCHING: u32 = 98; // the subscription is not live, or does not match the destination
+pub const PLAN_OVER_ROOM: u32 = 99; // the earlier pairs take all the subscription's room
+pub const PLAN_LEFT_OUT: u32 = 100; // no pair is bad, and no pair has a message that waits
+pub const PLAN_TOO_MANY_PAIRS: u32 = 101; // more than 64 whole pairs
+pub const PLAN_MALFORMED: u32 = 102; // no whole records, a number twice, or a malformed text
+
 mod library {
     extern "C" {
         pub fn stomp_parse(octets: *const u8, len: usize) -> u64;
@@ -65,6 +74,14 @@ mod library {
             name_len: usize,
             pattern: *const u8,
             pattern_len: usize,
+        ) -> u64;
+        pub fn stomp_check_plan(
+            messages: *const u8,
+            messages_len: usize,
+            subscriptions: *const u8,
+            subscriptions_len: usize,
+            plan: *const u8,
+            plan_len: usize,
         ) -> u64;
         pub fn stomp_encode_with(
             options: u32,
@@ -97,7 +114,7 @@ pub enum Parsed {
 }
 
 /// The number, and the place it speaks of: the offset of an octet for 1 to 10, the index of an entry
-/// for 53, else 0.
+/// for 53, the index of a pair for 96 to 99, the number of a message for 100, else 0.
 #[derive(Debug, Clone, Copy, PartialEq, Eq)]
 pub struct Refusal {
     pub code: u32,
@@ -203,6 +220,48 @@ pub fn matches(name: &[u8], pattern: &[u8]) -> Result<bool, Refusal> {
     let answer =
         unsafe { library::stomp_match(name.as_ptr(), name.len(), pattern.as_ptr(), pattern.len()) };
     length(answer).map(|yes| yes == 1)
+}
+
+/// Whether a plan hands out each waiting message exactly once, to a live subscription that matches it and has
+/// room. The lists are rows of records, which the three functions below add to.
+pub fn check_plan(messages: &[u8], subscriptions: &[u8], plan: &[u8]) -> Result<(), Refusal> {
+    let answer = unsafe {
+        library::stomp_check_plan(
+            messages.as_ptr(),
+            messages.len(),
+            subscriptions.as_ptr(),
+            subscriptions.len(),
+            plan.as_ptr(),
+            plan.len(),
+        )
+    };
+    match answer >> 32 {
+        0 => Ok(()),
+        code => Err(Refusal {
+            code: code as u32,
+            place: bits(answer, 0, 32),
+        }),
+    }
+}
+
+/// Adds a waiting message at the end of a list.
+pub fn add_message(messages: &mut Vec<u8>, number: u32, destination: &[u8]) {
+    let length = u16::try_from(destination.len()).expect("at most 65,535 octets");
+    messages.extend(number.to_be_bytes());
+    messages.extend(length.to_be_bytes());
+    messages.extend(destination);
+}
+
+/// Adds a live subscription at the end of a list.
+pub fn add_subscription(subscriptions: &mut Vec<u8>, number: u32, pattern: &[u8], room: u32) {
+    add_message(subscriptions, number, pattern);
+    subscriptions.extend(room.to_be_bytes());
+}
+
+/// Adds a pair at the end of a plan.
+pub fn add_pair(plan: &mut Vec<u8>, message: u32, subscription: u32) {
+    plan.extend(message.to_be_bytes());
+    plan.extend(subscription.to_be_bytes());
 }
 
 /// Adds an entry at the end of a block.

@@ -6,6 +6,7 @@ mod feeding;
 mod histories;
 mod matching;
 mod opening;
+mod planning;
 mod records;
 mod replays;
 mod sessions;

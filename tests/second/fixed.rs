@@ -5,6 +5,7 @@ mod deliveries;
 pub mod encoding;
 pub mod feeding;
 pub mod matching;
+pub mod planning;
 mod records;
 
 use self::deliveries::holding;

@@ -1,6 +1,6 @@
-//! An independent second program: it parses, decodes and encodes STOMP frames, keeps a client's session
-//! and matches patterns by documents 01 and 02, and compares what it finds with what other programs
-//! write. README.md has the modes.
+//! An independent second program: it parses, decodes and encodes STOMP frames, keeps a client's session,
+//! matches patterns and checks plans by documents 01 and 02, and compares what it finds with what other
+//! programs write. README.md has the modes.
 
 mod block;
 mod calls;
@@ -10,6 +10,7 @@ mod compare_encode;
 mod compare_feed;
 mod compare_for;
 mod compare_match;
+mod compare_plan;
 mod compare_replay;
 mod compare_rewrite;
 mod compare_session;
@@ -23,6 +24,8 @@ mod fixed;
 mod item;
 mod listing;
 mod lives;
+mod plan;
+mod plan_calls;
 mod program;
 mod random;
 mod reader;
@@ -56,6 +59,7 @@ second replay [SENDS WANTS] [log]
 second session
 second feed
 second match
+second plan
 second compare PROGRAM COUNT SEED
 second compare-rewrite PROGRAM COUNT SEED
 second compare-encode PROGRAM COUNT SEED
@@ -63,6 +67,7 @@ second compare-replay PROGRAM COUNT SEED
 second compare-session PROGRAM COUNT SEED
 second compare-feed PROGRAM COUNT SEED
 second compare-match PROGRAM COUNT SEED
+second compare-plan PROGRAM COUNT SEED
 second compare-for SECONDS SEED PROGRAMS
 second make DIR
 second make-encode FILE
@@ -70,6 +75,7 @@ second make-replay FILE
 second make-session FILE
 second make-feed FILE
 second make-match FILE
+second make-plan FILE
 second vectors DIR";
 
 fn main() -> ExitCode {
@@ -87,6 +93,7 @@ fn main() -> ExitCode {
         ["session"] => session(),
         ["feed"] => feed(),
         ["match"] => match_patterns(),
+        ["plan"] => check_plans(),
         ["compare-for", seconds, seed, programs] => compare_for(seconds, seed, programs),
         [mode, program, count, seed] => match comparison(mode) {
             Some(compare) => compare_by(compare, program, count, seed),
@@ -98,6 +105,7 @@ fn main() -> ExitCode {
         ["make-session", file] => fs::write(file, fixed::calls()).map(|()| true),
         ["make-feed", file] => fs::write(file, fixed::feeding::calls()).map(|()| true),
         ["make-match", file] => fs::write(file, fixed::matching::calls()).map(|()| true),
+        ["make-plan", file] => fs::write(file, fixed::planning::calls()).map(|()| true),
         ["vectors", folder] => vectors::write_listings(Path::new(folder)).map(|()| true),
         _ => Err(io::Error::other(USAGE)),
     };
@@ -204,6 +212,16 @@ fn match_patterns() -> io::Result<bool> {
     Ok(true)
 }
 
+/// Reads calls that check a plan from standard input and writes the answers.
+fn check_plans() -> io::Result<bool> {
+    let mut input = Vec::new();
+    io::stdin().read_to_end(&mut input)?;
+    let calls = plan_calls::read(&input).ok_or(io::Error::other("plan: a call is cut off"))?;
+    let replies: Vec<u8> = calls.iter().flat_map(plan_calls::Call::reply).collect();
+    io::stdout().write_all(&replies)?;
+    Ok(true)
+}
+
 type Comparison = fn(&str, usize, u64) -> io::Result<bool>;
 
 fn comparison(mode: &str) -> Option<Comparison> {
@@ -215,6 +233,7 @@ fn comparison(mode: &str) -> Option<Comparison> {
         "compare-session" => comparison::compare::<compare_session::Tally>,
         "compare-feed" => comparison::compare::<compare_feed::Tally>,
         "compare-match" => comparison::compare::<compare_match::Tally>,
+        "compare-plan" => comparison::compare::<compare_plan::Tally>,
         _ => return None,
     })
 }

@@ -44,7 +44,7 @@ pub fn answer(name: &[u8], pattern: &[u8]) -> Answer {
 
 /// "words joined by points [...] 1 to 32 words and at most 256 octets; no word is empty". None where the
 /// text is malformed.
-fn words(text: &[u8]) -> Option<Vec<&[u8]>> {
+pub fn words(text: &[u8]) -> Option<Vec<&[u8]>> {
     let words: Vec<&[u8]> = text.split(|&octet| octet == b'.').collect();
     let formed = text.len() <= MAX_OCTETS
         && words.len() <= MAX_WORDS

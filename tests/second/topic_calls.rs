@@ -67,7 +67,7 @@ pub fn call(random: &mut Random) -> Call {
 }
 
 /// Words of a pattern: few or as many as may be, and one more or less.
-fn pattern(random: &mut Random) -> Vec<Vec<u8>> {
+pub fn pattern(random: &mut Random) -> Vec<Vec<u8>> {
     let count = match random.below(10) {
         0 => random.between(MAX_WORDS - 1, MAX_WORDS + 1),
         1 => random.between(6, 20),
@@ -84,7 +84,7 @@ fn pattern(random: &mut Random) -> Vec<Vec<u8>> {
 }
 
 /// A name that the pattern matches, if it is not too long.
-fn name_for(random: &mut Random, pattern: &[Vec<u8>]) -> Vec<Vec<u8>> {
+pub fn name_for(random: &mut Random, pattern: &[Vec<u8>]) -> Vec<Vec<u8>> {
     let mut name = Vec::new();
     for own in pattern {
         match &own[..] {
