@@ -3,7 +3,8 @@
  * The rest is cut into the arguments, numbers high octet first:
  *
  *   0 parse    octets; with the fourth bit they are fed in pieces, see feed.c
- *   1 decode   room 2, frame; with the fourth bit match: pattern length 2, pattern, name
+ *   1 decode   room 2, frame; with the fourth bit match: pattern length 2, pattern, name; with the fifth
+ *              bit too a plan, and with the sixth as records, see plan.c
  *   2 encode   options 4, command 4, room 2, body length 2, body, block
  *   3 find     name length 2, name, block
  *
@@ -23,7 +24,7 @@
 #include "fuzz.h"
 
 enum { PARSE, DECODE, ENCODE, FIND, MATCH };
-enum { PAGE_BEHIND = 4, AS_TEXT = 8, IN_PIECES = 8, MATCHED = 8 };
+enum { PAGE_BEHIND = 4, AS_TEXT = 8, IN_PIECES = 8, MATCHED = 8, PLANNED = 16, AS_RECORDS = 32 };
 enum { HEAD = 6 };
 enum { NAME_END = 254, ENTRY_END = 255 };
 
@@ -291,6 +292,10 @@ int LLVMFuzzerTestOneInput(const uint8_t *octets, size_t length)
     filled = fill + choice;
     if (c.which == PARSE && (choice & IN_PIECES)) {
         fuzz_feed(r.octets, r.length);
+        return 0;
+    }
+    if (c.which == DECODE && (choice & MATCHED) && (choice & PLANNED)) {
+        fuzz_plan(r.octets, r.length, (choice & AS_RECORDS) != 0);
         return 0;
     }
     if (c.which == DECODE && (choice & MATCHED))

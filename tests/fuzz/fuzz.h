@@ -8,7 +8,8 @@
 
 enum { ROOM = 1 << 17, GUARD = 64 };
 
-/* The slices of a call: two are read, one is written; of the stream parser the second is its state. */
+/* The slices of a call: two are read, one is written; of the stream parser the second is its state, and of
+ * a plan all three are read. */
 enum { FIRST, SECOND, BUFFER, SLICES };
 
 /* What guards hold, and behind that what buffers hold before a call. */
@@ -21,5 +22,8 @@ uint8_t *our_guard(size_t i, size_t length);
 
 /* One input of the stream parser: see feed.c. */
 void fuzz_feed(const uint8_t *octets, size_t length);
+
+/* One input that checks a plan: see plan.c. */
+void fuzz_plan(const uint8_t *octets, size_t length, bool as_records);
 
 #endif

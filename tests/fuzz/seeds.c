@@ -2,7 +2,7 @@
  * ways. For each item one input that parses; for each frame also ones that decode it, encode what it
  * holds, with the option and without, and find its first two names and one that it does not have. They
  * are read with the baseline. A block is there as it is and as the text that fuzz.c makes it of. Then some
- * names and patterns to match. */
+ * names and patterns to match, and plans. */
 #include <stdio.h>
 #include <stdlib.h>
 #include <string.h>
@@ -12,6 +12,7 @@
 
 enum { HEAD = 6, STREAM = 1 << 18, LONGEST_INPUT = 66000 };
 enum { PARSE, DECODE, ENCODE, FIND, PAGE_BEHIND = 4, AS_TEXT = 8, IN_PIECES = 8, MATCHED = 8 };
+enum { PLANNED = 16, AS_RECORDS = 32 };
 enum { NAME_END = 254, ENTRY_END = 255 };
 
 static const char *directory;
@@ -151,6 +152,43 @@ static void write_matches(void)
     }
 }
 
+/* Plans as the texts that plan.c makes records of: one that is accepted, each number, and as many pairs as
+ * may be and one more. */
+static void write_plan(const char *messages, const char *subscriptions, const char *plan, size_t plan_length)
+{
+    begin(DECODE | MATCHED | PLANNED | AS_RECORDS);
+    put_number(strlen(messages), 2);
+    put(messages, strlen(messages));
+    put_number(strlen(subscriptions), 2);
+    put(subscriptions, strlen(subscriptions));
+    put(plan, plan_length);
+    finish();
+}
+
+static void write_plans(void)
+{
+    static const char two[] = "1a\3772b.c", live[] = "8\2#\3779\1*.c";
+    static const char *const plans[] = {"1829", "2918", "1828", "3829", "1818", "1929", "2939", "18", ""};
+    static char messages[3 * (STOMP_PLAN_MAX_PAIRS + 1)], pairs[2 * (STOMP_PLAN_MAX_PAIRS + 1)];
+    for (size_t i = 0; i < sizeof plans / sizeof *plans; i++)
+        write_plan(two, live, plans[i], strlen(plans[i]));
+    write_plan(two, "8\1#", "1828", 4);
+    write_plan("1a\3771b", live, "18", 2);
+    write_plan("1a.", live, "18", 2);
+    write_plan(two, "8\2", "18", 2);
+    for (size_t i = 0; i <= STOMP_PLAN_MAX_PAIRS; i++) {
+        memcpy(messages + 3 * i, "\1a\377", 3);
+        messages[3 * i] = (char)(1 + i);
+        pairs[2 * i] = (char)(1 + i);
+        pairs[2 * i + 1] = '8';
+    }
+    messages[sizeof messages - 1] = 0;
+    write_plan(messages, "8\177a", pairs, sizeof pairs);
+    write_plan(messages, "8\177a", pairs, sizeof pairs - 2);
+    messages[sizeof messages - 4] = 0;
+    write_plan(messages, "8\177a", pairs, sizeof pairs - 2);
+}
+
 int main(int argc, char **argv)
 {
     static uint8_t stream[STREAM];
@@ -178,6 +216,7 @@ int main(int argc, char **argv)
         }
     }
     write_matches();
+    write_plans();
     printf("%lu seeds\n", count);
     return 0;
 }

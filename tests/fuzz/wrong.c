@@ -11,6 +11,8 @@ uint64_t right_encode_with(uint32_t options, uint32_t command, const uint8_t *bl
 uint64_t right_encode(uint32_t command, const uint8_t *block, size_t block_len, const uint8_t *body,
                       size_t body_len, uint8_t *target, size_t target_len);
 uint64_t right_match(const uint8_t *name, size_t name_len, const uint8_t *pattern, size_t pattern_len);
+uint64_t right_check_plan(const uint8_t *messages, size_t messages_len, const uint8_t *subscriptions,
+                          size_t subscriptions_len, const uint8_t *plan, size_t plan_len);
 
 /* 1: reads the octet behind its slice. */
 uint64_t stomp_parse(const uint8_t *octets, size_t len)
@@ -84,7 +86,7 @@ uint64_t stomp_feed(uint8_t *state, size_t state_len, uint8_t *buffer, size_t bu
     return answer;
 }
 
-/* 13: a malformed pattern is told before a malformed name; 14: one word `#` takes no more than one word. */
+/* 15: a malformed pattern is told before a malformed name; 16: one word `#` takes no more than one word. */
 uint64_t stomp_match(const uint8_t *name, size_t name_len, const uint8_t *pattern, size_t pattern_len)
 {
     static const uint8_t a[] = "a";
@@ -93,4 +95,22 @@ uint64_t stomp_match(const uint8_t *name, size_t name_len, const uint8_t *patter
     if (WRONG == 16 && pattern_len == 1 && pattern[0] == '#')
         return right_match(name, name_len, (const uint8_t *)"*", 1);
     return right_match(name, name_len, pattern, pattern_len);
+}
+
+/* 17: accepts a message that is left out; 18: says 98 of a pair whose message an earlier one has; 19: reads
+ * the octet behind the plan; 20: counts the index from 1. */
+uint64_t stomp_check_plan(const uint8_t *messages, size_t messages_len, const uint8_t *subscriptions,
+                          size_t subscriptions_len, const uint8_t *plan, size_t plan_len)
+{
+    uint64_t answer = right_check_plan(messages, messages_len, subscriptions, subscriptions_len, plan, plan_len);
+    unsigned code = stomp_plan_code(answer);
+    if (WRONG == 17 && code == STOMP_PLAN_LEFT_OUT)
+        return 0;
+    if (WRONG == 18 && code == STOMP_PLAN_MESSAGE_AGAIN)
+        return answer + ((uint64_t)1 << 32);
+    if (WRONG == 19)
+        (void)*(const volatile uint8_t *)(plan + plan_len);
+    if (WRONG == 20 && code > 0 && code < STOMP_PLAN_LEFT_OUT)
+        return answer + 1;
+    return answer;
 }
