@@ -79,15 +79,18 @@ all-mid P (x ∷ xs) y ys (p, h) = all-mid P xs y ys h
 -- each of several distinct entries is the first of its number
 apart : (n : ℕ) (es : List Entry) → any (λ d. eqb n (d .number)) es ≡ false → All (λ d. eqb n (d .number) ≡ false) es
 apart n [] h = tt
-apart n (e ∷ es) h = (or-false-left (eqb n (e .number)) (any (λ d. eqb n (d .number)) es) h, apart n es (or-false-right (eqb n (e .number)) (any (λ d. eqb n (d .number)) es) h))
+apart n (e ∷ es) h =
+    (or-false-left (eqb n (e .number)) (any (λ d. eqb n (d .number)) es) h, apart n es (or-false-right (eqb n (e .number)) (any (λ d. eqb n (d .number)) es) h))
 
 distinct-first : (es : List Entry) → distinct es ≡ true → All (λ e. first-of (numbered (e .number)) es ≡ some e) es
 distinct-first [] h = tt
 distinct-first (e ∷ es) h =
     let new = not-true (any (λ d. eqb (e .number) (d .number)) es) (and-left (not (any (λ d. eqb (e .number) (d .number)) es)) (distinct es) h) in (
       ap (λ t. cond t (some e) (first-of (numbered (e .number)) es)) (eq-eqb (e .number) (e .number) refl),
-      all-both (λ d. eqb (e .number) (d .number) ≡ false) (λ d. first-of (numbered (d .number)) es ≡ some d) (λ d. first-of (numbered (d .number)) (e ∷ es) ≡ some d)
-          (λ d p q. ap (λ t. cond t (some e) (first-of (numbered (d .number)) es)) p ∙ q) es (apart (e .number) es new) (distinct-first es (and-right (not (any (λ d. eqb (e .number) (d .number)) es)) (distinct es) h)),
+      all-both (λ d. eqb (e .number) (d .number) ≡ false) (λ d. first-of (numbered (d .number)) es ≡ some d)
+      (λ d. first-of (numbered (d .number)) (e ∷ es) ≡ some d)
+          (λ d p q. ap (λ t. cond t (some e) (first-of (numbered (d .number)) es)) p ∙ q) es (apart (e .number) es new)
+          (distinct-first es (and-right (not (any (λ d. eqb (e .number) (d .number)) es)) (distinct es) h)),
     )
 
 -- ## An assignment is accepted
@@ -106,7 +109,8 @@ module _ (ms ss : List Entry) where
       by (some m) (some s) eo eq h = record { message = m; subscription = s; waiting = eo; live = eq; fits = sound (words (s .text)) (words (m .text)) h }
 
   -- each pair is good with the pairs before it
-  assigned-pair : (earlier : List Pair) (p : Pair) (rest : List Pair) → Assignment ms ss (earlier ++ (p ∷ rest)) → pair-answer ms ss earlier p ≡ Answer.accepted []
+  assigned-pair : (earlier : List Pair) (p : Pair) (rest : List Pair) → Assignment ms ss (earlier ++ (p ∷ rest))
+      → pair-answer ms ss earlier p ≡ Answer.accepted []
   assigned-pair earlier p rest f =
       let pair = all-mid (Suits ms ss) earlier p rest (f .matching) in
       let m = pair .message in
@@ -155,11 +159,15 @@ module _ (ms ss : List Entry) where
   good-pair : (earlier : List Pair) (p : Pair) → pair-answer ms ss earlier p ≡ Answer.accepted [] → GoodPair earlier p
   unfolding pair-answer
   good-pair earlier p h =
-      by (is-none (first-of (numbered (p .message)) ms)) (any (with-message (p .message)) earlier) (matched (first-of (numbered (p .message)) ms) (first-of (numbered (p .subscription)) ss)) (ltb (room-of (first-of (numbered (p .subscription)) ss)) (how-many (with-subscription (p .subscription)) earlier + 1)) refl refl refl refl h
+      by (is-none (first-of (numbered (p .message)) ms)) (any (with-message (p .message)) earlier)
+      (matched (first-of (numbered (p .message)) ms) (first-of (numbered (p .subscription)) ss))
+      (ltb (room-of (first-of (numbered (p .subscription)) ss)) (how-many (with-subscription (p .subscription)) earlier + 1)) refl refl refl refl h
     where
-      by : (a b c d : Bool) → is-none (first-of (numbered (p .message)) ms) ≡ a → any (with-message (p .message)) earlier ≡ b → matched (first-of (numbered (p .message)) ms) (first-of (numbered (p .subscription)) ss) ≡ c
+      by : (a b c d : Bool) → is-none (first-of (numbered (p .message)) ms) ≡ a → any (with-message (p .message)) earlier ≡ b
+          → matched (first-of (numbered (p .message)) ms) (first-of (numbered (p .subscription)) ss) ≡ c
           → ltb (room-of (first-of (numbered (p .subscription)) ss)) (how-many (with-subscription (p .subscription)) earlier + 1) ≡ d
-          → cond a (Answer.refused 96) (cond b (Answer.refused 97) (cond (not c) (Answer.refused 98) (cond d (Answer.refused 99) (Answer.accepted [])))) ≡ Answer.accepted []
+          → cond a (Answer.refused 96)
+          (cond b (Answer.refused 97) (cond (not c) (Answer.refused 98) (cond d (Answer.refused 99) (Answer.accepted [])))) ≡ Answer.accepted []
           → GoodPair earlier p
       by true b c d ea eb ec ed h = absurd (let z : _≡_ {A = ℕ} 0 1 = cc in omega arith)
       by false true c d ea eb ec ed h = absurd (let z : _≡_ {A = ℕ} 0 1 = cc in omega arith)
@@ -178,9 +186,13 @@ module _ (ms ss : List Entry) where
     so-far-more earlier p s g =
         record {
           at-most-once = λ n. by-message n (eqb (p .message) n) refl;
-          no-other = all-one (λ q. any (numbered (q .message)) ms ≡ true) earlier p (s .no-other) (let m = test-matching p (g .fits) in found-any (numbered (p .message)) ms (m .message) (m .waiting));
+          no-other =
+              all-one (λ q. any (numbered (q .message)) ms ≡ true) earlier p (s .no-other)
+              (let m = test-matching p (g .fits) in found-any (numbered (p .message)) ms (m .message) (m .waiting));
           matching = all-one (Suits ms ss) earlier p (s .matching) (test-matching p (g .fits));
-          roomy = all-both (λ e. first-of (numbered (e .number)) ss ≡ some e) (λ e. how-many (with-subscription (e .number)) earlier ≤ e .room) (λ e. how-many (with-subscription (e .number)) (earlier ++ (p ∷ [])) ≤ e .room)
+          roomy =
+              all-both (λ e. first-of (numbered (e .number)) ss ≡ some e) (λ e. how-many (with-subscription (e .number)) earlier ≤ e .room)
+              (λ e. how-many (with-subscription (e .number)) (earlier ++ (p ∷ [])) ≤ e .room)
               (λ e f r. by-room e f r (eqb (p .subscription) (e .number)) refl) ss (distinct-first ss apart-ss) (s .roomy);
         }
       where
@@ -193,7 +205,8 @@ module _ (ms ss : List Entry) where
             let no : _≡_ {A = ℕ} (cond (eqb (p .message) n) 1 0) 0 = ap (λ b. cond b 1 0) e in
             omega (arith, how-append (with-message n) earlier (p ∷ []), s .at-most-once n)
 
-        by-room : (e : Entry) → first-of (numbered (e .number)) ss ≡ some e → how-many (with-subscription (e .number)) earlier ≤ e .room → (t : Bool) → eqb (p .subscription) (e .number) ≡ t → how-many (with-subscription (e .number)) (earlier ++ (p ∷ [])) ≤ e .room
+        by-room : (e : Entry) → first-of (numbered (e .number)) ss ≡ some e → how-many (with-subscription (e .number)) earlier ≤ e .room → (t : Bool)
+            → eqb (p .subscription) (e .number) ≡ t → how-many (with-subscription (e .number)) (earlier ++ (p ∷ [])) ≤ e .room
         by-room e f r true q =
             let one : _≡_ {A = ℕ} (cond (eqb (p .subscription) (e .number)) 1 0) 1 = ap (λ b. cond b 1 0) q in
             let room : how-many (with-subscription (e .number)) earlier < e .room = subst (λ o. how-many (with-subscription (e .number)) earlier < room-of o) f (subst (λ n. how-many (with-subscription n) earlier < room-of (first-of (numbered n) ss)) (eqb-true (p .subscription) (e .number) q) (g .room)) in
@@ -202,16 +215,20 @@ module _ (ms ss : List Entry) where
             let no : _≡_ {A = ℕ} (cond (eqb (p .subscription) (e .number)) 1 0) 0 = ap (λ b. cond b 1 0) q in
             omega (arith, how-append (with-subscription (e .number)) earlier (p ∷ []))
 
-    accepted-pair : (a : Answer) (i : ℕ) (v : Verdict) → ((values : List ℕ) → a ≡ Answer.accepted values → values ≡ []) → bad-or a i v ≡ accepted → (a ≡ Answer.accepted []) × (v ≡ accepted)
+    accepted-pair : (a : Answer) (i : ℕ) (v : Verdict) → ((values : List ℕ) → a ≡ Answer.accepted values → values ≡ []) → bad-or a i v ≡ accepted
+        → (a ≡ Answer.accepted []) × (v ≡ accepted)
     accepted-pair (Answer.accepted values) i v e h = (ap Answer.accepted (e values refl), h)
     accepted-pair (Answer.refused k) i v e h = absurd (let z : _≡_ {A = ℕ} 0 1 = cc in omega arith)
 
     pair-values : (earlier : List Pair) (p : Pair) (values : List ℕ) → pair-answer ms ss earlier p ≡ Answer.accepted values → values ≡ []
     unfolding pair-answer
     pair-values earlier p values h =
-        by (is-none (first-of (numbered (p .message)) ms)) (any (with-message (p .message)) earlier) (matched (first-of (numbered (p .message)) ms) (first-of (numbered (p .subscription)) ss)) (ltb (room-of (first-of (numbered (p .subscription)) ss)) (how-many (with-subscription (p .subscription)) earlier + 1)) h
+        by (is-none (first-of (numbered (p .message)) ms)) (any (with-message (p .message)) earlier)
+        (matched (first-of (numbered (p .message)) ms) (first-of (numbered (p .subscription)) ss))
+        (ltb (room-of (first-of (numbered (p .subscription)) ss)) (how-many (with-subscription (p .subscription)) earlier + 1)) h
       where
-        by : (a b c d : Bool) → cond a (Answer.refused 96) (cond b (Answer.refused 97) (cond (not c) (Answer.refused 98) (cond d (Answer.refused 99) (Answer.accepted [])))) ≡ Answer.accepted values → values ≡ []
+        by : (a b c d : Bool)
+            → cond a (Answer.refused 96) (cond b (Answer.refused 97) (cond (not c) (Answer.refused 98) (cond d (Answer.refused 99) (Answer.accepted [])))) ≡ Answer.accepted values → values ≡ []
         by true b c d h = cc
         by false true c d h = cc
         by false false false d h = cc
@@ -228,7 +245,10 @@ module _ (ms ss : List Entry) where
         let all : earlier ++ [] ≡ earlier = append-nil earlier in
         subst (Assignment ms ss) (sym all)
         (record {
-          once = all-to (λ m. is-left-out earlier m ≡ false) (λ m. how-many (with-message (m .number)) earlier ≡ 1) (λ m e. exactly m (not-false (any (with-message (m .number)) earlier) e)) ms (first-none (is-left-out earlier) ms (left-none (first-of (is-left-out earlier) ms) h));
+          once =
+              all-to (λ m. is-left-out earlier m ≡ false) (λ m. how-many (with-message (m .number)) earlier ≡ 1)
+              (λ m e. exactly m (not-false (any (with-message (m .number)) earlier) e)) ms
+              (first-none (is-left-out earlier) ms (left-none (first-of (is-left-out earlier) ms) h));
           no-other = s .no-other;
           matching = s .matching;
           roomy = s .roomy;
@@ -238,7 +258,8 @@ module _ (ms ss : List Entry) where
         exactly m e = omega (arith, s .at-most-once (m .number), some-counted (with-message (m .number)) earlier e)
     so-far-assigned earlier (p ∷ ps) s h =
         let (g, rest) = accepted-pair (pair-answer ms ss earlier p) (length earlier) (checked ms ss (earlier ++ (p ∷ [])) ps) (pair-values earlier p) h in
-        subst (Assignment ms ss) (append-assoc earlier (p ∷ []) ps) (so-far-assigned (earlier ++ (p ∷ [])) ps (so-far-more earlier p s (good-pair earlier p g)) rest)
+        subst (Assignment ms ss) (append-assoc earlier (p ∷ []) ps)
+        (so-far-assigned (earlier ++ (p ∷ [])) ps (so-far-more earlier p s (good-pair earlier p g)) rest)
 
     pub accepted-assigned : (ps : List Pair) → checked ms ss [] ps ≡ accepted → Assignment ms ss ps
     accepted-assigned ps h = so-far-assigned [] ps (record { at-most-once = λ n. omega arith; no-other = tt; matching = tt; roomy = all-true ss }) h
@@ -252,7 +273,8 @@ module _ (ms ss : List Entry) where
 module _ (messages subscriptions plan : List ℕ) where
   pub acceptable : Acceptable messages subscriptions plan → plan-answer messages subscriptions plan ≡ accepted
   acceptable a =
-      plan-checked messages subscriptions plan (a .few) (ap is-valid (a .messages-are) ∙ a .messages-valid) (ap is-valid (a .subscriptions-are) ∙ a .subscriptions-valid) (ap is-some (a .pairs-are))
+      plan-checked messages subscriptions plan (a .few) (ap is-valid (a .messages-are) ∙ a .messages-valid)
+      (ap is-valid (a .subscriptions-are) ∙ a .subscriptions-valid) (ap is-some (a .pairs-are))
       ∙ ap₂ (λ ms ss. checked (listed ms) (listed ss) [] (listed (pairs-in plan))) (a .messages-are) (a .subscriptions-are)
       ∙ ap (λ ps. checked (a .ms) (a .ss) [] (listed ps)) (a .pairs-are)
       ∙ assigned-accepted (a .ms) (a .ss) (a .ps) (a .assigns)
@@ -261,18 +283,22 @@ module _ (messages subscriptions plan : List ℕ) where
   unfolding plan-answer
   is-acceptable h = by (ltb 64 (length plan / 8)) refl h
     where
-      lists : length plan / 8 ≤ 64 → (a b : Option (List Entry)) (c : Option (List Pair)) → messages-in messages ≡ a → subscriptions-in subscriptions ≡ b → pairs-in plan ≡ c → plan-of a b c ≡ accepted → Acceptable messages subscriptions plan
+      lists : length plan / 8 ≤ 64 → (a b : Option (List Entry)) (c : Option (List Pair)) → messages-in messages ≡ a
+          → subscriptions-in subscriptions ≡ b → pairs-in plan ≡ c → plan-of a b c ≡ accepted → Acceptable messages subscriptions plan
       lists few none b c p q r h = absurd (let z : _≡_ {A = ℕ} 0 1 = cc in omega arith)
       lists few (some ms) none c p q r h = absurd (let z : _≡_ {A = ℕ} 0 1 = cc in omega arith)
       lists few (some ms) (some ss) none p q r h = absurd (let z : _≡_ {A = ℕ} 0 1 = cc in omega arith)
       lists few (some ms) (some ss) (some ps) p q r h = sound (is-valid (some ms)) (is-valid (some ss)) refl refl h
         where
-          sound : (t u : Bool) → is-valid (some ms) ≡ t → is-valid (some ss) ≡ u → cond (t && u) (checked ms ss [] ps) (refusal 102 0) ≡ accepted → Acceptable messages subscriptions plan
+          sound : (t u : Bool) → is-valid (some ms) ≡ t → is-valid (some ss) ≡ u → cond (t && u) (checked ms ss [] ps) (refusal 102 0) ≡ accepted
+              → Acceptable messages subscriptions plan
           sound false u a b h = absurd (let z : _≡_ {A = ℕ} 0 1 = cc in omega arith)
           sound true false a b h = absurd (let z : _≡_ {A = ℕ} 0 1 = cc in omega arith)
           sound true true a b h =
               record { few = few; ms = ms; ss = ss; ps = ps; messages-are = p; subscriptions-are = q; pairs-are = r; messages-valid = a; subscriptions-valid = b; assigns = accepted-assigned ms ss (and-left (distinct ss) (texts-formed ss) b) ps h }
 
-      by : (t : Bool) → ltb 64 (length plan / 8) ≡ t → cond t (refusal 101 0) (plan-of (messages-in messages) (subscriptions-in subscriptions) (pairs-in plan)) ≡ accepted → Acceptable messages subscriptions plan
+      by : (t : Bool) → ltb 64 (length plan / 8) ≡ t
+          → cond t (refusal 101 0) (plan-of (messages-in messages) (subscriptions-in subscriptions) (pairs-in plan)) ≡ accepted
+          → Acceptable messages subscriptions plan
       by true e h = absurd (let z : _≡_ {A = ℕ} 0 1 = cc in omega arith)
       by false e h = lists (ltb-false 64 (length plan / 8) e) (messages-in messages) (subscriptions-in subscriptions) (pairs-in plan) refl refl refl h

@@ -71,7 +71,8 @@ is-yes Match.No = false
 is-yes Match.BadName = false
 is-yes Match.BadPattern = false
 
-pub match-told : (name pattern : List ℕ) → well-formed name ≡ true → well-formed pattern ≡ true → (g : Match) → match-says g ≡ match-answer name pattern → is-yes g ≡ matches (words pattern) (words name)
+pub match-told : (name pattern : List ℕ) → well-formed name ≡ true → well-formed pattern ≡ true → (g : Match)
+    → match-says g ≡ match-answer name pattern → is-yes g ≡ matches (words pattern) (words name)
 match-told name pattern n p g e = by g (matches (words pattern) (words name)) (e ∙ answered name pattern n p (matches (words pattern) (words name)) refl)
   where
     by : (g : Match) (t : Bool) → match-says g ≡ Answer.accepted (yes-or-no t ∷ []) → is-yes g ≡ t
@@ -104,11 +105,13 @@ module _ (ms ss : List Entry) (earlier : List Pair) (p : Pair) where
         unfolding pair-answer
         unmatched h = rw (fm, new, fs, h)
 
-        pub over : matches (words (s .text)) (words (m .text)) ≡ true → s .room ≤ how-many (with-subscription (p .subscription)) earlier → pair-answer ms ss earlier p ≡ Answer.refused 99
+        pub over : matches (words (s .text)) (words (m .text)) ≡ true → s .room ≤ how-many (with-subscription (p .subscription)) earlier
+            → pair-answer ms ss earlier p ≡ Answer.refused 99
         unfolding pair-answer
         over h r = rw (fm, new, fs, h, lt-ltb (s .room) (how-many (with-subscription (p .subscription)) earlier + 1) (omega arith))
 
-        pub good : matches (words (s .text)) (words (m .text)) ≡ true → how-many (with-subscription (p .subscription)) earlier < s .room → pair-answer ms ss earlier p ≡ Answer.accepted []
+        pub good : matches (words (s .text)) (words (m .text)) ≡ true → how-many (with-subscription (p .subscription)) earlier < s .room
+            → pair-answer ms ss earlier p ≡ Answer.accepted []
         unfolding pair-answer
         good h r = rw (fm, new, fs, h, le-ltb (s .room) (how-many (with-subscription (p .subscription)) earlier + 1) (omega arith))
 
@@ -147,7 +150,8 @@ module _ (ms ss : List Entry) (plan : List ℕ) where
     pub here-fits : at < length plan → at + 8 ≤ length plan
     here-fits h = let long = length-drop at plan in omega (arith, whole-fits pair-format pair-local (drop at plan) (j .whole) (omega arith))
 
-    module _ (h : at < length plan) (m s : ℕ) (em : m ≡ evaluate 256 0 (take (at + 4 - at) (drop at plan))) (es : s ≡ evaluate 256 0 (take (at + 8 - (at + 4)) (drop (at + 4) plan))) where
+    module _ (h : at < length plan) (m s : ℕ) (em : m ≡ evaluate 256 0 (take (at + 4 - at) (drop at plan)))
+            (es : s ≡ evaluate 256 0 (take (at + 8 - (at + 4)) (drop (at + 4) plan))) where
       abbrev this : Pair
       this = record { message = m; subscription = s }
 
@@ -175,7 +179,9 @@ module _ (ms ss : List Entry) (plan : List ℕ) where
       -- what is said of the pair with the pairs before it
       module _ (code : ℕ) (said : pair-says code ≡ pair-answer ms ss (listed (pairs-in (take (at - 0) plan))) this) where
         answer : (t : Bool) → eqb code 0 ≡ t → pair-answer ms ss (j .earlier) this ≡ cond t (Answer.accepted []) (Answer.refused code)
-        answer t e = ap (λ o. pair-answer ms ss (listed o) this) (sym (ap pairs-in front-part ∙ j .front-is)) ∙ sym said ∙ ap (λ b. cond b (Answer.accepted []) (Answer.refused code)) e
+        answer t e =
+            ap (λ o. pair-answer ms ss (listed o) this) (sym (ap pairs-in front-part ∙ j .front-is)) ∙ sym said
+            ∙ ap (λ b. cond b (Answer.accepted []) (Answer.refused code)) e
 
         pub checked-bad : (code ≡ 0 → ⊥) → refusal code index ≡ checked ms ss [] (listed (pairs-in plan))
         checked-bad n =
@@ -190,7 +196,9 @@ module _ (ms ss : List Entry) (plan : List ℕ) where
               front-is = records-grow pair-format pair-local plan at (j .earlier) (j .front-is) (here-fits h) ∙ ap (λ p. some (j .earlier ++ (p ∷ []))) this-is;
               index-is = omega (arith, j .index-is, length-append (j .earlier) (this ∷ []));
               whole = whole-rest;
-              verdict = one ∙ ap (λ a. bad-or a (length (j .earlier)) (checked ms ss (j .earlier ++ (this ∷ [])) (listed rest))) (answer true (eq-eqb code 0 e));
+              verdict =
+                  one ∙ ap (λ a. bad-or a (length (j .earlier)) (checked ms ss (j .earlier ++ (this ∷ [])) (listed rest)))
+                  (answer true (eq-eqb code 0 e));
             }
 
 -- ## The whole
@@ -231,9 +239,11 @@ no-subscriptions : (a b : Option (List Entry)) (c : Option (List Pair)) → is-v
 no-subscriptions none b c h = refl
 no-subscriptions (some ms) none c h = refl
 no-subscriptions (some ms) (some ss) none h = refl
-no-subscriptions (some ms) (some ss) (some ps) h = ap (λ t. cond t (checked ms ss [] ps) (refusal 102 0)) (ap (is-valid (some ms) &&_) h ∙ and-no (is-valid (some ms)))
+no-subscriptions (some ms) (some ss) (some ps) h =
+    ap (λ t. cond t (checked ms ss [] ps) (refusal 102 0)) (ap (is-valid (some ms) &&_) h ∙ and-no (is-valid (some ms)))
 
-all-valid : (a b : Option (List Entry)) (c : Option (List Pair)) → is-valid a ≡ true → is-valid b ≡ true → is-some c ≡ true → plan-of a b c ≡ checked (listed a) (listed b) [] (listed c)
+all-valid : (a b : Option (List Entry)) (c : Option (List Pair)) → is-valid a ≡ true → is-valid b ≡ true → is-some c ≡ true
+    → plan-of a b c ≡ checked (listed a) (listed b) [] (listed c)
 all-valid none b c h k w = absurd (let z : _≡_ {A = ℕ} 0 1 = cc in omega arith)
 all-valid (some ms) none c h k w = absurd (let z : _≡_ {A = ℕ} 0 1 = cc in omega arith)
 all-valid (some ms) (some ss) none h k w = absurd (let z : _≡_ {A = ℕ} 0 1 = cc in omega arith)
@@ -262,5 +272,6 @@ module _ (messages subscriptions plan : List ℕ) where
     plan-subscriptions h = plan-read ∙ no-subscriptions (messages-in messages) (subscriptions-in subscriptions) (pairs-in plan) h
 
     pub plan-checked : is-valid (messages-in messages) ≡ true → is-valid (subscriptions-in subscriptions) ≡ true → is-some (pairs-in plan) ≡ true
-        → plan-answer messages subscriptions plan ≡ checked (listed (messages-in messages)) (listed (subscriptions-in subscriptions)) [] (listed (pairs-in plan))
+        → plan-answer messages subscriptions plan ≡ checked (listed (messages-in messages)) (listed (subscriptions-in subscriptions)) []
+        (listed (pairs-in plan))
     plan-checked h k w = plan-read ∙ all-valid (messages-in messages) (subscriptions-in subscriptions) (pairs-in plan) h k w

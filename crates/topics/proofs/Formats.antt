@@ -39,8 +39,10 @@ entry-local w =
       same-size = λ n xs ys s h e. ap (λ k. 6 + k + w) (number-same n xs ys h e 2 4 (omega arith));
       same-front = λ n xs ys s h e.
           let long = number-same n xs ys h e 2 4 (omega arith) in
-          ap₂ (λ m t. entry-of m t (number-at w ys (6 + text-length ys))) (number-same n xs ys h e 4 0 (omega arith)) (ap (λ k. take k (drop 6 ys)) long ∙ part-same n xs ys h e 6 (text-length xs) (omega arith))
-          ∙ ap (λ r. entry-of (number-at 4 xs 0) (take (text-length xs) (drop 6 xs)) r) (ap (λ k. number-at w ys (6 + k)) long ∙ number-same n xs ys h e w (6 + text-length xs) (omega arith));
+          ap₂ (λ m t. entry-of m t (number-at w ys (6 + text-length ys))) (number-same n xs ys h e 4 0 (omega arith))
+          (ap (λ k. take k (drop 6 ys)) long ∙ part-same n xs ys h e 6 (text-length xs) (omega arith))
+          ∙ ap (λ r. entry-of (number-at 4 xs 0) (take (text-length xs) (drop 6 xs)) r)
+          (ap (λ k. number-at w ys (6 + k)) long ∙ number-same n xs ys h e w (6 + text-length xs) (omega arith));
     }
 
 pub pair-local : Local pair-format

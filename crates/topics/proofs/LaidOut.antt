@@ -29,7 +29,9 @@ module _ {A : Type 0} (f : Format A) (l : Local f) (octets : A → List ℕ) (Fi
   laid-records [] h = records-end f l [] refl
   laid-records (r ∷ rs) (h, hs) =
       let alone : records f (octets r) ≡ some (r ∷ []) =
-      records-step f l (octets r) (omega (arith, x .size-is r h)) ∙ ap₂ before (x .front-is r h) (records-end f l (drop (f .size (octets r)) (octets r)) (omega (arith, x .size-is r h, length-drop (f .size (octets r)) (octets r)))) in
+      records-step f l (octets r) (omega (arith, x .size-is r h))
+      ∙ ap₂ before (x .front-is r h)
+      (records-end f l (drop (f .size (octets r)) (octets r)) (omega (arith, x .size-is r h, length-drop (f .size (octets r)) (octets r)))) in
       records-append f l (octets r) (laid octets rs) (r ∷ []) alone ∙ ap (before r) (laid-records rs hs)
 
   pub records-laid : (xs : List ℕ) (rs : List A) → every is-octet xs ≡ true → records f xs ≡ some rs → (laid octets rs ≡ xs) × All Fits rs
@@ -88,7 +90,9 @@ module _ (w : ℕ) where
     text-long = ap (λ z. evaluate 256 0 (take 2 z)) four ∙ front-number 2 (length (e .text)) (h .text-fits) behind
 
     room-at : drop (6 + text-length (entry-octets w e)) (entry-octets w e) ≡ numeral 256 w (e .room)
-    room-at = sym (drop-drop (text-length (entry-octets w e)) 6 (entry-octets w e)) ∙ ap₂ drop text-long six ∙ drop-at (e .text) (numeral 256 w (e .room)) (length (e .text)) refl
+    room-at =
+        sym (drop-drop (text-length (entry-octets w e)) 6 (entry-octets w e)) ∙ ap₂ drop text-long six
+        ∙ drop-at (e .text) (numeral 256 w (e .room)) (length (e .text)) refl
 
     whole-room : take w (numeral 256 w (e .room)) ≡ numeral 256 w (e .room)
     whole-room = ap (λ k. take k (numeral 256 w (e .room))) (sym (length-numeral 256 w (e .room))) ∙ take-length (numeral 256 w (e .room))
@@ -107,8 +111,11 @@ module _ (w : ℕ) where
 
     entry-again : entry-front w (entry-octets w e) ≡ e
     entry-again =
-        ap₂ (λ n t. entry-of n t (number-at w (entry-octets w e) (6 + text-length (entry-octets w e)))) (front-number 4 (e .number) (h .number-fits) tail) (ap₂ take text-long six ∙ take-at (e .text) (numeral 256 w (e .room)) (length (e .text)) refl)
-        ∙ ap (entry-of (e .number) (e .text)) (ap (λ z. evaluate 256 0 (take w z)) room-at ∙ ap (evaluate 256 0) whole-room ∙ value-numeral 256 w (e .room) (h .room-fits))
+        ap₂ (λ n t. entry-of n t (number-at w (entry-octets w e) (6 + text-length (entry-octets w e))))
+        (front-number 4 (e .number) (h .number-fits) tail)
+        (ap₂ take text-long six ∙ take-at (e .text) (numeral 256 w (e .room)) (length (e .text)) refl)
+        ∙ ap (entry-of (e .number) (e .text))
+        (ap (λ z. evaluate 256 0 (take w z)) room-at ∙ ap (evaluate 256 0) whole-room ∙ value-numeral 256 w (e .room) (h .room-fits))
 
   module _ (xs : List ℕ) (o : every is-octet xs ≡ true) (h : entry-format w .size xs ≤ length xs) where
     text-there : length (take (text-length xs) (drop 6 xs)) ≡ text-length xs

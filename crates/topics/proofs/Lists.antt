@@ -85,7 +85,9 @@ module _ {A : Type 0} (f : Format A) (l : Local f) where
   first-before xs h (some rs) e = (h, refl, e)
 
   first : (xs : List ℕ) (t : Bool) → leb (f .size xs) (length xs) ≡ t → First xs (records f xs)
-  first xs true h = rw (records-step xs (leb-true (f .size xs) (length xs) h)) (first-before xs (leb-true (f .size xs) (length xs) h) (records f (drop (f .size xs) xs)) refl)
+  first xs true h =
+      rw (records-step xs (leb-true (f .size xs) (length xs) h))
+      (first-before xs (leb-true (f .size xs) (length xs) h) (records f (drop (f .size xs) xs)) refl)
   first [] false h = rw (records-end [] refl) refl
   first (x ∷ xs) false h = rw (records-none (x ∷ xs) (omega arith) (leb-false (f .size (x ∷ xs)) (length (x ∷ xs)) h)) tt
 
@@ -103,14 +105,17 @@ module _ {A : Type 0} (f : Format A) (l : Local f) where
       let size = l .same-size (length xs) xs (xs ++ ys) fits (omega arith) agree in
       let front = l .same-front (length xs) xs (xs ++ ys) fits (omega arith) agree in
       records-step (xs ++ ys) (omega arith)
-      ∙ ap₂ before (front ∙ is) (ap (λ n. records f (drop n (xs ++ ys))) size ∙ ap (records f) (drop-append-le (f .size xs) xs ys fits) ∙ records-append (drop (f .size xs) xs) ys rs rest)
+      ∙ ap₂ before (front ∙ is)
+      (ap (λ n. records f (drop n (xs ++ ys))) size ∙ ap (records f) (drop-append-le (f .size xs) xs ys fits) ∙ records-append (drop (f .size xs) xs) ys rs rest)
 
   -- from place at of a list on
   module _ (xs : List ℕ) (at : ℕ) where
-    pub place-step : at + f .size (drop at xs) ≤ length xs → records f (drop at xs) ≡ before (f .front (drop at xs)) (records f (drop (at + f .size (drop at xs)) xs))
+    pub place-step : at + f .size (drop at xs) ≤ length xs
+        → records f (drop at xs) ≡ before (f .front (drop at xs)) (records f (drop (at + f .size (drop at xs)) xs))
     place-step h =
         let long = length-drop at xs in
-        records-step (drop at xs) (omega (arith, l .positive (drop at xs))) ∙ ap (λ ys. before (f .front (drop at xs)) (records f ys)) (drop-drop (f .size (drop at xs)) at xs)
+        records-step (drop at xs) (omega (arith, l .positive (drop at xs)))
+        ∙ ap (λ ys. before (f .front (drop at xs)) (records f ys)) (drop-drop (f .size (drop at xs)) at xs)
 
     pub place-none : at < length xs → length xs < at + f .size (drop at xs) → records f (drop at xs) ≡ none
     place-none h k = let long = length-drop at xs in records-none (drop at xs) (omega arith) (omega arith)

@@ -25,7 +25,8 @@ match-reads Match.No = refl
 match-reads Match.BadName = refl
 match-reads Match.BadPattern = refl
 
-pub match-packs : (a : Answer) (g r : Match) → match-says g ≡ a → g ≡ r → (packed-match (match-says r) ≡ packed-match a) × (unpacked-match (packed-match (match-says r)) ≡ a)
+pub match-packs : (a : Answer) (g r : Match) → match-says g ≡ a → g ≡ r → (packed-match (match-says r) ≡ packed-match a)
+    × (unpacked-match (packed-match (match-says r)) ≡ a)
 match-packs a g r e q = let said = ap match-says (sym q) ∙ e in (ap packed-match said, match-reads r ∙ said)
 
 -- ## stomp_check_plan
@@ -59,7 +60,8 @@ checked-refuses : (ms ss : List Entry) (earlier ps : List Pair) → Refuses (che
 unfolding checked
 checked-refuses ms ss earlier [] = left-refuses (first-of (is-left-out earlier) ms)
 checked-refuses ms ss earlier (p ∷ ps) =
-    bad-refuses (pair-answer ms ss earlier p) (length earlier) (checked ms ss (earlier ++ (p ∷ [])) ps) (pair-numbered ms ss earlier p) (checked-refuses ms ss (earlier ++ (p ∷ [])) ps)
+    bad-refuses (pair-answer ms ss earlier p) (length earlier) (checked ms ss (earlier ++ (p ∷ [])) ps) (pair-numbered ms ss earlier p)
+    (checked-refuses ms ss (earlier ++ (p ∷ [])) ps)
 
 read-refuses : (a b : Option (List Entry)) (c : Option (List Pair)) → Refuses (plan-of a b c)
 read-refuses none b c = omega arith
@@ -82,10 +84,12 @@ plan-reads accepted r s = refl
 plan-reads (refusal k n) r s =
     let high : (4294967296 * k + n) / 4294967296 ≡ k = omega arith in
     let low : (4294967296 * k + n) % 4294967296 ≡ n = omega arith in
-    ap (λ t. cond t accepted (refusal ((4294967296 * k + n) / 4294967296) ((4294967296 * k + n) % 4294967296))) (ne-eqb (4294967296 * k + n) 0 (λ e. omega arith)) ∙ ap₂ refusal high low
+    ap (λ t. cond t accepted (refusal ((4294967296 * k + n) / 4294967296) ((4294967296 * k + n) % 4294967296)))
+    (ne-eqb (4294967296 * k + n) 0 (λ e. omega arith)) ∙ ap₂ refusal high low
 
 pub plan-packs : (messages subscriptions plan : List ℕ) (g r : PlanAnswer) → plan-says g ≡ plan-answer messages subscriptions plan → g ≡ r → Small (plan-says r)
-    → (packed-plan (plan-says r) ≡ packed-plan (plan-answer messages subscriptions plan)) × (unpacked-plan (packed-plan (plan-says r)) ≡ plan-answer messages subscriptions plan)
+    → (packed-plan (plan-says r) ≡ packed-plan (plan-answer messages subscriptions plan)) ×
+    (unpacked-plan (packed-plan (plan-says r)) ≡ plan-answer messages subscriptions plan)
 plan-packs messages subscriptions plan g r e q s =
     let said = ap plan-says (sym q) ∙ e in
     (ap packed-plan said, plan-reads (plan-says r) (subst Refuses (sym said) (plan-refuses messages subscriptions plan)) s ∙ said)

@@ -64,7 +64,8 @@ module _ (w : ℕ) (xs : List ℕ) (at : ℕ) where
     abbrev there : ℕ → ℕ → Record
     there n r = record { number = n; from = at + 6; to = to; room = r; next = to + w }
 
-    pub stood : (n r : ℕ) → n ≡ evaluate 256 0 (take (at + 4 - at) (drop at xs)) → n < 4294967296 → r ≡ evaluate 256 0 (take (to + w - to) (drop to xs)) → r < 4294967296 → to + w ≤ length xs
+    pub stood : (n r : ℕ) → n ≡ evaluate 256 0 (take (at + 4 - at) (drop at xs)) → n < 4294967296
+        → r ≡ evaluate 256 0 (take (to + w - to) (drop to xs)) → r < 4294967296 → to + w ≤ length xs
         → Stood w xs at (there n r)
     stood n r en sn er sr fits =
         let four : 4 ≡ at + 4 - at = omega arith in
@@ -75,8 +76,10 @@ module _ (w : ℕ) (xs : List ℕ) (at : ℕ) where
           inside = record { text-in = omega arith; record-in = omega arith; list-in = fits; number-small = sn; room-small = sr };
           size-is = omega arith;
           entry-is =
-              ap₂ (λ m s. entry-of m s (number-at w (drop at xs) (6 + text-length (drop at xs)))) (ap (λ k. evaluate 256 0 (take k (drop at xs))) four ∙ sym en) (ap₂ take (long ∙ span) (drop-drop 6 at xs))
-              ∙ ap (entry-of n (take (to - (at + 6)) (drop (at + 6) xs))) (number-on w xs at (6 + text-length (drop at xs)) ∙ ap₂ (λ k j. evaluate 256 0 (take k (drop j xs))) room on ∙ sym er);
+              ap₂ (λ m s. entry-of m s (number-at w (drop at xs) (6 + text-length (drop at xs))))
+              (ap (λ k. evaluate 256 0 (take k (drop at xs))) four ∙ sym en) (ap₂ take (long ∙ span) (drop-drop 6 at xs))
+              ∙ ap (entry-of n (take (to - (at + 6)) (drop (at + 6) xs)))
+              (number-on w xs at (6 + text-length (drop at xs)) ∙ ap₂ (λ k j. evaluate 256 0 (take k (drop j xs))) room on ∙ sym er);
         }
 
   -- the records from there on

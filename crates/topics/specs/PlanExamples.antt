@@ -63,18 +63,21 @@ examples =
     row two live (pair 1 7 ∷ pair 2 7 ∷ []) accepted ∷
     row two live (pair 2 8 ∷ pair 1 7 ∷ []) accepted ∷
     row (message 7 "a" ∷ []) (subscription 7 "a" 1 ∷ []) (pair 7 7 ∷ []) accepted ∷
-    row (message 4294967295 "a" ∷ message 2147483648 "b" ∷ []) (subscription 4294967294 "*" 4294967295 ∷ []) (pair 2147483648 4294967294 ∷ pair 4294967295 4294967294 ∷ []) accepted ∷
+    row (message 4294967295 "a" ∷ message 2147483648 "b" ∷ []) (subscription 4294967294 "*" 4294967295 ∷ [])
+        (pair 2147483648 4294967294 ∷ pair 4294967295 4294967294 ∷ []) accepted ∷
     row [] live [] accepted ∷
     row [] [] [] accepted ∷
     -- 96: no such message waits
     row two live (pair 3 7 ∷ []) (refusal 96 0) ∷
     row two live (pair 1 7 ∷ pair 2 8 ∷ pair 3 7 ∷ []) (refusal 96 2) ∷
     row two live (pair 3 9 ∷ pair 3 7 ∷ []) (refusal 96 0) ∷
+    row two (subscription 7 "#" 0 ∷ []) (pair 3 7 ∷ []) (refusal 96 0) ∷
     row [] [] (pair 0 0 ∷ []) (refusal 96 0) ∷
     -- 97: an earlier pair has it
     row two live (pair 1 7 ∷ pair 1 7 ∷ []) (refusal 97 1) ∷
     row two live (pair 1 7 ∷ pair 2 8 ∷ pair 1 9 ∷ []) (refusal 97 2) ∷
     row two live (pair 2 8 ∷ pair 2 8 ∷ []) (refusal 97 1) ∷
+    row two (subscription 7 "#" 1 ∷ []) (pair 1 7 ∷ pair 1 7 ∷ []) (refusal 97 1) ∷
     -- 98: the subscription is not live, or does not match
     row two live (pair 1 9 ∷ []) (refusal 98 0) ∷
     row two live (pair 1 8 ∷ []) (refusal 98 0) ∷

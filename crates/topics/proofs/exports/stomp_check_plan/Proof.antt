@@ -64,31 +64,36 @@ returns : tie.Need-returns
 returns c =
     let m = c .before .before in
     let a = m .before .before .before .before .args in
-    plan-packs (a .messages .now) (a .subscriptions .now) (a .plan .now) (m .check-plan .result) PlanAnswer.Accepted (m .check-plan .ensures) (c .enum-told .given .1) tt
+    plan-packs (a .messages .now) (a .subscriptions .now) (a .plan .now) (m .check-plan .result) PlanAnswer.Accepted (m .check-plan .ensures)
+    (c .enum-told .given .1) tt
 
 returns-2 : tie.Need-returns-2
 returns-2 c =
     let m = c .before .before in
     let a = m .before .before .before .before .args in
-    plan-packs (a .messages .now) (a .subscriptions .now) (a .plan .now) (m .check-plan .result) PlanAnswer.TooManyPairs (m .check-plan .ensures) (c .enum-told2 .given .1) (omega arith)
+    plan-packs (a .messages .now) (a .subscriptions .now) (a .plan .now) (m .check-plan .result) PlanAnswer.TooManyPairs (m .check-plan .ensures)
+    (c .enum-told2 .given .1) (omega arith)
 
 returns-3 : tie.Need-returns-3
 returns-3 c =
     let m = c .before .before in
     let a = m .before .before .before .before .args in
-    plan-packs (a .messages .now) (a .subscriptions .now) (a .plan .now) (m .check-plan .result) PlanAnswer.Malformed (m .check-plan .ensures) (c .enum-told3 .given .1) (omega arith)
+    plan-packs (a .messages .now) (a .subscriptions .now) (a .plan .now) (m .check-plan .result) PlanAnswer.Malformed (m .check-plan .ensures)
+    (c .enum-told3 .given .1) (omega arith)
 
 returns-4 : tie.Need-returns-4
 returns-4 c =
     let m = c .before .before .before .before .before in
     let a = m .before .before .before .before .args in
-    plan-packs (a .messages .now) (a .subscriptions .now) (a .plan .now) (m .check-plan .result) (PlanAnswer.BadPair (c .before .before .before .f .given .0 .0)) (m .check-plan .ensures) (c .before .before .before .f .given .1) (search needs)
+    plan-packs (a .messages .now) (a .subscriptions .now) (a .plan .now) (m .check-plan .result)
+    (PlanAnswer.BadPair (c .before .before .before .f .given .0 .0)) (m .check-plan .ensures) (c .before .before .before .f .given .1) (search needs)
 
 returns-5 : tie.Need-returns-5
 returns-5 c =
     let m = c .before .before .before in
     let a = m .before .before .before .before .args in
-    plan-packs (a .messages .now) (a .subscriptions .now) (a .plan .now) (m .check-plan .result) (PlanAnswer.LeftOut (c .before .n .given .0 .0)) (m .check-plan .ensures) (c .before .n .given .1) (search needs)
+    plan-packs (a .messages .now) (a .subscriptions .now) (a .plan .now) (m .check-plan .result) (PlanAnswer.LeftOut (c .before .n .given .0 .0))
+    (m .check-plan .ensures) (c .before .n .given .1) (search needs)
 
 pub stomp-check-plan-spec : {M : Type 1} → statement M
 stomp-check-plan-spec =

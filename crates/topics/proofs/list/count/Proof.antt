@@ -16,7 +16,8 @@ abbrev μ-loop : tie.MeasureT-loop
 μ-loop pairs column number n₀ at₀ n at = length pairs - at
 
 -- a whole pair is there, with the column in it
-fits : (c : tie.In-loop Inv-loop μ-loop) → (c .before .loop .at + 8 ≤ length (c .before .before .before .args .pairs .now)) × (c .before .before .before .args .column ≤ 4)
+fits : (c : tie.In-loop Inv-loop μ-loop) → (c .before .loop .at + 8 ≤ length (c .before .before .before .args .pairs .now))
+    × (c .before .before .before .args .column ≤ 4)
 fits c =
     let l = c .before in
     let a = l .before .before .args in (

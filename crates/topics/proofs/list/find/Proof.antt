@@ -18,7 +18,8 @@ abbrev μ-loop : tie.MeasureT-loop
 μ-loop list width number at₀ at = length list - at
 
 -- the record at a place
-here : (c : tie.After-r Inv-loop μ-loop) → Stood (c .before .before .before .before .before .args .width) (c .before .before .before .before .before .args .list .now) (c .before .before .before .loop .at) (c .r .given .0 .0)
+here : (c : tie.After-r Inv-loop μ-loop)
+    → Stood (c .before .before .before .before .before .args .width) (c .before .before .before .before .before .args .list .now) (c .before .before .before .loop .at) (c .r .given .0 .0)
 here c =
     let e = c .before .before in
     let a = e .before .before .before .args in
@@ -62,7 +63,8 @@ returns-2 c =
     let e = c .before .before in
     let l = e .before in
     let a = l .before .before .args in
-    first-none (a .width) (a .list .now) (numbered (a .number)) (l .loop .at) (l .loop .inv) (subst (Standing (a .width) (a .list .now) (l .loop .at)) (c .enum-told .given .1) (e .record-at .ensures))
+    first-none (a .width) (a .list .now) (numbered (a .number)) (l .loop .at) (l .loop .inv)
+    (subst (Standing (a .width) (a .list .now) (l .loop .at)) (c .enum-told .given .1) (e .record-at .ensures))
 
 enum-told-2 : tie.Need-enum-told-2 Inv-loop μ-loop
 enum-told-2 c = search needs

@@ -41,7 +41,8 @@ returns-3 : tie.Need-returns-3
 returns-3 c =
     let m = c .before .before .before in
     let a = m .before .before .args in
-    c .is-distinct .ensures ∙ sym ((subst (Reads (records (entry-format (a .width)) (a .list .now))) (c .before .enum-told3 .given .1) (m .read-list .ensures)) .1)
+    c .is-distinct .ensures
+    ∙ sym ((subst (Reads (records (entry-format (a .width)) (a .list .now))) (c .before .enum-told3 .given .1) (m .read-list .ensures)) .1)
 
 pub is-valid-list-spec : {M : Type 1} → statement M
 is-valid-list-spec =

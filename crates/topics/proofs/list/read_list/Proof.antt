@@ -18,7 +18,8 @@ abbrev μ-loop : tie.MeasureT-loop
 μ-loop list width at₀ above₀ at above = length list - at
 
 -- the record at a place
-here : (c : tie.After-r Inv-loop μ-loop) → Stood (c .before .before .before .before .before .args .width) (c .before .before .before .before .before .args .list .now) (c .before .before .before .loop .at) (c .r .given .0 .0)
+here : (c : tie.After-r Inv-loop μ-loop)
+    → Stood (c .before .before .before .before .before .args .width) (c .before .before .before .before .before .args .list .now) (c .before .before .before .loop .at) (c .r .given .0 .0)
 here c =
     let e = c .before .before in
     let a = e .before .before .before .args in
@@ -50,7 +51,8 @@ returns c =
     let r = c .before .before .before .before in
     let l = r .before .before .before in
     let a = l .before .before .args in
-    bad-text (a .width) (a .list .now) (l .loop .at) (l .loop .above) (l .loop .inv) (r .r .given .0 .0) (here r) (sym (c .before .is-well-formed .ensures) ∙ not-true _ (c .if1 .taken))
+    bad-text (a .width) (a .list .now) (l .loop .at) (l .loop .above) (l .loop .inv) (r .r .given .0 .0) (here r)
+    (sym (c .before .is-well-formed .ensures) ∙ not-true _ (c .if1 .taken))
 
 raise-requires : tie.Need-raise-requires Inv-loop μ-loop
 raise-requires c κs = here (c .before .before .before .before) .inside .number-small
@@ -78,14 +80,16 @@ returns-2 c =
     let e = c .before .before .before in
     let l = e .before in
     let a = l .before .before .args in
-    read-mixed (a .width) (a .list .now) (l .loop .at) (l .loop .above) (l .loop .inv) (subst (Standing (a .width) (a .list .now) (l .loop .at)) (c .before .enum-told .given .1) (e .record-at .ensures))
+    read-mixed (a .width) (a .list .now) (l .loop .at) (l .loop .above) (l .loop .inv)
+    (subst (Standing (a .width) (a .list .now) (l .loop .at)) (c .before .enum-told .given .1) (e .record-at .ensures))
 
 returns-3 : tie.Need-returns-3 Inv-loop μ-loop
 returns-3 c =
     let e = c .before .before .before in
     let l = e .before in
     let a = l .before .before .args in
-    read-ascending (a .width) (a .list .now) (l .loop .at) (l .loop .above) (l .loop .inv) (subst (Standing (a .width) (a .list .now) (l .loop .at)) (c .before .enum-told .given .1) (e .record-at .ensures)) (c .if2 .left)
+    read-ascending (a .width) (a .list .now) (l .loop .at) (l .loop .above) (l .loop .inv)
+    (subst (Standing (a .width) (a .list .now) (l .loop .at)) (c .before .enum-told .given .1) (e .record-at .ensures)) (c .if2 .left)
 
 enum-told-2 : tie.Need-enum-told-2 Inv-loop μ-loop
 enum-told-2 c = search needs

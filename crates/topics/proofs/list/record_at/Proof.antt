@@ -10,7 +10,8 @@ use Rattle.topics.proofs.list.record_at.Statement.{statement}
 use Rattle.topics.proofs.list.record_at.Tie as tie
 
 -- the length of the text
-text-is : (c : tie.After-value) → text-length (drop (c .before .before .before .before .before .args .at) (c .before .before .before .before .before .args .list .now)) ≡ c .value .result
+text-is : (c : tie.After-value)
+    → text-length (drop (c .before .before .before .before .before .args .at) (c .before .before .before .before .before .args .list .now)) ≡ c .value .result
 text-is c = let a = c .before .before .before .before .before .args in text-at (a .width) (a .list .now) (a .at) (c .value .result) (c .value .ensures .0)
 
 returns : tie.Need-returns
@@ -86,7 +87,8 @@ returns-4 c =
     let n = c .before .before in
     let v = n .before .before .before in
     let a = v .before .before .before .before .before .args in
-    stood (a .width) (a .list .now) (a .at) (v .value .result) (text-is v) (n .value2 .result) (c .value3 .result) (n .value2 .ensures .0) (n .value2 .ensures .1) (c .value3 .ensures .0) (c .value3 .ensures .1) (omega arith)
+    stood (a .width) (a .list .now) (a .at) (v .value .result) (text-is v) (n .value2 .result) (c .value3 .result) (n .value2 .ensures .0)
+    (n .value2 .ensures .1) (c .value3 .ensures .0) (c .value3 .ensures .1) (omega arith)
 
 pub record-at-spec : {M : Type 1} → statement M
 record-at-spec =

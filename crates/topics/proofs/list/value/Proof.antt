@@ -22,7 +22,8 @@ octets : (c : tie.In-loop Inv-loop μ-loop) → every is-octet (c .before .befor
 octets c = octets-known (c .before .before .before .args .octets .now) (λ i. omega (arith, c .before .before .shared-slice-known .given i))
 
 -- the number with the octet at i
-more : (c : tie.After-wide Inv-loop μ-loop) → c .before .before .before .loop .n * 256 + c .wide .result ≡ evaluate 256 0 (take (c .before .before .before .loop .i + 1) (c .before .before .before .before .before .args .octets .now))
+more : (c : tie.After-wide Inv-loop μ-loop)
+    → c .before .before .before .loop .n * 256 + c .wide .result ≡ evaluate 256 0 (take (c .before .before .before .loop .i + 1) (c .before .before .before .before .before .args .octets .now))
 more c =
     let l = c .before .before .before in
     omega (arith, value-more (l .before .before .args .octets .now) (l .loop .i) (c .before .before .loop-test .taken), l .loop .inv .1, c .wide .ensures .0)

@@ -26,7 +26,8 @@ subscriptions-at l = listed (subscriptions-in (l .before .before .before .before
 fits : (c : tie.In-loop Inv-loop μ-loop) → c .before .loop .at + 8 ≤ length (c .before .before .before .before .before .args .plan .now)
 fits c =
     let l = c .before in
-    here-fits (messages-at l) (subscriptions-at l) (l .before .before .before .before .args .plan .now) (l .loop .at) (l .loop .index) (l .loop .inv) (c .loop-test .taken)
+    here-fits (messages-at l) (subscriptions-at l) (l .before .before .before .before .args .plan .now) (l .loop .at) (l .loop .index) (l .loop .inv)
+    (c .loop-test .taken)
 
 loop-holds : tie.Need-loop-holds Inv-loop μ-loop
 loop-holds c = let s = c .before .before .before in checked-start (listed (messages-in (s .args .messages .now))) (listed (subscriptions-in (s .args .subscriptions .now))) (s .args .plan .now) (s .pre .2)
@@ -85,7 +86,9 @@ returns c =
     let i = v .before .before in
     let l = i .before in
     let a = l .before .before .before .before .args in
-    checked-bad (messages-at l) (subscriptions-at l) (a .plan .now) (l .loop .at) (l .loop .index) (l .loop .inv) (i .loop-test .taken) (v .value .result) (w .value2 .result) (v .value .ensures .0) (w .value2 .ensures .0) (q .pair-code .result) (q .pair-code .ensures) (c .if1 .taken)
+    checked-bad (messages-at l) (subscriptions-at l) (a .plan .now) (l .loop .at) (l .loop .index) (l .loop .inv) (i .loop-test .taken)
+    (v .value .result) (w .value2 .result) (v .value .ensures .0) (w .value2 .ensures .0) (q .pair-code .result) (q .pair-code .ensures)
+    (c .if1 .taken)
 
 add-index : tie.Need-add-index Inv-loop μ-loop
 add-index c =
@@ -108,7 +111,9 @@ loop-again c =
     let i = v .before .before in
     let l = i .before in
     let a = l .before .before .before .before .args in
-    checked-good (messages-at l) (subscriptions-at l) (a .plan .now) (l .loop .at) (l .loop .index) (l .loop .inv) (i .loop-test .taken) (v .value .result) (w .value2 .result) (v .value .ensures .0) (w .value2 .ensures .0) (q .pair-code .result) (q .pair-code .ensures) (c .if1 .left)
+    checked-good (messages-at l) (subscriptions-at l) (a .plan .now) (l .loop .at) (l .loop .index) (l .loop .inv) (i .loop-test .taken)
+    (v .value .result) (w .value2 .result) (v .value .ensures .0) (w .value2 .ensures .0) (q .pair-code .result) (q .pair-code .ensures)
+    (c .if1 .left)
 
 left-out-requires : tie.Need-left-out-requires Inv-loop μ-loop
 left-out-requires c κs = let s = c .before .before .before .before .before in (valid-whole (messages-in (s .args .messages .now)) (s .pre .0), s .pre .2)
@@ -117,7 +122,8 @@ returns-2 : tie.Need-returns-2 Inv-loop μ-loop
 returns-2 c =
     let l = c .before .before in
     let a = l .before .before .before .before .args in
-    c .left-out .ensures ∙ sym (checked-end (messages-at l) (subscriptions-at l) (a .plan .now) (l .loop .at) (l .loop .index) (l .loop .inv) (c .before .loop-test .left))
+    c .left-out .ensures
+    ∙ sym (checked-end (messages-at l) (subscriptions-at l) (a .plan .now) (l .loop .at) (l .loop .index) (l .loop .inv) (c .before .loop-test .left))
 
 pub check-pairs-spec : {M : Type 1} → statement M
 check-pairs-spec =

@@ -25,25 +25,29 @@ returns : tie.Need-returns
 returns c =
     let m = c .before .before in
     let s = m .before .before .before in
-    sym (ap is-yes (c .enum-told .given .1)) ∙ match-told (s .args .destination .now) (s .args .pattern .now) (s .pre .0) (s .pre .1) (m .matches .result) (m .matches .ensures)
+    sym (ap is-yes (c .enum-told .given .1))
+    ∙ match-told (s .args .destination .now) (s .args .pattern .now) (s .pre .0) (s .pre .1) (m .matches .result) (m .matches .ensures)
 
 returns-2 : tie.Need-returns-2
 returns-2 c =
     let m = c .before .before in
     let s = m .before .before .before in
-    sym (ap is-yes (c .enum-told2 .given .1)) ∙ match-told (s .args .destination .now) (s .args .pattern .now) (s .pre .0) (s .pre .1) (m .matches .result) (m .matches .ensures)
+    sym (ap is-yes (c .enum-told2 .given .1))
+    ∙ match-told (s .args .destination .now) (s .args .pattern .now) (s .pre .0) (s .pre .1) (m .matches .result) (m .matches .ensures)
 
 returns-3 : tie.Need-returns-3
 returns-3 c =
     let m = c .before .before in
     let s = m .before .before .before in
-    sym (ap is-yes (c .enum-told3 .given .1)) ∙ match-told (s .args .destination .now) (s .args .pattern .now) (s .pre .0) (s .pre .1) (m .matches .result) (m .matches .ensures)
+    sym (ap is-yes (c .enum-told3 .given .1))
+    ∙ match-told (s .args .destination .now) (s .args .pattern .now) (s .pre .0) (s .pre .1) (m .matches .result) (m .matches .ensures)
 
 returns-4 : tie.Need-returns-4
 returns-4 c =
     let m = c .before .before in
     let s = m .before .before .before in
-    sym (ap is-yes (c .enum-told4 .given .1)) ∙ match-told (s .args .destination .now) (s .args .pattern .now) (s .pre .0) (s .pre .1) (m .matches .result) (m .matches .ensures)
+    sym (ap is-yes (c .enum-told4 .given .1))
+    ∙ match-told (s .args .destination .now) (s .args .pattern .now) (s .pre .0) (s .pre .1) (m .matches .result) (m .matches .ensures)
 
 pub is-match-spec : {M : Type 1} → statement M
 is-match-spec =

@@ -21,7 +21,8 @@ abbrev μ-loop : tie.MeasureT-loop
 μ-loop messages plan at₀ at = length messages - at
 
 -- the record at a place
-here : (c : tie.After-r Inv-loop μ-loop) → Stood 0 (c .before .before .before .before .before .before .args .messages .now) (c .before .before .before .loop .at) (c .r .given .0 .0)
+here : (c : tie.After-r Inv-loop μ-loop)
+    → Stood 0 (c .before .before .before .before .before .before .args .messages .now) (c .before .before .before .loop .at) (c .r .given .0 .0)
 here c =
     let e = c .before .before in
     let a = e .before .before .before .before .args in
@@ -64,7 +65,8 @@ loop-again c =
     let l = r .before .before .before in
     let a = l .before .before .before .args in
     let ps = listed (pairs-in (a .plan .now)) in
-    passed-on 0 (a .messages .now) (is-left-out ps) (l .loop .at) (l .loop .inv) (r .r .given .0 .0) (here r) (ap not (count-some (with-message (r .r .given .0 .0 .number)) ps (λ e. c .if1 .left (c .before .count .ensures ∙ e))))
+    passed-on 0 (a .messages .now) (is-left-out ps) (l .loop .at) (l .loop .inv) (r .r .given .0 .0) (here r)
+    (ap not (count-some (with-message (r .r .given .0 .0 .number)) ps (λ e. c .if1 .left (c .before .count .ensures ∙ e))))
 
 enum-told : tie.Need-enum-told Inv-loop μ-loop
 enum-told c = search needs

@@ -16,20 +16,23 @@ use Rattle.topics.proofs.plan.pair_code.Statement.{statement}
 use Rattle.topics.proofs.plan.pair_code.Tie as tie
 
 -- the message, where there is one, and the subscription
-message-is : (c : tie.After-m) → Finds 0 (c .before .before .before .before .before .before .args .messages .now) (c .before .before .before .before .before .before .args .message) (Lookup.At (c .m .given .0 .0))
+message-is : (c : tie.After-m)
+    → Finds 0 (c .before .before .before .before .before .before .args .messages .now) (c .before .before .before .before .before .before .args .message) (Lookup.At (c .m .given .0 .0))
 message-is c =
     let f = c .before .before in
     let a = f .before .before .before .before .args in
     subst (Finds 0 (a .messages .now) (a .message)) (c .m .given .1) (f .find .ensures)
 
-subscription-is : (c : tie.After-s) → Finds 4 (c .before .before .before .before .before .before .before .before .before .before .before .before .args .subscriptions .now) (c .before .before .before .before .before .before .before .before .before .before .before .before .args .subscription) (Lookup.At (c .s .given .0 .0))
+subscription-is : (c : tie.After-s)
+    → Finds 4 (c .before .before .before .before .before .before .before .before .before .before .before .before .args .subscriptions .now) (c .before .before .before .before .before .before .before .before .before .before .before .before .args .subscription) (Lookup.At (c .s .given .0 .0))
 subscription-is c =
     let f = c .before .before in
     let a = f .before .before .before .before .before .before .before .before .before .before .args in
     subst (Finds 4 (a .subscriptions .now) (a .subscription)) (c .s .given .1) (f .find2 .ensures)
 
 -- no earlier pair has the message
-new : (c : tie.Else1) → any (with-message (c .before .before .before .before .before .before .before .before .before .args .message)) (listed (pairs-in (c .before .before .before .before .before .before .before .before .before .args .earlier .now))) ≡ false
+new : (c : tie.Else1)
+    → any (with-message (c .before .before .before .before .before .before .before .before .before .args .message)) (listed (pairs-in (c .before .before .before .before .before .before .before .before .before .args .earlier .now))) ≡ false
 new c =
     let a = c .before .before .before .before .before .before .before .before .before .args in
     count-none (with-message (a .message)) (listed (pairs-in (a .earlier .now))) (sym (c .before .count .ensures) ∙ c .if1 .left)
@@ -97,8 +100,10 @@ is-match-requires c κs =
     let m = c .before .before .before .before .before .before .before .before .before in
     let s = m .before .before .before .before .before .before in
     let l = c .before .before .before in (
-      valid-text (messages-in (s .args .messages .now)) (numbered (s .args .message)) (placed (s .args .messages .now) (m .m .given .0 .0)) (s .pre .0) (message-is m .1),
-      valid-text (subscriptions-in (s .args .subscriptions .now)) (numbered (s .args .subscription)) (placed (s .args .subscriptions .now) (l .s .given .0 .0)) (s .pre .1) (subscription-is l .1),
+      valid-text (messages-in (s .args .messages .now)) (numbered (s .args .message)) (placed (s .args .messages .now) (m .m .given .0 .0))
+      (s .pre .0) (message-is m .1),
+      valid-text (subscriptions-in (s .args .subscriptions .now)) (numbered (s .args .subscription))
+      (placed (s .args .subscriptions .now) (l .s .given .0 .0)) (s .pre .1) (subscription-is l .1),
     )
 
 returns-4 : tie.Need-returns-4
@@ -111,7 +116,8 @@ returns-4 c =
     sym (unmatched (listed (messages-in (a .messages .now))) (listed (subscriptions-in (a .subscriptions .now))) (listed (pairs-in (a .earlier .now))) (record { message = a .message; subscription = a .subscription }) (placed (a .messages .now) (m .m .given .0 .0)) (message-is m .1) (new e) (placed (a .subscriptions .now) (s .s .given .0 .0)) (subscription-is s .1) (sym (i .is-match .ensures) ∙ not-true _ (c .if2 .taken)))
 
 count-requires-2 : tie.Need-count-requires-2
-count-requires-2 c κs = (inr refl, c .before .before .before .before .before .before .before .before .before .before .before .before .before .before .before .before .before .pre .2)
+count-requires-2 c κs =
+    (inr refl, c .before .before .before .before .before .before .before .before .before .before .before .before .before .before .before .before .before .pre .2)
 
 returns-5 : tie.Need-returns-5
 returns-5 c =
