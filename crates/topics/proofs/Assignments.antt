@@ -15,7 +15,7 @@ use Rattle.headers.specs.Answers.{Answer}
 use Rattle.headers.proofs.Rows.{and-left, and-right, or-false-left, or-false-right, first-some, first-none}
 use Rattle.topics.specs.Topics.{words}
 use Rattle.topics.specs.Lists.{Entry, Pair, is-some, listed, messages-in, subscriptions-in, pairs-in}
-use Rattle.topics.specs.Plans.{Verdict, accepted, refusal, numbered, distinct, texts-formed, is-valid, with-message, with-subscription, how-many, matched, room-of, is-none, pair-answer, is-left-out, left-out-answer, bad-or, checked, plan-of, plan-answer, Suits, Assignment, Acceptable}
+use Rattle.topics.specs.Plans.{Verdict, accepted, refusal, numbered, distinct, texts-formed, is-valid, with-message, with-subscription, how-many, matched, room-of, is-none, pair-answer, is-left-out, left-out-answer, bad-or, checked, pairs-max, plan-of, plan-answer, Suits, Assignment, Acceptable}
 use Rattle.topics.proofs.Matching.{sound, complete}
 use Rattle.topics.proofs.Validity.{all-one, all-to}
 use Rattle.topics.proofs.Checking.{count-none, count-some, good, plan-checked}
@@ -88,7 +88,7 @@ distinct-first (e ∷ es) h =
     let new = not-true (any (λ d. eqb (e .number) (d .number)) es) (and-left (not (any (λ d. eqb (e .number) (d .number)) es)) (distinct es) h) in (
       ap (λ t. cond t (some e) (first-of (numbered (e .number)) es)) (eq-eqb (e .number) (e .number) refl),
       all-both (λ d. eqb (e .number) (d .number) ≡ false) (λ d. first-of (numbered (d .number)) es ≡ some d)
-      (λ d. first-of (numbered (d .number)) (e ∷ es) ≡ some d)
+          (λ d. first-of (numbered (d .number)) (e ∷ es) ≡ some d)
           (λ d p q. ap (λ t. cond t (some e) (first-of (numbered (d .number)) es)) p ∙ q) es (apart (e .number) es new)
           (distinct-first es (and-right (not (any (λ d. eqb (e .number) (d .number)) es)) (distinct es) h)),
     )
@@ -281,9 +281,9 @@ module _ (messages subscriptions plan : List ℕ) where
 
   pub is-acceptable : plan-answer messages subscriptions plan ≡ accepted → Acceptable messages subscriptions plan
   unfolding plan-answer
-  is-acceptable h = by (ltb 64 (length plan / 8)) refl h
+  is-acceptable h = by (ltb pairs-max (length plan / 8)) refl h
     where
-      lists : length plan / 8 ≤ 64 → (a b : Option (List Entry)) (c : Option (List Pair)) → messages-in messages ≡ a
+      lists : length plan / 8 ≤ pairs-max → (a b : Option (List Entry)) (c : Option (List Pair)) → messages-in messages ≡ a
           → subscriptions-in subscriptions ≡ b → pairs-in plan ≡ c → plan-of a b c ≡ accepted → Acceptable messages subscriptions plan
       lists few none b c p q r h = absurd (let z : _≡_ {A = ℕ} 0 1 = cc in omega arith)
       lists few (some ms) none c p q r h = absurd (let z : _≡_ {A = ℕ} 0 1 = cc in omega arith)
@@ -297,8 +297,8 @@ module _ (messages subscriptions plan : List ℕ) where
           sound true true a b h =
               record { few = few; ms = ms; ss = ss; ps = ps; messages-are = p; subscriptions-are = q; pairs-are = r; messages-valid = a; subscriptions-valid = b; assigns = accepted-assigned ms ss (and-left (distinct ss) (texts-formed ss) b) ps h }
 
-      by : (t : Bool) → ltb 64 (length plan / 8) ≡ t
+      by : (t : Bool) → ltb pairs-max (length plan / 8) ≡ t
           → cond t (refusal 101 0) (plan-of (messages-in messages) (subscriptions-in subscriptions) (pairs-in plan)) ≡ accepted
           → Acceptable messages subscriptions plan
       by true e h = absurd (let z : _≡_ {A = ℕ} 0 1 = cc in omega arith)
-      by false e h = lists (ltb-false 64 (length plan / 8) e) (messages-in messages) (subscriptions-in subscriptions) (pairs-in plan) refl refl refl h
+      by false e h = lists (ltb-false pairs-max (length plan / 8) e) (messages-in messages) (subscriptions-in subscriptions) (pairs-in plan) refl refl refl h

@@ -20,7 +20,7 @@ use Rattle.headers.specs.Numbers.{evaluate}
 use Rattle.headers.proofs.Rows.{and-left, and-right, and-no}
 use Rattle.topics.specs.Topics.{words, well-formed, matches, yes-or-no, match-answer, match-says}
 use Rattle.topics.specs.Lists.{Entry, Pair, before, is-some, listed, messages-in, subscriptions-in, pair-front, pair-format, pairs-in}
-use Rattle.topics.specs.Plans.{Verdict, accepted, refusal, numbered, distinct, texts-formed, is-valid, with-message, with-subscription, how-many, pair-answer, is-left-out, left-out-answer, bad-or, checked, plan-of, plan-answer}
+use Rattle.topics.specs.Plans.{Verdict, accepted, refusal, numbered, distinct, texts-formed, is-valid, with-message, with-subscription, how-many, pair-answer, is-left-out, left-out-answer, bad-or, checked, pairs-max, plan-of, plan-answer}
 use Rattle.topics.specs.Places.{pair-says}
 use Rattle.topics.proofs.Lists.{some-before, listed-before, place-step, place-end, records-end, records-step, records-none, records-grow, whole-fits}
 use Rattle.topics.proofs.Formats.{pair-local}
@@ -151,7 +151,7 @@ module _ (ms ss : List Entry) (plan : List ℕ) where
     here-fits h = let long = length-drop at plan in omega (arith, whole-fits pair-format pair-local (drop at plan) (j .whole) (omega arith))
 
     module _ (h : at < length plan) (m s : ℕ) (em : m ≡ evaluate 256 0 (take (at + 4 - at) (drop at plan)))
-            (es : s ≡ evaluate 256 0 (take (at + 8 - (at + 4)) (drop (at + 4) plan))) where
+        (es : s ≡ evaluate 256 0 (take (at + 8 - (at + 4)) (drop (at + 4) plan))) where
       abbrev this : Pair
       this = record { message = m; subscription = s }
 
@@ -253,14 +253,14 @@ module _ (messages subscriptions plan : List ℕ) where
   abbrev read : Verdict
   read = plan-of (messages-in messages) (subscriptions-in subscriptions) (pairs-in plan)
 
-  pub plan-many : 64 < length plan / 8 → plan-answer messages subscriptions plan ≡ refusal 101 0
+  pub plan-many : pairs-max < length plan / 8 → plan-answer messages subscriptions plan ≡ refusal 101 0
   unfolding plan-answer
-  plan-many h = ap (λ t. cond t (refusal 101 0) read) (lt-ltb 64 (length plan / 8) h)
+  plan-many h = ap (λ t. cond t (refusal 101 0) read) (lt-ltb pairs-max (length plan / 8) h)
 
-  module _ (few : length plan / 8 ≤ 64) where
+  module _ (few : length plan / 8 ≤ pairs-max) where
     plan-read : plan-answer messages subscriptions plan ≡ read
     unfolding plan-answer
-    plan-read = ap (λ t. cond t (refusal 101 0) read) (le-ltb 64 (length plan / 8) few)
+    plan-read = ap (λ t. cond t (refusal 101 0) read) (le-ltb pairs-max (length plan / 8) few)
 
     pub plan-pairs : is-some (pairs-in plan) ≡ false → plan-answer messages subscriptions plan ≡ refusal 102 0
     plan-pairs h = plan-read ∙ no-pairs (messages-in messages) (subscriptions-in subscriptions) (pairs-in plan) h

@@ -13,7 +13,7 @@ use Rattle.headers.specs.Answers.{Answer}
 use Rattle.headers.proofs.Rows.{cond-case}
 use Rattle.topics.specs.Topics.{match-says, packed-match, unpacked-match}
 use Rattle.topics.specs.Lists.{Entry, Pair, messages-in, subscriptions-in, pairs-in}
-use Rattle.topics.specs.Plans.{Verdict, accepted, refusal, numbered, is-valid, with-message, with-subscription, how-many, matched, room-of, is-none, pair-answer, is-left-out, left-out-answer, bad-or, checked, plan-of, plan-answer, plan-says, packed-plan, unpacked-plan}
+use Rattle.topics.specs.Plans.{Verdict, accepted, refusal, numbered, is-valid, with-message, with-subscription, how-many, matched, room-of, is-none, pair-answer, is-left-out, left-out-answer, bad-or, checked, pairs-max, plan-of, plan-answer, plan-says, packed-plan, unpacked-plan}
 use Rattle.topics.specs.declared.pattern.Match.{Match}
 use Rattle.topics.specs.declared.plan.PlanAnswer.{PlanAnswer}
 
@@ -72,7 +72,7 @@ read-refuses (some ms) (some ss) (some ps) = cond-case Refuses (is-valid (some m
 pub plan-refuses : (messages subscriptions plan : List ℕ) → Refuses (plan-answer messages subscriptions plan)
 unfolding plan-answer
 plan-refuses messages subscriptions plan =
-    cond-case Refuses (ltb 64 (length plan / 8)) (λ h. omega arith) (λ h. read-refuses (messages-in messages) (subscriptions-in subscriptions) (pairs-in plan))
+    cond-case Refuses (ltb pairs-max (length plan / 8)) (λ h. omega arith) (λ h. read-refuses (messages-in messages) (subscriptions-in subscriptions) (pairs-in plan))
 
 -- what it names fits four octets
 abbrev pub Small : Verdict → Type 0

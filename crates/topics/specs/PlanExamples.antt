@@ -64,7 +64,7 @@ examples =
     row two live (pair 2 8 ∷ pair 1 7 ∷ []) accepted ∷
     row (message 7 "a" ∷ []) (subscription 7 "a" 1 ∷ []) (pair 7 7 ∷ []) accepted ∷
     row (message 4294967295 "a" ∷ message 2147483648 "b" ∷ []) (subscription 4294967294 "*" 4294967295 ∷ [])
-        (pair 2147483648 4294967294 ∷ pair 4294967295 4294967294 ∷ []) accepted ∷
+    (pair 2147483648 4294967294 ∷ pair 4294967295 4294967294 ∷ []) accepted ∷
     row [] live [] accepted ∷
     row [] [] [] accepted ∷
     -- 96: no such message waits

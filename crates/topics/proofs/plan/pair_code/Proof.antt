@@ -101,9 +101,9 @@ is-match-requires c κs =
     let s = m .before .before .before .before .before .before in
     let l = c .before .before .before in (
       valid-text (messages-in (s .args .messages .now)) (numbered (s .args .message)) (placed (s .args .messages .now) (m .m .given .0 .0))
-      (s .pre .0) (message-is m .1),
+          (s .pre .0) (message-is m .1),
       valid-text (subscriptions-in (s .args .subscriptions .now)) (numbered (s .args .subscription))
-      (placed (s .args .subscriptions .now) (l .s .given .0 .0)) (s .pre .1) (subscription-is l .1),
+          (placed (s .args .subscriptions .now) (l .s .given .0 .0)) (s .pre .1) (subscription-is l .1),
     )
 
 returns-4 : tie.Need-returns-4
