@@ -1,6 +1,7 @@
 -- A plan is accepted exactly if it is an assignment. Assumes nothing.
 --     assigned-accepted, accepted-assigned     of the records
 --     acceptable, is-acceptable        of the lists
+--     matching-waits                   what is said twice of it
 use mathlib.Core.Path.{_≡_, refl, sym, _∙_, ap, ap₂, subst}
 use mathlib.Core.Bool.{Bool, true, false, cond, _&&_, _||_, not}
 use mathlib.Core.Option.{Option, none, some}
@@ -107,6 +108,10 @@ module _ (ms ss : List Entry) where
       by none q eo eq h = absurd (let z : _≡_ {A = ℕ} 0 1 = cc in omega arith)
       by (some m) none eo eq h = absurd (let z : _≡_ {A = ℕ} 0 1 = cc in omega arith)
       by (some m) (some s) eo eq h = record { message = m; subscription = s; waiting = eo; live = eq; fits = sound (words (s .text)) (words (m .text)) h }
+
+  -- what is matched waits: of an assignment, no-other follows from matching
+  pub matching-waits : (ps : List Pair) → All (Suits ms ss) ps → All (λ p. any (numbered (p .message)) ms ≡ true) ps
+  matching-waits = all-to (Suits ms ss) (λ p. any (numbered (p .message)) ms ≡ true) (λ p m. found-any (numbered (p .message)) ms (m .message) (m .waiting))
 
   -- each pair is good with the pairs before it
   assigned-pair : (earlier : List Pair) (p : Pair) (rest : List Pair) → Assignment ms ss (earlier ++ (p ∷ rest))
