@@ -88,6 +88,10 @@ int main(int argc, char **argv)
     static const size_t counts[] = {STOMP_PLAN_MAX_PAIRS, 1000, ASKED, 20000, 100000};
     int check = argc > 1 && strcmp(argv[1], "--check") == 0;
     int status = 0;
+    if (stomp_check_plan(NULL, 0, NULL, 0, NULL, 0) != 0) {
+        fprintf(stderr, "plan_time: nothing to hand out is not accepted\n");
+        return 1;
+    }
     printf("check_plan, ms for a call with a plan of %d pairs\n", STOMP_PLAN_MAX_PAIRS);
     printf("%8s", "messages");
     for (int order = 0; order < ORDERS; order++)

@@ -45,7 +45,7 @@ pub record Entry : Type 0 where
   pub text : List ℕ
   pub room : ℕ
 
--- both formats at once: the room stands in w octets, none for a message and four for a subscription
+-- both formats at once: the room has w octets, none of a message and four of a subscription
 abbrev pub text-length : List ℕ → ℕ
 text-length xs = number-at 2 xs 4
 

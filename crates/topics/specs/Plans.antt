@@ -12,7 +12,7 @@ use Rattle.topics.specs.Topics.{words, well-formed, Matches, matches}
 use Rattle.topics.specs.Lists.{Entry, Pair, messages-in, subscriptions-in, pairs-in}
 use Rattle.topics.specs.declared.plan.PlanAnswer.{PlanAnswer}
 
--- accepted; or refused, with the request's number and what it names: a pair from 0, a message by its number, or nothing (0)
+-- What is answered: accepted, or refused with a number and what it names: a pair, from 0, a message by its number, or nothing (0).
 pub data Verdict : Type 0 where
   accepted : Verdict
   refusal : ℕ → ℕ → Verdict
@@ -109,7 +109,7 @@ plan-answer messages subscriptions plan =
 
 -- ## "Accept it exactly if" (proofs/Assignments.antt: plan-answer accepts exactly what is Acceptable)
 
--- the message of a pair, its subscription, and that the pattern of the one matches the destination of the other
+-- the message of a pair, which waits, its subscription, which is live, and that the pattern matches the destination
 pub record Suits (ms ss : List Entry) (p : Pair) : Type 0 where
   pub message : Entry
   pub subscription : Entry

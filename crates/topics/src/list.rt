@@ -27,7 +27,7 @@ pub(crate) const SUBSCRIPTION: usize = 4;
 
 pub(crate) const PAIR: usize = 8;
 
-// A message or a subscription: its number, where its text stands, its room, and where the next record begins.
+// A message or a subscription: its number, where its text is, its room, and where the next record begins.
 pub(crate) struct Record {
     pub number: usize,
     pub from: usize,
@@ -36,7 +36,7 @@ pub(crate) struct Record {
     pub next: usize,
 }
 
-// What stands at a place of a list: a whole record, nothing more, or no record.
+// What is at a place of a list: a whole record, nothing more, or no record.
 pub(crate) enum RecordAt {
     Record(Record),
     End,
@@ -77,7 +77,7 @@ pub(crate) fn value(octets: &[u8]) -> usize
     n
 }
 
-// The record at a place, whose room stands in width octets.
+// The record at a place, whose room has width octets.
 pub(crate) fn record_at(list: &[u8], at: usize, width: usize) -> RecordAt
     requires { ⌜ width ≤ 4 ⌝ }
     ensures { λ r. ⌜ Standing width (now (list .entry)) at r ⌝ }
