@@ -1,8 +1,8 @@
 // Names and patterns of ports, and plans for handing out queued messages.
 pub mod word; // words between points
 pub mod pattern; // whether a pattern matches a name
-pub mod list; // lists of records
-pub mod numbers; // whether a number is twice in a list
+mod list; // lists of records
+mod numbers; // whether a number is twice in a list
 pub mod plan; // whether a plan hands out the waiting messages as it should
 pub mod exports; // the calls for C
 
