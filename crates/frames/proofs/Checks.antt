@@ -1,6 +1,6 @@
 -- The tests of a state pass exactly where it is valid, and so at every state that a run leaves. Assumes nothing.
-use mathlib.Core.Path.{_≡_, refl, sym, _∙_}
-use mathlib.Core.Bool.{Bool, true, false, _&&_, _||_, not}
+use mathlib.Core.Path.{_≡_, refl, sym, _∙_, ap}
+use mathlib.Core.Bool.{Bool, true, false, _&&_, _||_, not, and-assoc}
 use mathlib.Core.List.{List, [], _∷_}
 use Prim.Native.Nat.{ℕ, zero, suc, _+_, _*_, _≤_, _<_}
 use native.Mathlib.Omega.{arith}
@@ -8,12 +8,13 @@ use lib.ListN.{length, take, getD}
 use lib.Dec.{eqb, leb, ltb}
 use borrow.Author.Tests.{leb-true, ltb-true, eqb-true, lt-ltb, le-leb, eq-eqb, not-true}
 use Rattle.headers.specs.Rows.{begins}
-use Rattle.headers.proofs.Rows.{and-left, and-right}
+use Rattle.headers.proofs.Rows.{never as no-test, and-no, and-yes, and-left, and-right}
 use Rattle.frames.specs.Open.{all}
 use Rattle.frames.specs.Parsing.{first}
+use Rattle.headers.specs.Characters.{is-begun}
 use Rattle.frames.specs.declared.state.Scan.{Scan}
-use Rattle.frames.specs.Scanning.{most-of, word-of, number-of, scan-step, scan, nothing-read, len-max, line-open, outside, Reached, Valid}
-use Rattle.frames.specs.Validity.{leasts, is-reached, is-valid}
+use Rattle.frames.specs.Scanning.{style-of, most-of, word-of, number-of, scan-step, scan, nothing-read, len-max, line-open, outside, Reached, Valid}
+use Rattle.frames.specs.Validity.{leasts, is-reached, is-valid, is-clean}
 use Rattle.frames.proofs.Words.{at, short, small}
 use Rattle.frames.proofs.Validity.{valid-step, valid-nothing}
 
@@ -34,6 +35,9 @@ is-eq m n = record { pass = eqb-true m n; sure = eq-eqb m n }
 
 is-off : (t : Bool) → Decides (not t) (t ≡ false)
 is-off t = record { pass = not-true t; sure = λ e. rw e }
+
+is-on : (t : Bool) → Decides t (t ≡ true)
+is-on t = record { pass = λ e. e; sure = λ e. e }
 
 both : {b d : Bool} {A B : Type 0} → Decides b A → Decides d B → Decides (b && d) (A × B)
 both {b} {d} p q =
@@ -131,11 +135,15 @@ valid-decides st =
     let clean =
     both
     (both
+    (both
+    (both
     (both (both (given _ (is-lt (st .phase) 4) (is-eq (st .lines) 0)) (given _ (is-lt (st .phase) 16) (is-eq (st .code) 0))) (given _ (is-lt 6 (st .phase)) (is-eq (st .matched) 0)))
     (unless (st .sized) (otherwise _ (phase 9) (is-eq (st .size) 0))))
-    (given _ (phase 12) (is-off (st .sized))) in
+    (given _ (phase 12) (is-off (st .sized))))
+    (otherwise _ (phase 6) (otherwise _ (phase 8) (is-eq (st .rest) 0))))
+    (given _ (is-on (eqb (st .phase) 6 || eqb (st .phase) 8)) (is-on (is-begun (style-of (st .command)) (st .rest)))) in
     turned (both (both small-numbers so-far) clean)
-    (λ ((((((k, f), s), z), p), (((w, r), b), c)), ((((n, o), m), u), d)).
+    (λ ((((((k, f), s), z), p), (((w, r), b), c)), ((((((n, o), m), u), d), q), w′)).
     record {
       known = k;
       few = f;
@@ -151,18 +159,60 @@ valid-decides st =
       clean-match = m;
       clean-size = u;
       unsized = d;
+      clean-rest = q;
+      under-way = w′;
     })
     (λ v. (
       (
         ((((v .known, v .few), v .short), v .small), v .place),
         (((v .fresh-word, v .word-so-far), v .body-so-far), v .counted-so-far),
       ),
-      ((((v .no-lines, v .clean-code), v .clean-match), v .clean-size), v .unsized),
+      ((((((v .no-lines, v .clean-code), v .clean-match), v .clean-size), v .unsized), v .clean-rest), v .under-way),
     ))
 
 -- the tests' answer, as the contract has it
 pub valid-tested : (st : Scan) (r : Bool) → r ≡ is-valid st → (r ≡ true → Valid st) × (Valid st → r ≡ true)
 valid-tested st r e = rw e (valid-decides st .pass, valid-decides st .sure)
+
+-- ---- the tests that the code makes
+
+-- how far a character is read, outside one and inside one
+module _ (st : Scan) where
+  abbrev rest-clean : Bool
+  rest-clean =
+      (eqb (st .phase) 6 || (eqb (st .phase) 8 || eqb (st .rest) 0))
+      && (not (eqb (st .phase) 6 || eqb (st .phase) 8) || is-begun (style-of (st .command)) (st .rest))
+
+  pub rest-outside : not (eqb (st .phase) 6) && not (eqb (st .phase) 8) ≡ true → eqb (st .rest) 0 ≡ rest-clean
+  rest-outside h = by (eqb (st .phase) 6) (eqb (st .phase) 8) h
+    where
+      by : (a b : Bool) → not a && not b ≡ true → eqb (st .rest) 0 ≡ (a || (b || eqb (st .rest) 0)) && (not (a || b) || is-begun (style-of (st .command)) (st .rest))
+      by true b e = no-test e
+      by false true e = no-test e
+      by false false e = sym (and-yes (eqb (st .rest) 0))
+
+  pub rest-inside : not (eqb (st .phase) 6) && not (eqb (st .phase) 8) ≡ false → rest-clean ≡ is-begun (style-of (st .command)) (st .rest)
+  rest-inside h = by (eqb (st .phase) 6) (eqb (st .phase) 8) h
+    where
+      by : (a b : Bool) → not a && not b ≡ false → (a || (b || eqb (st .rest) 0)) && (not (a || b) || is-begun (style-of (st .command)) (st .rest)) ≡ is-begun (style-of (st .command)) (st .rest)
+      by true b e = refl
+      by false true e = refl
+      by false false e = no-test (sym e)
+
+  abbrev others : Bool
+  others = (st .sized || (eqb (st .phase) 9 || eqb (st .size) 0)) && (not (eqb (st .phase) 12) || not (st .sized))
+
+  clean-is : not (ltb (st .phase) 4) || eqb (st .lines) 0 ≡ true → not (ltb (st .phase) 16) || eqb (st .code) 0 ≡ true → not (ltb 6 (st .phase)) || eqb (st .matched) 0 ≡ true
+      → is-clean st ≡ others && rest-clean
+  clean-is a b c = rw (a, b, c) (and-assoc ((st .sized || (eqb (st .phase) 9 || eqb (st .size) 0)) && (not (eqb (st .phase) 12) || not (st .sized))) (eqb (st .phase) 6 || (eqb (st .phase) 8 || eqb (st .rest) 0)) (not (eqb (st .phase) 6 || eqb (st .phase) 8) || is-begun (style-of (st .command)) (st .rest)))
+
+  pub clean-no : not (ltb (st .phase) 4) || eqb (st .lines) 0 ≡ true → not (ltb (st .phase) 16) || eqb (st .code) 0 ≡ true → not (ltb 6 (st .phase)) || eqb (st .matched) 0 ≡ true
+      → rest-clean ≡ false → is-clean st ≡ false
+  clean-no a b c h = clean-is a b c ∙ ap (others &&_) h ∙ and-no others
+
+  pub clean-yes : not (ltb (st .phase) 4) || eqb (st .lines) 0 ≡ true → not (ltb (st .phase) 16) || eqb (st .code) 0 ≡ true → not (ltb 6 (st .phase)) || eqb (st .matched) 0 ≡ true
+      → rest-clean ≡ true → is-clean st ≡ others
+  clean-yes a b c h = clean-is a b c ∙ ap (others &&_) h ∙ and-yes others
 
 -- ---- every state that a run leaves passes
 

@@ -14,7 +14,7 @@ use Rattle.frames.specs.Grammar.{Version, Command, CONNECT, CONNECTED, w
 use Rattle.frames.specs.Replies.{Invalid}
 use Rattle.frames.specs.Parsing.{parsed}
 use Rattle.frames.specs.Open.{Open, start, heart-beat-13, command, command-13, begin, name, value, line-13, blank-13, body, so-far, At}
-use Rattle.frames.specs.Refusals.{Reason, no-command, no-10, wrong-escape, nameless, second-colon, no-colon, long-line, many-lines, bad-length, past-body, fits, numbered}
+use Rattle.frames.specs.Refusals.{Reason, no-command, no-10, not-utf8, wrong-escape, nameless, second-colon, no-colon, long-line, many-lines, bad-length, past-body, fits, numbered}
 use Rattle.frames.proofs.Commands.{each-test, each-same}
 use Rattle.frames.proofs.Table.{refused-at, first-reason}
 
@@ -66,6 +66,7 @@ module _ (ver : Version) where
   only-second f second-colon t e = t
   only-second f no-command t e = absurd (omega arith)
   only-second f no-10 t e = absurd (omega arith)
+  only-second f not-utf8 t e = absurd (omega arith)
   only-second f wrong-escape t e = absurd (omega arith)
   only-second f nameless t e = absurd (omega arith)
   only-second f no-colon t e = absurd (omega arith)

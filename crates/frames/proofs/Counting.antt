@@ -8,17 +8,18 @@ use native.Mathlib.Omega.{arith}
 use native.Mathlib.Decide.{decLt}
 use lib.ListN.{length, take, getD}
 use lib.Dec.{eqb, leb, ltb}
-use Rattle.headers.specs.Text.{Part, fresh, back, owes, Into, into, bad, stop, reads}
+use Rattle.headers.specs.Text.{Part, fresh, owes, Into, into, bad, stop, reads}
 use Rattle.headers.specs.declared.text.Field.the-variants.{Name as in-name, Value as in-value}
 use Rattle.headers.proofs.Rows.{cond-case, and-left}
 use Rattle.frames.specs.declared.state.Scan.{Scan}
 use Rattle.headers.specs.Rows.{begins, same}
+use Rattle.headers.specs.Characters.{text-part}
 use Rattle.headers.specs.Lines.{content-length}
 use Rattle.frames.specs.Open.{all}
 use Rattle.frames.specs.Parsing.{first}
 use Rattle.frames.specs.Grammar.{Command}
 use Rattle.frames.specs.Refusals.{numbered, second-colon, no-colon}
-use Rattle.frames.specs.Scanning.{number-of, word-of, advance, style-of, most-of, next-command, whole-command, invalid, on-10, on-word, on-start, on-name-by, on-name, on-begin, line-read, on-value-by, on-value, grows, on-length-by, on-length, on-body, on-counted, scan-step, scan}
+use Rattle.frames.specs.Scanning.{number-of, word-of, advance, style-of, most-of, next-command, whole-command, invalid, on-10, on-word, on-start, on-name-by, on-name, on-more, on-begin, line-read, on-value-by, on-value, grows, on-length-by, on-length, on-body, on-counted, scan-step, scan}
 use borrow.Author.Tests.{ltb-true}
 use Rattle.frames.proofs.Commands.{number-small}
 use Rattle.frames.proofs.Bounds.{stays}
@@ -116,7 +117,12 @@ module _ (st : Scan) where
     begin-counts =
         cond-case (λ z. Counted st z 1) (eqb x 10) (λ t. goes _ refl (λ (a, b). (omega arith, omega arith)))
         (λ t. cond-case (λ z. Counted st z 1) (eqb x 13) (λ u. goes _ refl (λ (a, b). (omega arith, omega arith)))
-        (λ u. cond-case (λ z. Counted st z 1) (eqb x 58) (λ q. ends 3) (λ q. cond-case (λ z. Counted st z 1) (ltb (st .lines) 32) (λ w. name-counts fresh) (λ w. ends 5))))
+        (λ u. cond-case (λ z. Counted st z 1) (eqb x 58) (λ q. ends 3) (λ q. cond-case (λ z. Counted st z 1) (ltb (st .lines) 32) (λ w. name-counts fresh) (λ w. more (reads (style-of (st .command)) in-name fresh x)))))
+      where
+        more : (i : Into) → Counted st (on-more st i) 1
+        more (into q) = ends _
+        more (bad k) = ends _
+        more stop = ends _
 
     body-counts : Counted st (on-body st x) 1
     unfolding on-body
@@ -131,8 +137,8 @@ module _ (st : Scan) where
     unfolding scan-step
     step-counts =
         at-phase 7 (value-counts fresh) (λ a. at-phase 5 (name-counts fresh) (λ b. at-phase 4 begin-counts (λ c. at-phase 12 body-counts
-        (λ d. at-phase 13 counted-counts (λ e. at-phase 2 word-counts (λ f. at-phase 9 length-counts (λ g. at-phase 8 (value-counts back)
-        (λ h. at-phase 6 (name-counts back) (λ i. at-phase 10 (on-10-counts _ refl (λ (a, b). (omega arith, omega arith))) (λ j. at-phase 11 (on-10-counts _ refl (λ (a, b). (omega arith, omega arith)))
+        (λ d. at-phase 13 counted-counts (λ e. at-phase 2 word-counts (λ f. at-phase 9 length-counts (λ g. at-phase 8 (value-counts (text-part (st .rest)))
+        (λ h. at-phase 6 (name-counts (text-part (st .rest))) (λ i. at-phase 10 (on-10-counts _ refl (λ (a, b). (omega arith, omega arith))) (λ j. at-phase 11 (on-10-counts _ refl (λ (a, b). (omega arith, omega arith)))
         (λ k. at-phase 0 start-counts (λ l. at-phase 3 (on-10-counts _ refl (λ (a, b). (omega arith, omega arith))) (λ m. at-phase 1 (on-10-counts _ refl (λ (a, b). (omega arith, omega arith)))
         (λ n. record {
           onward = omega arith;

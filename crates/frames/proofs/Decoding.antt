@@ -7,7 +7,7 @@
 --     not-complete, few-lines                      what decode learns from parse
 --     decodes-none, Settled, settled               what decode replies, and what it leaves in the block
 use mathlib.Core.Path.{_≡_, refl, sym, _∙_, ap, ap₂, subst}
-use mathlib.Core.Bool.{Bool, true, false, _||_, not}
+use mathlib.Core.Bool.{Bool, true, false, _&&_, _||_, not}
 use mathlib.Core.Logic.{_⊎_, inl, inr, ⊎-elim}
 use mathlib.Core.Option.{Option, none, some}
 use mathlib.Core.List.{List, [], _∷_, _++_}
@@ -26,7 +26,7 @@ use Rattle.headers.specs.Lines.{decoded-entry}
 use Rattle.headers.specs.Answers.{Answer, accepted, refused, left-in, written-record, decoded-answer, record-says}
 use Rattle.headers.specs.declared.record.RecordWritten.{RecordWritten}
 use Rattle.headers.specs.declared.text.Style.{Style}
-use Rattle.headers.proofs.Rows.{or-false-left, or-false-right}
+use Rattle.headers.proofs.Rows.{and-left, and-right, and-no, and-yes, or-false-left, or-false-right}
 use Rattle.headers.proofs.Put.{put-length, put-more, put-kept}
 use Rattle.headers.proofs.Settling.{refusal, acceptance, decoded-yes}
 use Rattle.headers.proofs.Answers.{record-once}
@@ -60,7 +60,7 @@ on-drop xs i k r f g = by (leb (i + k) (length xs)) refl ∙ sym (drop-drop k i 
 -- the first 10, 13 or colon of what stands from i on
 pub stop-place : (colon : ℕ) (xs : List ℕ) (i k : ℕ) → i ≤ length xs → k ≡ stop-span colon (take (length xs - i) (drop i xs))
     → (i + k ≡ i + stop-span colon (drop i xs)) × (i + k ≤ length xs)
-stop-place colon xs i k h e = span-rest (plain-in (record { colon = colon; back = 10 })) xs i h e
+stop-place colon xs i k h e = span-rest (plain-in (record { cr = 13; colon = colon; back = 10; top = 255 })) xs i h e
 
 -- the stretch of a text of n octets at the front of a row
 text-stretch : (xs : List ℕ) (n k : ℕ) → k ≤ n → n ≤ length xs → every not-back (take k xs) ≡ true → (k ≡ n) ⊎ (getD xs k 0 ≡ 92) → Stretch (take n xs) k
@@ -80,27 +80,28 @@ text-stretch xs n k kn nl clear ends =
 -- the octets before a backslash too
 module _ (colon : ℕ) where
   abbrev pub strict : ℕ → Bool
-  strict x = plain-in (record { colon = colon; back = 92 }) x
+  strict x = plain-in (record { cr = 13; colon = colon; back = 92; top = 255 }) x
 
   abbrev pub loose : ℕ → Bool
-  loose x = plain-in (record { colon = colon; back = 10 }) x
+  loose x = plain-in (record { cr = 13; colon = colon; back = 10; top = 255 }) x
 
   strict-loose : (x : ℕ) → strict x ≡ true → loose x ≡ true
   strict-loose x h =
-      let others = or-false-left (eqb x 10 || eqb x 13 || eqb x colon) (eqb x 92) (not-true _ h) in
+      let others = or-false-left (eqb x 10 || eqb x 13 || eqb x colon) (eqb x 92) (not-true _ (and-left _ (leb x 255) h)) in
       let ends = or-false-left (eqb x 10 || eqb x 13) (eqb x colon) others in
-      ap not (ap (_|| eqb x 10) others ∙ or-false-left (eqb x 10) (eqb x 13) ends)
+      rw (ap (_|| eqb x 10) others ∙ or-false-left (eqb x 10) (eqb x 13) ends, and-right (not (eqb x 10 || eqb x 13 || eqb x colon || eqb x 92)) (leb x 255) h) refl
 
   strict-clear : (x : ℕ) → strict x ≡ true → not-back x ≡ true
-  strict-clear x h = rw (or-false-right (eqb x 10 || eqb x 13 || eqb x colon) (eqb x 92) (not-true _ h)) refl
+  strict-clear x h = rw (or-false-right (eqb x 10 || eqb x 13 || eqb x colon) (eqb x 92) (not-true _ (and-left _ (leb x 255) h))) refl
 
   -- an octet that ends the search and is no backslash ends the text
   loose-end : (x : ℕ) → strict x ≡ false → (x ≡ 92 → ⊥) → loose x ≡ false
-  loose-end x h n = by (eqb x 10 || eqb x 13 || eqb x colon) (not-false _ h)
+  loose-end x h n = by (eqb x 10 || eqb x 13 || eqb x colon) (leb x 255) h
     where
-      by : (t : Bool) → t || eqb x 92 ≡ true → not (t || eqb x 10) ≡ false
-      by true e = refl
-      by false e = absurd (n (eqb-true x 92 e))
+      by : (t u : Bool) → not (t || eqb x 92) && u ≡ false → not (t || eqb x 10) && u ≡ false
+      by true u e = refl
+      by false false e = and-no (not (false || eqb x 10))
+      by false true e = absurd (n (eqb-true x 92 (not-false _ (sym (and-yes (not (false || eqb x 92))) ∙ e))))
 
   module _ (xs : List ℕ) (i k : ℕ) (h : i ≤ length xs) (e : k ≡ span strict (take (length xs - i) (drop i xs))) where
     found : (i + k ≡ i + span strict (drop i xs)) × (i + k ≤ length xs)

@@ -6,6 +6,7 @@ use mathlib.Core.Option.{Option, none, some}
 use mathlib.Core.List.{List, [], _∷_, append-nil}
 use Prim.Native.Nat.{ℕ}
 use native.Mathlib.Omega.{arith}
+use Rattle.headers.specs.Text.{reads-whole}
 use Rattle.headers.specs.Rows.{every, is-octet, All}
 use Rattle.headers.specs.Numbers.{evaluate, numeral, size-within, shortest}
 use Rattle.headers.specs.Escapes.{decode, encode}
@@ -62,7 +63,7 @@ all-hold end = tt
 all-hold (h also hs) = (h, all-hold hs)
 
 pub examples-hold : All Holds examples
-unfolding examples evaluate numeral size-within shortest decode encode at-record entries-within entries spans find-answer parsed at-word at-start at-name at-begin at-value at-body decode-answer encode-answer encode-image
+unfolding reads-whole examples evaluate numeral size-within shortest decode encode at-record entries-within entries spans find-answer parsed at-word at-start at-name at-begin at-value at-body decode-answer encode-answer encode-image
 examples-hold =
     all-hold
     (holds refl refl tt tt tt
@@ -89,6 +90,22 @@ examples-hold =
     also holds refl refl tt tt tt
     also holds refl refl tt tt (_, _, refl, refl)
     also holds refl refl tt tt (_, _, refl, refl)
+    also holds refl refl tt tt tt
+    also holds refl refl tt tt tt
+    also holds refl refl tt tt tt
+    also holds refl refl tt tt (_, _, refl, refl)
+    also holds refl refl tt tt (_, _, refl, refl)
+    also holds refl refl tt tt (_, _, refl, refl)
+    also holds refl refl tt tt tt
+    also holds refl refl tt tt tt
+    also holds refl refl tt tt tt
+    also holds refl refl tt tt tt
+    also holds refl refl tt tt tt
+    also holds refl refl tt tt tt
+    also holds refl refl tt tt tt
+    also holds refl refl tt tt tt
+    also holds refl refl tt tt tt
+    also holds refl refl tt tt tt
     also holds refl refl tt tt tt
     also holds refl refl tt tt tt
     also holds refl refl tt tt tt

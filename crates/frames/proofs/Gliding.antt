@@ -1,28 +1,31 @@
 -- Plain stretches at a go: the states that pass octets unchanged but for their counts.
 -- Assumes nothing.
-use mathlib.Core.Path.{_≡_, refl, sym, _∙_, ap, subst}
+use mathlib.Core.Path.{_≡_, refl, sym, _∙_, ap, ap₂, subst}
 use mathlib.Core.Bool.{Bool, true, false, cond, _&&_, _||_, not, and-comm}
 use mathlib.Core.List.{List, [], _∷_, _++_}
 use Prim.Native.Nat.{ℕ, _+_, _-_, _≤_, _<_}
-use native.Mathlib.Numerals.{add-one, one-add}
+use native.Mathlib.Numerals.{one-add}
 use native.Mathlib.Nat.{add-zero, add-assoc}
 use native.Mathlib.Omega.{arith}
-use lib.Dec.{eqb}
-use lib.ListN.{length, take, drop, getD, take-append-drop}
-use lib.Seq.{drop-cons, drop-append-le, drop-drop}
-use borrow.Author.Tests.{le-leb, lt-ltb, not-true, eqb-true}
-use Rattle.headers.specs.Text.{divides, fresh, into, reads, plain, stops, opens, is-letter}
+use lib.Dec.{eqb, leb}
+use lib.ListN.{length, getD, take, drop, take-append-drop, length-take, length-drop}
+use lib.Seq.{drop-append-le, drop-drop, take-take, length-take-le}
+use borrow.Author.Tests.{le-leb, leb-true, lt-ltb, not-true, eqb-true}
+use Rattle.headers.specs.Rows.{every}
+use Rattle.headers.specs.Text.{divides, ascii, Part, fresh, back, led, tails, owes, into, reads, plain, stops, opens, is-letter, itself, escape, Text, none, more}
+use Rattle.headers.specs.Characters.{part-number, text-part}
 use Rattle.headers.specs.Lines.{line-max}
 use Rattle.headers.specs.declared.text.Style.{Style}
 use Rattle.headers.specs.declared.text.Field.{Field}
 use Rattle.headers.specs.declared.text.Field.the-variants.{Name as in-name, Value as in-value}
-use Rattle.headers.proofs.Stretches.{part-long, span-le}
-use Rattle.headers.proofs.Rows.{cond-case, and-right, and-no, and-yes, or-false-left, or-false-right}
+use Rattle.headers.proofs.Stretches.{part-long, span-le, span-clear}
+use Rattle.headers.proofs.Reading.{Feeds, text-feeds}
+use Rattle.headers.proofs.Characters.{Goes, goes-text, text-then}
+use Rattle.headers.proofs.Rows.{cond-case, and-left, and-right, and-no, and-yes, or-false-left, or-false-right}
 use Rattle.frames.specs.declared.state.Scan.{Scan}
 use Rattle.headers.specs.declared.plain.Stops.{Stops}
 use Rattle.headers.specs.Stretches.{span, plain-in}
-use Rattle.frames.specs.Scanning.{style-of, most-of, in-line, on-value, on-name, on-body, on-counted, scan-step, scan, len-max, Valid, text-stops, not-zero, skip, Ahead}
-use Rattle.frames.proofs.Steps.{read-open, is-lettered}
+use Rattle.frames.specs.Scanning.{style-of, most-of, value-phase, on-value-by, on-value, on-name, on-body, on-counted, scan-step, scan, len-max, Valid, text-stops, not-zero, skip, Ahead}
 use Rattle.frames.proofs.Validity.{most-small}
 
 -- ---- Numbers of a state fit
@@ -78,14 +81,21 @@ flagged true k x h = and-yes (eqb x k) ∙ h
 flagged false k x h = and-no (eqb x k)
 
 -- an octet that is itself in header text
-pub reads-plain : (s : Style) (f : Field) (x : ℕ) → plain-in (text-stops s f) x ≡ true → reads s f fresh x ≡ into fresh
-reads-plain s f x k =
-    let h = not-true _ k in
+plain-octet : (s : Style) (f : Field) (x : ℕ) → plain-in (text-stops s f) x ≡ true → (plain s f x ≡ true) × (ascii x ≡ true)
+plain-octet s f x k =
+    let h = not-true _ (and-left _ (leb x 127) k) in
     let h₁ = or-false-left (eqb x 10 || eqb x 13 || eqb x (cond (divides s f) 58 10)) (eqb x (cond (s .escapes) 92 10)) h in
     let h₂ = or-false-left (eqb x 10 || eqb x 13) (eqb x (cond (divides s f) 58 10)) h₁ in
     let c = flagged (divides s f) 58 x (or-false-right (eqb x 10 || eqb x 13) (eqb x (cond (divides s f) 58 10)) h₁) in
-    let b = and-comm (s .escapes) (eqb x 92) ∙ flagged (s .escapes) 92 x (or-false-right (eqb x 10 || eqb x 13 || eqb x (cond (divides s f) 58 10)) (eqb x (cond (s .escapes) 92 10)) h) in
-    simp (or-false-left (eqb x 10) (eqb x 13) h₂, or-false-right (eqb x 10) (eqb x 13) h₂, c, b)
+    let b = and-comm (s .escapes) (eqb x 92) ∙ flagged (s .escapes) 92 x (or-false-right (eqb x 10 || eqb x 13 || eqb x (cond (divides s f) 58 10)) (eqb x (cond (s .escapes) 92 10)) h) in (
+      simp (or-false-left (eqb x 10) (eqb x 13) h₂, or-false-right (eqb x 10) (eqb x 13) h₂, c, b),
+      lt-ltb x 128 (omega (arith, leb-true x 127 (and-right (not (eqb x 10 || eqb x 13 || eqb x (cond (divides s f) 58 10) || eqb x (cond (s .escapes) 92 10))) (leb x 127) k))),
+    )
+
+pub reads-plain : (s : Style) (f : Field) (x : ℕ) → plain-in (text-stops s f) x ≡ true → reads s f fresh x ≡ into fresh
+reads-plain s f x k =
+    let (p, a) = plain-octet s f x k in
+    rw (not-true (stops s f x) (and-left (not (stops s f x)) (not (opens s x)) p), not-true (opens s x) (and-right (not (stops s f x)) (not (opens s x)) p), a)
 
 span-any : (xs : List ℕ) → span (λ x. true) xs ≡ length xs
 unfolding span
@@ -108,6 +118,8 @@ module _ (st : Scan) (v : Valid st) where
         counted-so-far = counted;
         clean-code = v .clean-code;
         clean-match = v .clean-match;
+        clean-rest = v .clean-rest;
+        under-way = v .under-way;
         clean-size = v .clean-size;
         no-lines = v .no-lines;
         unsized = v .unsized;
@@ -119,7 +131,7 @@ module _ (st : Scan) (v : Valid st) where
   glides-value same e =
       record {
         passes = λ k x h t.
-            simp (e, reads-plain (style-of (st .command)) in-value x (rw same at t), le-leb (st .len + (k + 1)) line-max (omega arith), v .clean-match (omega arith), v .clean-code (omega arith), add-assoc);
+            simp (e, reads-plain (style-of (st .command)) in-value x (rw same at t), le-leb (st .len + (k + 1)) line-max (omega arith), v .clean-match (omega arith), v .clean-rest (λ q. omega arith) (λ q. omega arith), v .clean-code (omega arith), add-assoc);
         stays = λ k h. valid-on k (omega arith) (rw e h) (λ e′. absurd (omega arith)) (λ e′. absurd (omega arith));
       }
 
@@ -129,7 +141,7 @@ module _ (st : Scan) (v : Valid st) where
   glides-name same ends e m =
       record {
         passes = λ k x h t.
-            simp (e, m, reads-plain (style-of (st .command)) in-name x (rw (ends, same) at t), le-leb (st .len + (k + 2)) line-max (omega arith), v .clean-code (omega arith), add-assoc);
+            simp (e, m, reads-plain (style-of (st .command)) in-name x (rw (ends, same) at t), le-leb (st .len + (k + 2)) line-max (omega arith), v .clean-rest (λ q. omega arith) (λ q. omega arith), v .clean-code (omega arith), add-assoc);
         stays = λ k h. valid-on k (omega arith) (rw e h) (λ e′. absurd (omega arith)) (λ e′. absurd (omega arith));
       }
 
@@ -144,6 +156,7 @@ module _ (st : Scan) (v : Valid st) where
               not-true (eqb x 0) t,
               lt-ltb (st .len + k) (most-of (st .command)) h,
               v .clean-match (omega arith),
+              v .clean-rest (λ q. omega arith) (λ q. omega arith),
               v .clean-code (omega arith),
               v .clean-size (v .unsized e) (λ e′. omega arith),
               add-assoc,
@@ -156,7 +169,7 @@ module _ (st : Scan) (v : Valid st) where
   unfolding scan-step on-counted
   glides-counted e =
       record {
-        passes = λ k x h t. simp (e, lt-ltb (st .len + k) (st .size) h, v .clean-match (omega arith), v .clean-code (omega arith), add-assoc);
+        passes = λ k x h t. simp (e, lt-ltb (st .len + k) (st .size) h, v .clean-match (omega arith), v .clean-rest (λ q. omega arith) (λ q. omega arith), v .clean-code (omega arith), add-assoc);
         stays = λ k h. valid-on k (omega arith) (rw e (omega arith)) (λ e′. absurd (omega arith)) (λ e′. h);
       }
 
@@ -166,64 +179,92 @@ module _ (st : Scan) (v : Valid st) where
       ahead-by (λ x. true) (st .size) st (glides-counted ph) l i e (e - i) ie el fits
       (sym (span-any (take (e - i) (drop i l)) ∙ part-long l i e ie el))
 
-  -- the backslash of an escape in a value, and the letter after it
-  opened : {y : Style} (x : ℕ) → y ≡ style-of (st .command) → st .phase ≡ 7 → st .len + 2 ≤ 512 → opens y x ≡ true → scan-step st x ≡ in-line st 8 0 (st .size) (st .len + 1)
-  unfolding scan-step on-value
-  opened {y} x same e h o =
-      let n : x ≡ 92 = eqb-true x 92 (and-right (y .escapes) (eqb x 92) o) in
-      let q : stops y in-value x ≡ false = rw n refl in
-      simp (e, read-open in-value x same refl q refl o, le-leb (st .len + 2) line-max (omega arith), add-assoc)
+-- ---- Text of a value at a go: each octet leads on, inside its characters too
 
-  lettered : {y : Style} (x : ℕ) → y ≡ style-of (st .command) → st .phase ≡ 7 → st .len + 2 ≤ 512 → is-letter y x ≡ true → scan-step (in-line st 8 0 (st .size) (st .len + 1)) x ≡ skip 2 st
-  unfolding scan-step on-value
-  lettered x same e h t =
-      simp (e, is-lettered x same refl ∙ t, le-leb (st .len + 2) line-max (omega arith), v .clean-match (omega arith), v .clean-code (omega arith), add-assoc)
+-- the state k octets on, in a character that is read as far as p
+abbrev value-at : Scan → ℕ → Part → Scan
+value-at st k p =
+    record { phase = value-phase p; command = st .command; lines = st .lines; matched = st .matched; sized = st .sized; size = st .size; len = st .len + k; at = st .at + k; code = st .code; rest = part-number p }
 
-  ahead-escape : {y : Style} (l : List ℕ) (i : ℕ) → y ≡ style-of (st .command) → st .phase ≡ 7 → st .len + 2 ≤ 512 → i + 2 ≤ length l
-      → opens y (getD l i 0) ≡ true → is-letter y (getD l (i + 1) 0) ≡ true → Ahead l i st 2
-  ahead-escape l i same e h el o t =
-      let next : (z : Scan) (n : ℕ) → n < length l → scan z (drop n l) ≡ scan (scan-step z (getD l n 0)) (drop (n + 1) l) = λ z n k. rw (add-one, drop-cons l n 0 k) refl in
+module _ (st : Scan) (v : Valid st) (e : st .phase ≡ 7) where
+  leads : (k : ℕ) (p q : Part) (x : ℕ) → st .len + k + 1 + owes q ≤ 512 → on-value-by (value-at st k p) x (into q) ≡ value-at st (k + 1) q
+  leads k p q x fits = simp (le-leb (st .len + (k + (1 + owes q))) line-max (omega arith), v .clean-match (omega arith), v .clean-code (omega arith), add-assoc)
+
+  -- one octet
+  value-on : (k : ℕ) (p q : Part) (x : ℕ) → text-part (part-number p) ≡ p → reads (style-of (st .command)) in-value p x ≡ into q → st .len + k + 1 + owes q ≤ 512
+      → scan-step (value-at st k p) x ≡ value-at st (k + 1) q
+  unfolding scan-step on-value
+  value-on k fresh q x same h fits = ap (on-value-by (value-at st k fresh) x) h ∙ leads k fresh q x fits
+  value-on k back q x same h fits = ap (on-value-by (value-at st k back) x) h ∙ leads k back q x fits
+  value-on k (led y) q x same h fits =
+      ap (λ z. on-value-by (value-at st k (led y)) x (reads (style-of (st .command)) in-value z x)) same ∙ ap (on-value-by (value-at st k (led y)) x) h ∙ leads k (led y) q x fits
+  value-on k (tails j) q x same h fits =
+      ap (λ z. on-value-by (value-at st k (tails j)) x (reads (style-of (st .command)) in-value z x)) same ∙ ap (on-value-by (value-at st k (tails j)) x) h ∙ leads k (tails j) q x fits
+
+  -- a row of them that ends a character
+  value-through : (k : ℕ) (p : Part) (xs ys : List ℕ) → text-part (part-number p) ≡ p → Feeds (style-of (st .command)) in-value p xs fresh → st .len + k + length xs ≤ 512
+      → scan (value-at st k p) (xs ++ ys) ≡ scan (value-at st (k + length xs) fresh) ys
+  value-through k p [] ys same fed fits = ap (λ q. scan (value-at st k q) ys) fed ∙ ap (λ n. scan (value-at st n fresh) ys) (sym (add-zero k))
+  value-through k p (x ∷ xs) ys same (q, h, owed, fed) fits =
+      let next : text-part (part-number q) ≡ q = (subst Goes (ap (λ z. reads (style-of (st .command)) in-value z x) same ∙ h) (goes-text (style-of (st .command)) in-value (part-number p) x)) .1 in
+      ap (λ z. scan z (xs ++ ys)) (value-on k p q x same h (omega (arith, owed)))
+      ∙ value-through (k + 1) q xs ys next fed (omega arith)
+      ∙ ap (λ n. scan (value-at st n fresh) ys) (add-assoc k 1 (length xs) ∙ ap (k +_) (one-add (length xs)))
+
+  at-last : (k : ℕ) → value-at st k fresh ≡ skip k st
+  at-last k = simp (e, v .clean-rest (λ q. omega arith) (λ q. omega arith))
+
+  at-first : value-at st 0 fresh ≡ st
+  at-first = at-last 0 ∙ skip-zero st
+
+  pub ahead-text : {y : Style} → y ≡ style-of (st .command) → (l : List ℕ) (i k : ℕ) → i + k ≤ length l → st .len + k ≤ 512 → Text y in-value (take k (drop i l)) → Ahead l i st k
+  ahead-text same l i k within fits t =
+      let xs : List ℕ = take k (drop i l) in
+      let long : length xs ≡ k = length-take-le k (drop i l) (omega (arith, length-drop i l)) in
+      let fed = text-feeds (style-of (st .command)) in-value (subst (λ s. Text s in-value xs) same t) in
       record {
-        within = el;
-        kept = valid-on 2 (omega arith) (rw e h) (λ e′. absurd (omega arith)) (λ e′. absurd (omega arith));
+        within = within;
+        kept = valid-on st v k (omega arith) (rw e (omega arith)) (λ e′. absurd (omega arith)) (λ e′. absurd (omega arith));
         same-end =
-            next st i (omega arith)
-            ∙ ap (λ z. scan z (drop (i + 1) l)) (opened (getD l i 0) same e h o)
-            ∙ next (in-line st 8 0 (st .size) (st .len + 1)) (i + 1) (omega arith)
-            ∙ ap (λ z. scan z (drop (i + 1 + 1) l)) (lettered (getD l (i + 1) 0) same e h t)
-            ∙ ap (λ n. scan (skip 2 st) (drop n l)) (add-assoc i 1 1);
+            ap₂ scan (sym at-first) (sym (take-append-drop k (drop i l)))
+            ∙ value-through 0 fresh xs (drop k (drop i l)) refl fed (omega (arith, long))
+            ∙ ap (λ n. scan (value-at st n fresh) (drop k (drop i l))) (let z : 0 + length xs ≡ k = omega (arith, long) in z)
+            ∙ ap₂ scan (at-last k) (drop-drop k i l);
       }
 
--- one stretch after another
-ahead-then : (st : Scan) (l : List ℕ) (i k m : ℕ) → Ahead l i st k → Ahead l (i + k) (skip k st) m → Ahead l i st (k + m)
-ahead-then st l i k m a b =
-    let same : skip m (skip k st) ≡ skip (k + m) st = simp add-assoc in
-    record {
-      within = omega (arith, b .within);
-      kept = subst Valid same (b .kept);
-      same-end = a .same-end ∙ b .same-end ∙ ap (λ z. scan z (drop (i + k + m) l)) same ∙ ap (λ n. scan (skip (k + m) st) (drop n l)) (add-assoc i k m);
-    }
+-- plain octets are text
+plain-text : (s : Style) (f : Field) (xs : List ℕ) → every (plain-in (text-stops s f)) xs ≡ true → Text s f xs
+plain-text s f [] h = none
+plain-text s f (x ∷ xs) h =
+    let k = and-left (plain-in (text-stops s f) x) _ h in
+    let (p, a) = plain-octet s f x k in
+    more (itself p a) (plain-text s f xs (and-right (plain-in (text-stops s f) x) _ h))
 
--- a value in which e is no further than its line may go takes the octets from i to j
-abbrev pub Takes : Style → List ℕ → ℕ → ℕ → ℕ → Type 0
-Takes y l i e j = (st : Scan) → Valid st → y ≡ style-of (st .command) → st .phase ≡ 7 → st .len + (e - i) ≤ 512 → Ahead l i st (j - i)
+-- as many as a search passes
+pub span-text : (s : Style) (f : Field) {t : Stops} → t ≡ text-stops s f → (l : List ℕ) (i e k : ℕ) → k ≡ span (plain-in t) (take (e - i) (drop i l)) → Text s f (take k (drop i l))
+span-text s f same l i e k is =
+    let p : ℕ → Bool = plain-in (text-stops s f) in
+    let n : k ≡ span p (take (e - i) (drop i l)) = rw same at is in
+    let all : every p (take k (take (e - i) (drop i l))) ≡ true = subst (λ m. every p (take m (take (e - i) (drop i l))) ≡ true) (sym n) (span-clear p p (λ x h. h) (take (e - i) (drop i l))) in
+    let short : k ≤ e - i = omega (arith, n, span-le p (take (e - i) (drop i l)), length-take (e - i) (drop i l)) in
+    plain-text s f (take k (drop i l)) (subst (λ z. every p z ≡ true) (take-take k (e - i) (drop i l) short) all)
 
-module _ (y : Style) (l : List ℕ) (i e : ℕ) (el : e ≤ length l) where
-  pub takes-first : {t : Stops} → t ≡ text-stops y in-value → (k : ℕ) → i ≤ e → k ≡ span (plain-in t) (take (e - i) (drop i l)) → Takes y l i e (i + k)
-  takes-first ends k ie is st v same ph fits =
-      let n : k ≡ i + k - i = omega arith in
-      subst (Ahead l i st) n (ahead-by (plain-in (text-stops y in-value)) 512 st (glides-value st v same ph) l i e k ie el fits (rw ends at is))
+-- text from i to j, then characters, then octets that a search passes
+pub text-on : (s : Style) (f : Field) {t : Stops} → t ≡ text-stops s f → (l : List ℕ) (i j e k m : ℕ) → i ≤ j → k ≤ e - j → Text s f (take (j - i) (drop i l))
+    → Text s f (take k (take (e - j) (drop j l))) → m ≡ span (plain-in t) (take (e - (j + k)) (drop (j + k) l)) → Text s f (take (j + k + m - i) (drop i l))
+text-on s f same l i j e k m ij ke first next is =
+    let d : ℕ = j - i in
+    let at : i + d ≡ j = omega arith in
+    let at₂ : i + (d + k) ≡ j + k = omega arith in
+    let all : d + k + m ≡ j + k + m - i = omega arith in
+    let here : Text s f (take k (drop (i + d) l)) = subst (λ n. Text s f (take k (drop n l))) (sym at) (subst (Text s f) (take-take k (e - j) (drop j l) ke) next) in
+    let after : Text s f (take m (drop (i + (d + k)) l)) = subst (λ n. Text s f (take m (drop n l))) (sym at₂) (span-text s f same l (j + k) e m is) in
+    subst (λ n. Text s f (take n (drop i l))) all (text-then s f l i (d + k) m (text-then s f l i d k first here) after)
 
-  pub takes-more : {t : Stops} → t ≡ text-stops y in-value → (j k : ℕ) → i ≤ j → j + 2 ≤ e → opens y (getD l j 0) ≡ true → is-letter y (getD l (j + 1) 0) ≡ true
-      → k ≡ span (plain-in t) (take (e - (j + 2)) (drop (j + 2) l)) → Takes y l i e j → Takes y l i e (j + 2 + k)
-  takes-more ends j k ij je o t is takes st v same ph fits =
-      let d : ℕ = j - i in
-      let a : Ahead l i st d = takes st v same ph fits in
-      let at : j ≡ i + d = omega arith in
-      let b : Ahead l j (skip d st) 2 = ahead-escape (skip d st) (a .kept) l j same ph (omega arith) (omega arith) o t in
-      let ab : Ahead l i st (d + 2) = ahead-then st l i d 2 a (subst (λ n. Ahead l n (skip d st) 2) at b) in
-      let g : Ahead l (j + 2) (skip (d + 2) st) k =
-      ahead-by (plain-in (text-stops y in-value)) 512 (skip (d + 2) st) (glides-value (skip (d + 2) st) (ab .kept) same ph) l (j + 2) e k je el (omega arith) (rw ends at is) in
-      let at2 : j + 2 ≡ i + (d + 2) = omega arith in
-      let n : d + 2 + k ≡ j + 2 + k - i = omega arith in
-      subst (Ahead l i st) n (ahead-then st l i (d + 2) k ab (subst (λ n. Ahead l n (skip (d + 2) st) k) at2 g))
+-- a whole escape
+pub escape-text : (s : Style) (xs : List ℕ) → 2 ≤ length xs → opens s (getD xs 0 0) ≡ true → is-letter s (getD xs 1 0) ≡ true → Text s in-value (take 2 xs)
+escape-text s [] h o l = absurd (omega arith)
+escape-text s (x ∷ []) h o l = absurd (omega arith)
+escape-text s (x ∷ y ∷ ys) h o l =
+    let e : x ≡ 92 = eqb-true x 92 (and-right (s .escapes) (eqb x 92) o) in
+    subst (λ z. Text s in-value (z ∷ y ∷ [])) (sym e) (more (escape {x = y} (and-left (s .escapes) (eqb x 92) o) l) none)

@@ -5,14 +5,15 @@
 use mathlib.Core.Path.{_≡_, refl, sym, _∙_, ap, ap₂}
 use mathlib.Core.Bool.{Bool, true, false, _&&_, _||_, not}
 use mathlib.Core.List.{List, [], _∷_, _++_, append-assoc}
-use Prim.Native.Nat.{ℕ, _+_, _*_, _≤_}
+use Prim.Native.Nat.{ℕ, suc, _+_, _*_, _≤_, _<_}
 use native.Mathlib.Omega.{arith}
 use lib.ListN.{length, getD, length-map, take, drop}
 use lib.Seq.{take-append-seam, drop-append-seam, drop-append-add}
+use Rattle.headers.proofs.Reading.{missing-high, missing-top, second-high, second-top, tail-high, tail-top}
 use lib.Dec.{eqb}
-use borrow.Author.Tests.{le-ltb, not-true}
+use borrow.Author.Tests.{ltb-true, ltb-false, le-leb, ne-eqb, le-ltb, not-true}
 use Rattle.headers.specs.Rows.{every, any, All}
-use Rattle.headers.specs.Text.{divides, stops, opens, escape-table, Character, itself, escape, Text, none, more}
+use Rattle.headers.specs.Text.{divides, stops, opens, escape-table, missing, tail, second, ascii, Character, itself, escape, wide, Text, none, more}
 use Rattle.headers.specs.Block.{Entry, image, Short}
 use Rattle.headers.specs.Lines.{line-max, line-length}
 use Rattle.headers.specs.Answers.{find-answer}
@@ -38,22 +39,41 @@ span-to p (x ∷ xs) y ys h k = rw (and-left (p x) (every p xs) h) (omega (arith
 
 -- the octets before a line end, and before c too
 abbrev run-on : ℕ → ℕ → Bool
-run-on c x = plain-in (record { colon = c; back = 10 }) x
+run-on c x = plain-in (record { cr = 13; colon = c; back = 10; top = 255 }) x
+
+-- a character of more than one octet has none of them
+high-runs : (c x : ℕ) → c ≤ 127 → ascii x ≡ false → x ≤ 255 → run-on c x ≡ true
+high-runs c x m h u =
+    let l : 128 ≤ x = ltb-false x 128 h in
+    simp (ne-eqb x 10 (omega arith), ne-eqb x 13 (omega arith), ne-eqb x c (λ e. omega (arith, e)), le-leb x 255 u)
+
+wide-runs : (c x y : ℕ) (t : List ℕ) → c ≤ 127 → missing x ≡ suc (length t) → second x y ≡ true → every tail t ≡ true → every (run-on c) (x ∷ y ∷ t) ≡ true
+wide-runs c x y t m e h k =
+    let some : 0 < missing x = omega arith in
+    rw (high-runs c x m (missing-high x some) (omega (arith, missing-top x some)), high-runs c y m (second-high x y h) (omega (arith, second-top x y h))) (each t k)
+  where
+    each : (t : List ℕ) → every tail t ≡ true → every (run-on c) t ≡ true
+    each [] k = refl
+    each (z ∷ t) k =
+        let here = and-left (tail z) (every tail t) k in
+        rw (high-runs c z m (tail-high z here) (omega (arith, tail-top z here))) (each t (and-right (tail z) (every tail t) k))
 
 -- raw text has no raw 10 or 13, a name no colon, and no escape has one
 character-runs : {s : Style} {f : Field} {u : List ℕ} → Character s f u → every (run-on 10) u ≡ true
-character-runs {s} {f} (itself {x = x} h) =
+character-runs {s} {f} (itself {x = x} h a) =
     let no-end = or-false-left (eqb x 10 || eqb x 13) (eqb x 58 && divides s f) (not-true (stops s f x) (and-left (not (stops s f x)) (not (opens s x)) h)) in
-    simp (or-false-left (eqb x 10) (eqb x 13) no-end, or-false-right (eqb x 10) (eqb x 13) no-end)
+    simp (or-false-left (eqb x 10) (eqb x 13) no-end, or-false-right (eqb x 10) (eqb x 13) no-end, le-leb x 255 (omega (arith, ltb-true x 128 a)))
 character-runs {s} (escape {x = x} e h) = rw (any-key (λ e. e .letter) (λ y. run-on 10 y ≡ true) x (escape-table s) (refl, (refl, (refl, (refl, tt)))) h)
+character-runs (wide {x = x} {y = y} {t = t} e h k) = wide-runs 10 x y t (omega arith) e h k
 
 name-runs : {s : Style} {u : List ℕ} → Character s in-name u → every (run-on 58) u ≡ true
-name-runs {s} (itself {x = x} h) =
+name-runs {s} (itself {x = x} h a) =
     let no-stop = not-true (stops s in-name x) (and-left (not (stops s in-name x)) (not (opens s x)) h) in
     let no-end = or-false-left (eqb x 10 || eqb x 13) (eqb x 58 && true) no-stop in
     let no-colon = sym (and-yes (eqb x 58)) ∙ or-false-right (eqb x 10 || eqb x 13) (eqb x 58 && true) no-stop in
-    simp (or-false-left (eqb x 10) (eqb x 13) no-end, or-false-right (eqb x 10) (eqb x 13) no-end, no-colon)
+    simp (or-false-left (eqb x 10) (eqb x 13) no-end, or-false-right (eqb x 10) (eqb x 13) no-end, no-colon, le-leb x 255 (omega (arith, ltb-true x 128 a)))
 name-runs {s} (escape {x = x} e h) = rw (any-key (λ e. e .letter) (λ y. run-on 58 y ≡ true) x (escape-table s) (refl, (refl, (refl, (refl, tt)))) h)
+name-runs (wide {x = x} {y = y} {t = t} e h k) = wide-runs 58 x y t (omega arith) e h k
 
 text-runs : {s : Style} {f : Field} {xs : List ℕ} (p : ℕ → Bool) → ((u : List ℕ) → Character s f u → every p u ≡ true) → Text s f xs → every p xs ≡ true
 text-runs p each none = refl

@@ -16,13 +16,13 @@ use Prim.Native.Nat.{ℕ, zero, suc, _+_, _≤_}
 use native.Mathlib.Omega.{arith}
 use lib.ListN.{length, length-append, length-map}
 use lib.Dec.{eqb, eqb·zero-suc, eqb·suc-zero}
-use borrow.Author.Tests.{eqb-true, ne-eqb, leb-true, ltb-false, lt-ltb, not-true, not-false}
+use borrow.Author.Tests.{eqb-true, leb-true, ltb-false, lt-ltb, not-true, not-false}
 use Rattle.headers.specs.Rows.{empty, every, any, All, is-octet}
-use Rattle.headers.specs.Text.{Text, escape-table, is-text-from}
-use Rattle.headers.specs.Escapes.{decode, encode, escaped, encode-octet, letter-of, writable}
+use Rattle.headers.specs.Text.{Text, escape-table, reads-whole}
+use Rattle.headers.specs.Escapes.{decode, encode, escaped, encode-octet, letter-of}
 use Rattle.headers.specs.Numbers.{is-digit, decimal, Amount, is-amount, amount, shortest}
 use Rattle.headers.specs.Block.{Entry, record-head, entry-record, image, entries}
-use Rattle.headers.specs.Lines.{line-max, entry-of, raw-line, written-line, can-write, content-length}
+use Rattle.headers.specs.Lines.{line-max, entry-of, raw-line, written-line, can-stand, can-write, content-length}
 use Rattle.headers.specs.Answers.{Answer, accepted, refused}
 use Rattle.headers.specs.declared.text.Style.{Style}
 use Rattle.headers.specs.declared.text.Field.{Field}
@@ -137,7 +137,7 @@ encode-digits : (s : Style) (v : List ℕ) → every is-digit v ≡ true → enc
 encode-digits s v h = encode-kept (digits-text s in-value v h) (decode-digits s v h)
 
 name-is-text : (s : Style) → Text s in-name content-length
-unfolding is-text-from
+unfolding reads-whole
 name-is-text s = is-text-text s in-name content-length (simp and-no)
 
 pub raw-length : (s : Style) (body : List ℕ) → raw-of s (length-entry body) ≡ length-line body
@@ -160,12 +160,12 @@ unfolding decode
 line-ok s e h =
     let named = not-true (empty (e .name)) (and-left _ _ h) in
     let rest = and-right (not (empty (e .name))) _ h in
-    let rest₂ = and-right (every (writable s in-name) (e .name)) _ rest in
+    let rest₂ = and-right (can-stand s in-name (e .name)) _ rest in
     record {
       named = λ q. not-empty (e .name) named (sym (decode-encode s (e .name)) ∙ ap (decode s) q);
       name-text = encode-text s in-name (e .name) (and-left _ _ rest);
       value-text = encode-text s in-value (e .value) (and-left _ _ rest₂);
-      fits = omega (arith, raw-long s e, leb-true (length (raw-line s e)) line-max (and-right (every (writable s in-value) (e .value)) _ rest₂));
+      fits = omega (arith, raw-long s e, leb-true (length (raw-line s e)) line-max (and-right (can-stand s in-value (e .value)) _ rest₂));
     }
 
 -- the lines of entries, before others

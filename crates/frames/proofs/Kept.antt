@@ -21,7 +21,7 @@ use Rattle.frames.specs.Exactness.{Exact, Claims}
 use Rattle.frames.specs.Streams.{replied, reach, refused, is-number, is-resumable, feed-answer, feed-state}
 use Rattle.frames.specs.Records.{mark, record-of, is-record, read-record, record-left, packed-taken, packed-feed, unpacked-feed}
 use Rattle.frames.specs.Parsing.{parsed}
-use Rattle.frames.specs.Refusals.{Reason, numbered, no-command, no-10, wrong-escape, nameless, second-colon, no-colon, long-line, many-lines, bad-length, past-body}
+use Rattle.frames.specs.Refusals.{Reason, numbered, no-command, no-10, not-utf8, wrong-escape, nameless, second-colon, no-colon, long-line, many-lines, bad-length, past-body}
 use Rattle.frames.proofs.Commands.{number-small}
 use Rattle.frames.proofs.Sizes.{tree-short}
 use Rattle.frames.proofs.Exact.{exact}
@@ -64,7 +64,7 @@ code-small st h = by (ltb (st .phase) 14) refl (and-right (leb (st .at) 49227) _
   where
     by : (t : Bool) → ltb (st .phase) 14 ≡ t → t || (eqb (st .phase) 16 && is-number (st .code)) ≡ true → st .code < 70
     by true e k = omega (arith, resumed st h .0 .clean-code (omega (arith, ltb-true (st .phase) 14 e)))
-    by false e k = omega (arith, leb-true (st .code) 10 (and-right (leb 1 (st .code)) (leb (st .code) 10) (number-range (st .code) ∙ and-right (eqb (st .phase) 16) (is-number (st .code)) k)))
+    by false e k = omega (arith, leb-true (st .code) 11 (and-right (leb 1 (st .code)) (leb (st .code) 11) (number-range (st .code) ∙ and-right (eqb (st .phase) 16) (is-number (st .code)) k)))
 
 -- ---- the answer
 
@@ -115,7 +115,7 @@ module _ (n : ℕ) (few : n < 65536) where
       rw (t, q, q₀, r₀, q₁, r₁, lt-ltb k 70 hk)
 
 reason-small : (r : Reason) → numbered r < 70
-reason-small = elim [ no-command ↦ omega arith | no-10 ↦ omega arith | wrong-escape ↦ omega arith | nameless ↦ omega arith | second-colon ↦ omega arith | no-colon ↦ omega arith | long-line ↦ omega arith | many-lines ↦ omega arith | bad-length ↦ omega arith | past-body ↦ omega arith ]
+reason-small = elim [ no-command ↦ omega arith | no-10 ↦ omega arith | not-utf8 ↦ omega arith | wrong-escape ↦ omega arith | nameless ↦ omega arith | second-colon ↦ omega arith | no-colon ↦ omega arith | long-line ↦ omega arith | many-lines ↦ omega arith | bad-length ↦ omega arith | past-body ↦ omega arith ]
 
 module _ (ver : Version) where
   tree-back : (n : ℕ) → n < 65536 → (t : Tree) → Shaped ver t → unpacked-feed (packed-taken (told t) n) ≡ replied (told t) n

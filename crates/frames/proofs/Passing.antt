@@ -61,14 +61,14 @@ module _ {s : List ℕ} {i : ℕ} {st : Scan} where
 -- ---- What an octet of a word or a length does
 
 -- the letters of content-length, and digits, stand for themselves
-letter-plain : (b : Bool) (m : ℕ) → m < 14 → plain-in (record { colon = 58; back = cond b 92 10 }) (getD content-length m 0) ≡ true
-letter-plain true m h = upto-at (λ n. plain-in (record { colon = 58; back = 92 }) (getD content-length n 0)) 14 m refl h
-letter-plain false m h = upto-at (λ n. plain-in (record { colon = 58; back = 10 }) (getD content-length n 0)) 14 m refl h
+letter-plain : (b : Bool) (m : ℕ) → m < 14 → plain-in (record { cr = 13; colon = 58; back = cond b 92 10; top = 127 }) (getD content-length m 0) ≡ true
+letter-plain true m h = upto-at (λ n. plain-in (record { cr = 13; colon = 58; back = 92; top = 127 }) (getD content-length n 0)) 14 m refl h
+letter-plain false m h = upto-at (λ n. plain-in (record { cr = 13; colon = 58; back = 10; top = 127 }) (getD content-length n 0)) 14 m refl h
 
-digit-plain : (c b : Bool) (x : ℕ) → 48 ≤ x → x ≤ 57 → plain-in (record { colon = cond c 58 10; back = cond b 92 10 }) x ≡ true
+digit-plain : (c b : Bool) (x : ℕ) → 48 ≤ x → x ≤ 57 → plain-in (record { cr = 13; colon = cond c 58 10; back = cond b 92 10; top = 127 }) x ≡ true
 digit-plain c b x h l =
     let (lf, cr, colon, slash) = digit-apart x h l in
-    simp (lf, cr, cond-case (λ z. eqb x z ≡ false) c (λ t. colon) (λ t. lf), cond-case (λ z. eqb x z ≡ false) b (λ t. slash) (λ t. lf))
+    simp (lf, cr, cond-case (λ z. eqb x z ≡ false) c (λ t. colon) (λ t. lf), cond-case (λ z. eqb x z ≡ false) b (λ t. slash) (λ t. lf), le-leb x 127 (omega arith))
 
 module _ (st : Scan) (x : ℕ) where
   -- a letter of a command

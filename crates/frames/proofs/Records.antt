@@ -74,7 +74,7 @@ abbrev pub row : Scan → ℕ → List ℕ
 row st m =
     st .phase ∷ st .command % 256 ∷ st .lines % 256 ∷ st .matched % 256 ∷ m ∷ st .code % 256
     ∷ st .size / 256 % 256 ∷ st .size % 256 ∷ st .len / 256 % 256 ∷ st .len % 256 ∷ st .at / 256 % 256 ∷ st .at % 256
-    ∷ 0 ∷ 0 ∷ 0 ∷ 0 ∷ []
+    ∷ 0 ∷ 0 ∷ st .rest ∷ 0 ∷ []
 
 pub laid : (d : List ℕ) (st : Scan) (m : ℕ) (xs : List ℕ) → length d ≡ 16 → m ≡ mark (st .sized) → xs ≡ copied d 0 (row st m) → xs ≡ record-of st
 unfolding record-of

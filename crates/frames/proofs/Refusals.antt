@@ -11,16 +11,17 @@ use lib.Dec.{eqb, leb, ltb}
 use borrow.Author.Tests.{eqb-true, leb-true, leb-false, ltb-true, ltb-false, le-leb, lt-leb, lt-ltb, le-ltb}
 use Rattle.headers.specs.Rows.{same, every, any, begins, empty}
 use Rattle.headers.proofs.Rows.{cond-case, and-left, and-no, and-yes, or-yes, every-last, empty-not, or-false-left, or-false-right}
-use Rattle.headers.specs.Text.{divides, Part, fresh, owes, Into, into, bad, stop, reads, of-escape, owing}
+use Rattle.headers.specs.Text.{divides, Part, fresh, owes, Into, into, bad, stop, reads, of-utf8, of-escape, fault, owing}
+use Rattle.headers.specs.declared.text.Style.{Style}
 use Rattle.headers.specs.declared.text.Field.the-variants.{Name as in-name, Value as in-value}
 use Rattle.headers.specs.Numbers.{is-digit, decimal}
 use Rattle.headers.proofs.Reading.{Says, reads-says, owes-few}
 use Rattle.headers.specs.Lines.{line-max}
 use Rattle.frames.specs.Machine.{Next, go, done, refuse}
 use Rattle.frames.specs.Grammar.{Version, Command, number, word, style, most, Head, Tree, heart-beat, frame, lines-max, declared, LengthOk, HeadOk}
-use Rattle.frames.specs.Parsing.{first, word-end, word-next, at-word, at-start, name-next, at-name, at-begin, value-next, at-value, body-next, step}
+use Rattle.frames.specs.Parsing.{first, word-end, word-next, at-word, at-start, name-next, at-name, at-begin, one-more, value-next, at-value, body-next, step}
 use Rattle.frames.specs.Parsing as P
-use Rattle.frames.specs.Refusals.{Reason, numbered, no-command, no-10, long-line, many-lines, bad-length, past-body, some-command, ends, spoils, used-up, fits, number-of, refusal}
+use Rattle.frames.specs.Refusals.{Reason, no-command, no-10, not-utf8, long-line, many-lines, bad-length, past-body, some-command, ends, spoils, used-up, fits, number-of, refusal}
 use Rattle.frames.specs.Open.{Open, start, heart-beat-13, command, command-13, begin, name, value, line-13, blank-13, body, all, opened, new, entry, watched, partial-amount, Ok, NameOk, ValueOk, BodyPart}
 
 -- the number with which a step refuses
@@ -216,28 +217,36 @@ module _ (ver : Version) where
       em = empty-not raw (ok .named)
 
       ended : (a b c : Bool) → eqb x 10 ≡ a → eqb x 13 ≡ b → eqb x 58 ≡ c → Says (style ver (h .command)) in-name p x stop → Told (name h raw p) x (name-next h raw x stop)
-      ended true b c e f g (nf, ow, st) = let k : eqb x 58 ≡ false = rw (eqb-true x 10 e) in simp (nf, k, e, em)
-      ended false true c e f g (nf, ow, st) = let k : eqb x 58 ≡ false = rw (eqb-true x 13 f) in simp (nf, k, e, f, em)
-      ended false false true e f g (nf, ow, st) = simp (nf, e, f, g, em, ow, le-ltb line-max (length raw + 0 + 1 + 0) (omega (arith, ok .fits)))
+      ended true b c e f g ((nu, nf), ow, st) = let k : eqb x 58 ≡ false = rw (eqb-true x 10 e) in simp (nu, nf, k, e, em)
+      ended false true c e f g ((nu, nf), ow, st) = let k : eqb x 58 ≡ false = rw (eqb-true x 13 f) in simp (nu, nf, k, e, f, em)
+      ended false false true e f g ((nu, nf), ow, st) = simp (nu, nf, e, f, g, em, ow, le-ltb line-max (length raw + 0 + 1 + 0) (omega (arith, ok .fits)))
       ended false false false e f g (nf, ow, st) = absurd (no-stop (eqb x 10) (eqb x 13) (eqb x 58 && true) e f (rw g) st)
 
       by : (i : Into) → Says (style ver (h .command)) in-name p x i → Told (name h raw p) x (name-next h raw x i)
-      by (into q) (nf, ow, ns) =
+      by (into q) ((nu, nf), ow, ns) =
           let (e, f, k) = no-stops (eqb x 10) (eqb x 13) (eqb x 58 && true) ns in
           let g : eqb x 58 ≡ false = sym (and-yes (eqb x 58)) ∙ k in
-          simp (nf, e, f, g, em, ow) (row-4 (length raw + 1 + owes q + 1) (length raw + 0 + 1 + (1 + owes q)) (omega arith) (go (name h (raw ++ (x ∷ [])) q)) none refl)
-      by (bad of-escape) u = rw u
+          simp (nu, nf, e, f, g, em, ow) (row-4 (length raw + 1 + owes q + 1) (length raw + 0 + 1 + (1 + owes q)) (omega arith) (go (name h (raw ++ (x ∷ [])) q)) none refl)
+      by (bad of-utf8) u = rw u
+      by (bad of-escape) (nu, u) = rw (nu, u)
       by stop u = ended (eqb x 10) (eqb x 13) (eqb x 58) refl refl refl u
 
   told-begin : (h : Head) (x : ℕ) → Told (begin h) x (at-begin ver h x)
   unfolding at-begin at-name refusal fits
   told-begin h x = by (eqb x 10) (eqb x 13) (eqb x 58) refl refl refl
     where
-      on : (i : Into) (u : Bool) → Says (style ver (h .command)) in-name fresh x i → eqb x 10 ≡ false → eqb x 13 ≡ false → eqb x 58 ≡ false → leb lines-max (length (h .entries)) ≡ not u → refuses (cond u (name-next h [] x i) (refuse (numbered many-lines))) ≡ number-of (cond (ltb line-max (1 + (1 + owing (style ver (h .command)) in-name fresh x))) (some long-line) (cond (leb lines-max (length (h .entries))) (some many-lines) none))
-      on (into q) true (nf, ow, ns) e f g k = rw (ow, k) (row-4 (0 + 1 + owes q + 1) (1 + (1 + owes q)) (omega arith) (go (name h (x ∷ []) q)) none refl)
-      on (into q) false (nf, ow, ns) e f g k = rw (ow, k, le-ltb line-max (1 + (1 + owes q)) (omega (arith, owes-few q)))
-      on (bad of-escape) u w e f g k = let z : _≡_ {A = ℕ} 0 1 = cc in absurd (omega arith)
-      on stop u (nf, ow, st) e f g k = absurd (no-stop (eqb x 10) (eqb x 13) (eqb x 58 && true) e f (rw g) st)
+      y : Style
+      y = style ver (h .command)
+
+      on : (i : Into) (u : Bool) → reads y in-name fresh x ≡ i → Says y in-name fresh x i → eqb x 10 ≡ false → eqb x 13 ≡ false → eqb x 58 ≡ false → leb lines-max (length (h .entries)) ≡ not u
+          → refuses (cond u (name-next h [] x i) (one-more i))
+          ≡ number-of (cond (fault y in-name fresh x of-utf8) (some not-utf8) (cond (ltb line-max (1 + (1 + owing y in-name fresh x))) (some long-line) (cond (leb lines-max (length (h .entries))) (some many-lines) none)))
+      on (into q) true r ((nu, nf), ow, ns) e f g k = rw (nu, ow, k) (row-4 (0 + 1 + owes q + 1) (1 + (1 + owes q)) (omega arith) (go (name h (x ∷ []) q)) none refl)
+      on (into q) false r ((nu, nf), ow, ns) e f g k = rw (nu, ow, k, le-ltb line-max (1 + (1 + owes q)) (omega (arith, owes-few y in-name q x r)))
+      on (bad of-utf8) true r w e f g k = rw w
+      on (bad of-utf8) false r w e f g k = rw w
+      on (bad of-escape) u r (nu, w) e f g k = let z : _≡_ {A = ℕ} 0 1 = cc in absurd (omega arith)
+      on stop u r (nf, ow, st) e f g k = absurd (no-stop (eqb x 10) (eqb x 13) (eqb x 58 && true) e f (rw g) st)
 
       by : (a b c : Bool) → eqb x 10 ≡ a → eqb x 13 ≡ b → eqb x 58 ≡ c → Told (begin h) x (at-begin ver h x)
       by true b c e f g = rw (eqb-true x 10 e)
@@ -245,7 +254,7 @@ module _ (ver : Version) where
       by false false true e f g = rw (eqb-true x 58 g)
       by false false false e f g =
           simp (e, f, g)
-          (simp (e, f, g) at (on (reads (style ver (h .command)) in-name fresh x) (ltb (length (h .entries)) lines-max) (reads-says (style ver (h .command)) in-name fresh x) e f g (leb-ltb lines-max (length (h .entries)))))
+          (simp (e, f, g) at (on (reads y in-name fresh x) (ltb (length (h .entries)) lines-max) refl (reads-says y in-name fresh x) e f g (leb-ltb lines-max (length (h .entries)))))
 
   told-value : (h : Head) (n raw : List ℕ) (p : Part) (x : ℕ) → ValueOk ver h n raw p → Told (value h n raw p) x (at-value ver h n raw p x)
   unfolding at-value refusal fits
@@ -258,22 +267,23 @@ module _ (ver : Version) where
       on q w k = rw k (row-4 (length n + 1 + (length raw + 1) + owes q) (length n + (1 + length raw) + 1 + (0 + owes q)) (omega arith) (cond w (refuse 6) (go (value h n (raw ++ (x ∷ [])) q))) (cond w (some bad-length) none) (row-6-on w _))
 
       ended : (a b c : Bool) → eqb x 10 ≡ a → eqb x 13 ≡ b → eqb x 58 ≡ c → Says (style ver (h .command)) in-value p x stop → Told (value h n raw p) x (value-next h n raw x stop)
-      ended true b c e f g (nf, ow, st) =
+      ended true b c e f g ((nu, nf), ow, st) =
           let k : eqb x 58 ≡ false = rw (eqb-true x 10 e) in
           let d : is-digit x ≡ false = rw (eqb-true x 10 e) in
-          simp (nf, k, e, d) (row-6 (watched h n) (empty raw) (go (begin (opened h (entry n raw false)))) refl)
-      ended false true c e f g (nf, ow, st) =
+          simp (nu, nf, k, e, d) (row-6 (watched h n) (empty raw) (go (begin (opened h (entry n raw false)))) refl)
+      ended false true c e f g ((nu, nf), ow, st) =
           let k : eqb x 58 ≡ false = rw (eqb-true x 13 f) in
           let d : is-digit x ≡ false = rw (eqb-true x 13 f) in
-          simp (nf, k, e, f, d) (row-6 (watched h n) (empty raw) (go (line-13 h n raw)) refl)
-      ended false false true e f g (nf, ow, st) = let d : divides (style ver (h .command)) in-value ≡ true = simp (e, f, g) at st in simp (nf, g) (rw d)
+          simp (nu, nf, k, e, f, d) (row-6 (watched h n) (empty raw) (go (line-13 h n raw)) refl)
+      ended false false true e f g ((nu, nf), ow, st) = let d : divides (style ver (h .command)) in-value ≡ true = simp (e, f, g) at st in simp (nu, nf, g) (rw d)
       ended false false false e f g (nf, ow, st) = absurd (no-stop (eqb x 10) (eqb x 13) (eqb x 58 && divides (style ver (h .command)) in-value) e f (rw g) st)
 
       by : (i : Into) → Says (style ver (h .command)) in-value p x i → Told (value h n raw p) x (value-next h n raw x i)
-      by (into q) (nf, ow, ns) =
+      by (into q) ((nu, nf), ow, ns) =
           let (e, f, g) = no-stops (eqb x 10) (eqb x 13) (eqb x 58 && divides (style ver (h .command)) in-value) ns in
-          simp (nf, e, f, g, ow) (on q _ (simp (e, f) at (w (rw (e, f)))))
-      by (bad of-escape) u = rw u
+          simp (nu, nf, e, f, g, ow) (on q _ (simp (e, f) at (w (rw (e, f)))))
+      by (bad of-utf8) u = rw u
+      by (bad of-escape) (nu, u) = rw (nu, u)
       by stop u = ended (eqb x 10) (eqb x 13) (eqb x 58) refl refl refl u
 
   told-body : (h : Head) (e : Bool) (b : List ℕ) (x : ℕ) → HeadOk ver h → BodyPart (most (h .command)) (declared (h .entries)) b → Told (body h e b) x (P.at-body h e b x)

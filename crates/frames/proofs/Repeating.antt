@@ -16,7 +16,7 @@ use Rattle.headers.specs.Rows.{every, is-octet}
 use Rattle.headers.proofs.Rows.{cond-case}
 use Rattle.frames.specs.Grammar.{Version}
 use Rattle.frames.specs.Replies.{Reply, Complete, Incomplete, Invalid}
-use Rattle.frames.specs.Refusals.{Reason, numbered, no-command, no-10, wrong-escape, nameless, second-colon, no-colon, long-line, many-lines, bad-length, past-body}
+use Rattle.frames.specs.Refusals.{Reason, numbered, no-command, no-10, not-utf8, wrong-escape, nameless, second-colon, no-colon, long-line, many-lines, bad-length, past-body}
 use Rattle.frames.specs.Parsing.{parsed}
 use Rattle.frames.specs.Exactness.{Claims}
 use Rattle.frames.specs.Scanning.{scan, nothing-read}
@@ -32,7 +32,7 @@ use Rattle.frames.proofs.Feeding.{Stands, stands-fresh, resumable, more
 
 -- the numbers of the table are known
 number-known : (r : Reason) → is-number (numbered r) ≡ true
-number-known = elim [ no-command ↦ refl | no-10 ↦ refl | wrong-escape ↦ refl | nameless ↦ refl | second-colon ↦ refl | no-colon ↦ refl | long-line ↦ refl | many-lines ↦ refl | bad-length ↦ refl | past-body ↦ refl ]
+number-known = elim [ no-command ↦ refl | no-10 ↦ refl | not-utf8 ↦ refl | wrong-escape ↦ refl | nameless ↦ refl | second-colon ↦ refl | no-colon ↦ refl | long-line ↦ refl | many-lines ↦ refl | bad-length ↦ refl | past-body ↦ refl ]
 
 -- stopped at a refusal
 pub record Stopped (st : Scan) (k n : ℕ) : Type 0 where

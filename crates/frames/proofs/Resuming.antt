@@ -17,20 +17,20 @@ use Rattle.frames.specs.Streams.{replied, refused, is-number, is-resumab
 use Rattle.frames.proofs.Upto.{upto-at}
 use Rattle.frames.proofs.Checks.{valid-decides}
 
--- ---- the numbers of the table are those from 1 to 10
+-- ---- the numbers of the table are those from 1 to 11
 
 alike : (a b : Bool) → cond b a (not a) ≡ true → a ≡ b
 alike a true h = h
 alike a false h = not-true a h
 
-pub number-range : (k : ℕ) → leb 1 k && leb k 10 ≡ is-number k
-number-range k = by (decLt k 11)
+pub number-range : (k : ℕ) → leb 1 k && leb k 11 ≡ is-number k
+number-range k = by (decLt k 12)
   where
-    by : Dec (k < 11) → leb 1 k && leb k 10 ≡ is-number k
-    by (yes h) = alike (leb 1 k && leb k 10) (is-number k) (upto-at (λ i. cond (is-number i) (leb 1 i && leb i 10) (not (leb 1 i && leb i 10))) 11 k refl h)
+    by : Dec (k < 12) → leb 1 k && leb k 11 ≡ is-number k
+    by (yes h) = alike (leb 1 k && leb k 11) (is-number k) (upto-at (λ i. cond (is-number i) (leb 1 i && leb i 11) (not (leb 1 i && leb i 11))) 12 k refl h)
     by (no h) =
         simp
-        (refuted (leb k 10) (λ t. omega (arith, leb-true k 10 t)), and-no, ne-eqb k 1 (λ e. omega arith), ne-eqb k 2 (λ e. omega arith), ne-eqb k 3 (λ e. omega arith), ne-eqb k 4 (λ e. omega arith), ne-eqb k 5 (λ e. omega arith), ne-eqb k 6 (λ e. omega arith), ne-eqb k 7 (λ e. omega arith), ne-eqb k 8 (λ e. omega arith), ne-eqb k 9 (λ e. omega arith), ne-eqb k 10 (λ e. omega arith))
+        (refuted (leb k 11) (λ t. omega (arith, leb-true k 11 t)), and-no, ne-eqb k 1 (λ e. omega arith), ne-eqb k 2 (λ e. omega arith), ne-eqb k 3 (λ e. omega arith), ne-eqb k 4 (λ e. omega arith), ne-eqb k 5 (λ e. omega arith), ne-eqb k 6 (λ e. omega arith), ne-eqb k 7 (λ e. omega arith), ne-eqb k 8 (λ e. omega arith), ne-eqb k 9 (λ e. omega arith), ne-eqb k 10 (λ e. omega arith), ne-eqb k 11 (λ e. omega arith))
 
 -- ---- a state that passes
 

@@ -18,16 +18,15 @@ use lib.ListN.{length, length-append, length-map}
 use lib.Dec.{ltb}
 use borrow.Author.Tests.{le-leb, le-ltb, ltb-true, eq-eqb}
 use Rattle.headers.specs.Rows.{same, every, any, All, is-octet}
-use Rattle.headers.specs.Text.{Text, none, more, itself, escape, escape-table, stops, opens, is-letter}
-use Rattle.headers.specs.Escapes.{decode, encode, meaning, writable, means}
+use Rattle.headers.specs.Text.{none, more, escape-table, opens, is-letter}
+use Rattle.headers.specs.Escapes.{decode, encode, meaning}
 use Rattle.headers.specs.Numbers.{decimal}
 use Rattle.headers.specs.Block.{Entry, Short, two-octets, record-head, entry-record, image, entries}
 use Rattle.headers.specs.Lines.{can-write, content-length}
 use Rattle.headers.specs.Answers.{Answer, accepted, refused, settle}
 use Rattle.headers.specs.declared.text.Style.{Style}
-use Rattle.headers.specs.declared.text.Field.{Field}
-use Rattle.headers.proofs.Rows.{cond-case, and-left, and-right, and-no, or-yes, empty-not, every-left, every-right, every-append, any-key}
-use Rattle.headers.proofs.Coding.{decode-means, encode-decode, decode-short}
+use Rattle.headers.proofs.Rows.{cond-case, and-left, and-right, and-no, empty-not, every-left, every-right, every-append, any-key}
+use Rattle.headers.proofs.Coding.{encode-decode, decode-short, text-writable}
 use Rattle.headers.proofs.Numerals.{numeral-octets}
 use Rattle.headers.proofs.FirstValues.{any-value}
 use Rattle.headers.proofs.LaidOut.{entries-image}
@@ -50,16 +49,6 @@ command-again : (c : Command) → command-of (number c) ≡ some c
 command-again = each-same (λ c. command-of (number c)) some refl
 
 -- ## The entries of valid lines
-
--- what text stands for can be written
-means-writable : {s : Style} {f : Field} {xs : List ℕ} (t : Text s f xs) → every (writable s f) (means t) ≡ true
-means-writable none = refl
-means-writable {s} {f} (more (itself {x = x} h) t) = rw (and-left (not (stops s f x)) _ h, or-yes) (means-writable t)
-means-writable {s} {f} (more (escape {x = x} on h) t) =
-    rw (any-key (λ e. e .letter) (λ y. writable s f (meaning s y) ≡ true) x (escape-table s) (rw on, (rw on, (rw on, (rw on, tt)))) h) (means-writable t)
-
-text-writable : {s : Style} {f : Field} {xs : List ℕ} → Text s f xs → every (writable s f) (decode s xs) ≡ true
-text-writable t = rw (decode-means t) (means-writable t)
 
 entry-can : (s : Style) (l : Line) → LineOk s l → can-write s (line-entry s l) ≡ true
 unfolding encode

@@ -8,9 +8,13 @@ use native.Mathlib.Omega.{arith}
 use native.Mathlib.Nat.{add-zero, add-assoc}
 use lib.ListN.{length, take, getD, length-append}
 use lib.Dec.{eqb, leb, ltb, eqb·suc-zero, eqb·zero-suc, eqb·suc-suc}
-use borrow.Author.Tests.{ne-eqb, eq-eqb}
+use borrow.Author.Tests.{ne-eqb, eq-eqb, leb-true, ltb-false, lt-ltb, le-ltb}
+use Rattle.headers.proofs.Reading.{missing-high, missing-few}
+use Rattle.headers.specs.declared.text.Style.{Style}
+use Rattle.headers.specs.declared.text.Field.{Field}
 use Rattle.headers.specs.Rows.{same, every, begins, empty}
-use Rattle.headers.specs.Text.{Part, fresh, back, owes, Into, into, bad, stop, reads}
+use Rattle.headers.specs.Characters.{part-number, text-part}
+use Rattle.headers.specs.Text.{Part, fresh, back, led, tails, Raw, owes, Into, into, bad, stop, reads}
 use Rattle.headers.specs.Numbers.{is-digit, decimal}
 use Rattle.headers.specs.Lines.{content-length}
 use Rattle.headers.specs.declared.text.Field.the-variants.{Name as in-name, Value as in-value}
@@ -18,12 +22,12 @@ use Rattle.headers.proofs.Rows.{and-left, and-right, same-eq, cond-case, every-
 use Rattle.headers.proofs.Decimals.{decimal-none, decimal-snoc}
 use Rattle.frames.specs.Machine.{Next, go, done, refuse, Run, run, going, finished, stopped, after}
 use Rattle.frames.specs.Grammar.{Version, Shaped, Command, number, word, style, most, Head, Tree, heart-beat, frame, octets, declared, head, end}
-use Rattle.frames.specs.Open.{Open, start, heart-beat-13, command, command-13, begin, name, value, line-13, blank-13, body, all, opened, entry, unseen, watched, partial-amount, so-far, Ok, ValueOk}
+use Rattle.frames.specs.Open.{Open, start, heart-beat-13, command, command-13, begin, name, value, line-13, blank-13, body, all, opened, entry, unseen, watched, partial-amount, so-far, Ok, NameOk, ValueOk}
 use Rattle.frames.specs.Replies.{Reply, told}
 use Rattle.frames.specs.Replies as reply
-use Rattle.frames.specs.Parsing.{first, word-end, word-next, at-word, at-start, name-next, at-name, at-begin, value-next, at-value, body-next, at-body, step, answer, parsed}
+use Rattle.frames.specs.Parsing.{first, word-end, word-next, at-word, at-start, name-next, at-name, at-begin, one-more, value-next, at-value, body-next, at-body, step, answer, parsed}
 use Rattle.frames.specs.declared.state.Scan.{Scan}
-use Rattle.frames.specs.Scanning.{number-of, word-of, next-command, whole-command, advance, name-phase, value-phase, on-word, on-start, on-name-by, on-name, on-begin, on-value-by, on-value, on-length-by, on-length, on-body, on-counted, scan-step, scan, nothing-read, scan-reply, invalid}
+use Rattle.frames.specs.Scanning.{number-of, word-of, next-command, whole-command, advance, name-phase, value-phase, on-more, on-word, on-start, on-name-by, on-name, on-begin, on-value-by, on-value, on-length-by, on-length, on-body, on-counted, scan-step, scan, nothing-read, scan-reply, invalid}
 use Rattle.frames.proofs.Sound.{sound, declared-append}
 use Rattle.frames.proofs.Commands.{each-same}
 use Rattle.frames.proofs.Reach.{finds}
@@ -44,14 +48,17 @@ size-of (some v) = decimal 0 v
 unfoldable matched-of : List ℕ → ℕ
 matched-of raw = cond (begins raw content-length) (length raw) 15
 
+abbrev shown-in : ℕ → Head → ℕ → ℕ → ℕ → ℕ → ℕ → Scan
+shown-in p h m s l n r = record { phase = p; command = number (h .command); lines = length (h .entries); matched = m; sized = sized-of (declared (h .entries)); size = s; len = l; at = n; code = 0; rest = r }
+
 abbrev shown : ℕ → Head → ℕ → ℕ → ℕ → ℕ → Scan
-shown p h m s l n = record { phase = p; command = number (h .command); lines = length (h .entries); matched = m; sized = sized-of (declared (h .entries)); size = s; len = l; at = n; code = 0 }
+shown p h m s l n = shown-in p h m s l n 0
 
 abbrev headed : ℕ → Head → ℕ → Scan
 headed p h n = shown p h 0 (size-of (declared (h .entries))) 0 n
 
 abbrev bare : ℕ → ℕ → ℕ → Scan
-bare p c n = record { phase = p; command = c; lines = 0; matched = 0; sized = false; size = 0; len = 0; at = n; code = 0 }
+bare p c n = record { phase = p; command = c; lines = 0; matched = 0; sized = false; size = 0; len = 0; at = n; code = 0; rest = 0 }
 
 abbrev view : ℕ → Open → Scan
 view n start = bare 0 0 n
@@ -59,23 +66,23 @@ view n heart-beat-13 = bare 1 0 n
 view n (command raw) = bare 2 (number-of (first (begins raw) all)) n
 view n (command-13 c) = bare 3 (number c) n
 view n (begin h) = headed 4 h n
-view n (name h raw p) = shown (name-phase p) h (matched-of raw) (size-of (declared (h .entries))) (length raw) n
+view n (name h raw p) = shown-in (name-phase p) h (matched-of raw) (size-of (declared (h .entries))) (length raw) n (part-number p)
 view n (value h m raw p) =
     cond (watched h m) (shown 9 h 0 (decimal 0 raw) (length m + 1 + length raw) n)
-    (shown (value-phase p) h 0 (size-of (declared (h .entries))) (length m + 1 + length raw) n)
+    (shown-in (value-phase p) h 0 (size-of (declared (h .entries))) (length m + 1 + length raw) n (part-number p))
 view n (line-13 h m v) = headed 10 (opened h (entry m v true)) n
 view n (blank-13 h) = headed 11 h n
 view n (body h e b) = shown (cond (sized-of (declared (h .entries))) 13 12) h 0 (size-of (declared (h .entries))) (length b) n
 
 abbrev view-tree : ℕ → Tree → Scan
 view-tree n (heart-beat e) = bare 14 0 n
-view-tree n (frame h e b) = record { phase = 15; command = number (h .command); lines = length (h .entries); matched = 0; sized = false; size = 0; len = length b; at = n; code = 0 }
+view-tree n (frame h e b) = record { phase = 15; command = number (h .command); lines = length (h .entries); matched = 0; sized = false; size = 0; len = length b; at = n; code = 0; rest = 0 }
 
 -- what one octet does after n octets
 abbrev seen : ℕ → Next Open Tree → Scan
 seen n (go s) = view (n + 1) s
 seen n (done t) = view-tree (n + 1) t
-seen n (refuse k) = record { phase = 16; command = 0; lines = 0; matched = 0; sized = false; size = 0; len = 0; at = n; code = k }
+seen n (refuse k) = record { phase = 16; command = 0; lines = 0; matched = 0; sized = false; size = 0; len = 0; at = n; code = k; rest = 0 }
 
 seen-cond : (n : ℕ) (t : Bool) (a b : Next Open Tree) → seen n (cond t a b) ≡ cond t (seen n a) (seen n b)
 seen-cond n true a b = refl
@@ -145,7 +152,7 @@ size-opened (some u) t v = refl
 
 headed-opened : (p n : ℕ) (h : Head) (m v : List ℕ) (e : Bool)
     → headed p (opened h (entry m v e)) n
-    ≡ record { phase = p; command = number (h .command); lines = length (h .entries) + 1; matched = 0; sized = cond (watched h m) true (sized-of (declared (h .entries))); size = cond (watched h m) (decimal 0 v) (size-of (declared (h .entries))); len = 0; at = n; code = 0 }
+    ≡ record { phase = p; command = number (h .command); lines = length (h .entries) + 1; matched = 0; sized = cond (watched h m) true (sized-of (declared (h .entries))); size = cond (watched h m) (decimal 0 v) (size-of (declared (h .entries))); len = 0; at = n; code = 0; rest = 0 }
 headed-opened p n h m v e = rw (length-append, declared-append, sized-opened, size-opened)
 
 -- ---- one octet
@@ -183,18 +190,23 @@ module _ (ver : Version) where
 
   show-begin : (h : Head) (x n : ℕ) → on-begin (headed 4 h n) x ≡ seen n (at-begin ver h x)
   unfolding on-begin at-begin on-name matched-of
-  show-begin h x n = simp (seen-cond, ← show-name h [] fresh fresh x n)
+  show-begin h x n = simp (seen-cond, ← show-name h [] fresh fresh x n, more-shown (reads (style ver (h .command)) in-name fresh x))
+    where
+      more-shown : (i : Into) → on-more (headed 4 h n) i ≡ seen n (one-more i)
+      more-shown (into q) = refl
+      more-shown (bad k) = refl
+      more-shown stop = refl
 
   -- a value that declares no length
   show-value : (h : Head) (m raw : List ℕ) (p : Part) (x n : ℕ) → watched h m ≡ false
-      → on-value (shown (value-phase p) h 0 (size-of (declared (h .entries))) (length m + 1 + length raw) n) p x ≡ seen n (at-value ver h m raw p x)
+      → on-value (shown-in (value-phase p) h 0 (size-of (declared (h .entries))) (length m + 1 + length raw) n (part-number p)) p x ≡ seen n (at-value ver h m raw p x)
   unfolding on-value at-value
   show-value h m raw p x n w = by (reads (style ver (h .command)) in-value p x)
     where
       longer : (r : Part) → length m + 1 + (length raw + 1) + owes r ≡ length m + 1 + length raw + 1 + owes r
       longer r = omega arith
 
-      by : (i : Into) → on-value-by (shown (value-phase p) h 0 (size-of (declared (h .entries))) (length m + 1 + length raw) n) x i ≡ seen n (value-next h m raw x i)
+      by : (i : Into) → on-value-by (shown-in (value-phase p) h 0 (size-of (declared (h .entries))) (length m + 1 + length raw) n (part-number p)) x i ≡ seen n (value-next h m raw x i)
       by (into r) = simp (w, seen-cond, longer, length-append, ← add-assoc)
       by (bad k) = refl
       by stop = simp (w, seen-cond, headed-opened)
@@ -238,14 +250,45 @@ module _ (ver : Version) where
       by none k = simp (k, seen-cond, length-append)
       by (some v) k = simp (k, seen-cond, length-append)
 
-  -- while a length is read no backslash is pending
-  no-back : (h : Head) (m raw : List ℕ) → ValueOk ver h m raw back → watched h m ≡ true → ⊥
-  no-back h m raw ok w =
-      let digits = and-left (every is-digit raw) (leb (decimal 0 raw) (most (h .command))) (ok .len w) in
-      let split : raw ≡ ok .text .front ++ (92 ∷ []) = ok .text .whole ∙ ap (ok .text .front ++_) (ok .text .part .1) in
-      let last : every is-digit (92 ∷ []) ≡ true = every-right is-digit (ok .text .front) (92 ∷ []) (rw split at digits) in
-      let z : _≡_ {A = ℕ} 0 1 = cc in
-      omega arith
+  -- while a length is read no character is begun
+  digits-end : (raw front pend : List ℕ) → every is-digit raw ≡ true → raw ≡ front ++ pend → every is-digit pend ≡ true
+  digits-end raw front pend d e = every-right is-digit front pend (rw e at d)
+
+  no-part : (h : Head) (m raw : List ℕ) (p : Part) → ValueOk ver h m raw p → watched h m ≡ true → p ≡ fresh
+  no-part h m raw p ok w = by p (ok .text) (and-left (every is-digit raw) (leb (decimal 0 raw) (most (h .command))) (ok .len w))
+    where
+      by : (p : Part) → Raw (style ver (h .command)) in-value raw p → every is-digit raw ≡ true → p ≡ fresh
+      by fresh r d = refl
+      by back r d =
+          let last : every is-digit (92 ∷ []) ≡ true = rw (r .part .1) at (digits-end raw (r .front) (r .pend) d (r .whole)) in
+          let z : _≡_ {A = ℕ} 0 1 = cc in
+          absurd (omega arith)
+      by (led y) r d =
+          let last : every is-digit (y ∷ []) ≡ true = rw (r .part .1) at (digits-end raw (r .front) (r .pend) d (r .whole)) in
+          let low = leb-true y 57 (and-right (leb 48 y) (leb y 57) (and-left (is-digit y) true last)) in
+          absurd (omega (arith, ltb-false y 128 (missing-high y (r .part .0))))
+      by (tails k) r d =
+          let c = r .part in
+          let last : every is-digit (c .first ∷ c .next ∷ c .rest) ≡ true = rw (c .whole) at (digits-end raw (r .front) (r .pend) d (r .whole)) in
+          let low = leb-true (c .first) 57 (and-right (leb 48 (c .first)) (leb (c .first) 57) (and-left (is-digit (c .first)) _ last)) in
+          absurd (omega (arith, ltb-false (c .first) 128 (missing-high (c .first) (omega (arith, c .long)))))
+
+  -- how far a character is read, read back off its number
+  part-back : {s : Style} {f : Field} {raw : List ℕ} (p : Part) → Raw s f raw p → (p ≡ fresh → ⊥) → text-part (part-number p) ≡ p
+  part-back fresh r n = absurd (n refl)
+  part-back back r n = refl
+  part-back (led y) r n = let h = ltb-false y 128 (missing-high y (r .part .0)) in rw (ne-eqb y 92 (omega arith), ne-eqb y 0 (omega arith), le-ltb y 3 (omega arith))
+  part-back (tails k) r n =
+      let c = r .part in
+      let few = missing-few (c .first) in
+      rw (ne-eqb k 92 (omega (arith, c .long)), ne-eqb k 0 (λ e. omega (arith, c .some-left)), lt-ltb k 3 (omega (arith, c .long)))
+
+  show-in-name : (h : Head) (raw : List ℕ) (p : Part) (x n : ℕ) → NameOk ver h raw p → scan-step (view n (name h raw p)) x ≡ seen n (at-name ver h raw p x)
+  unfolding scan-step
+  show-in-name h raw fresh x n ok = show-name h raw fresh fresh x n
+  show-in-name h raw back x n ok = show-name h raw back back x n
+  show-in-name h raw (led y) x n ok = rw (part-back (led y) (ok .text) (λ e. let z : _≡_ {A = ℕ} 0 1 = cc in omega arith)) (show-name h raw (led y) (led y) x n)
+  show-in-name h raw (tails k) x n ok = rw (part-back (tails k) (ok .text) (λ e. let z : _≡_ {A = ℕ} 0 1 = cc in omega arith)) (show-name h raw (tails k) (tails k) x n)
 
   show-in-value : (h : Head) (m raw : List ℕ) (p : Part) (x n : ℕ) → ValueOk ver h m raw p → scan-step (view n (value h m raw p)) x ≡ seen n (at-value ver h m raw p x)
   unfolding scan-step
@@ -254,8 +297,12 @@ module _ (ver : Version) where
       by : (p : Part) → ValueOk ver h m raw p → (t : Bool) → watched h m ≡ t → scan-step (view n (value h m raw p)) x ≡ seen n (at-value ver h m raw p x)
       by fresh ok true w = rw w (show-length h m raw x n w (ok .len w))
       by fresh ok false w = rw w (show-value h m raw fresh x n w)
-      by back ok true w = absurd (no-back h m raw ok w)
+      by back ok true w = let e = no-part h m raw back ok w in let z : _≡_ {A = ℕ} 0 1 = cc in absurd (omega arith)
       by back ok false w = rw w (show-value h m raw back x n w)
+      by (led y) ok true w = let e = no-part h m raw (led y) ok w in let z : _≡_ {A = ℕ} 0 1 = cc in absurd (omega arith)
+      by (led y) ok false w = rw (w, part-back (led y) (ok .text) (λ e. let z : _≡_ {A = ℕ} 0 1 = cc in omega arith)) (show-value h m raw (led y) x n w)
+      by (tails k) ok true w = let e = no-part h m raw (tails k) ok w in let z : _≡_ {A = ℕ} 0 1 = cc in absurd (omega arith)
+      by (tails k) ok false w = rw (w, part-back (tails k) (ok .text) (λ e. let z : _≡_ {A = ℕ} 0 1 = cc in omega arith)) (show-value h m raw (tails k) x n w)
 
   shows : (s : Open) (x n : ℕ) → Ok ver s → n ≡ length (so-far s) → scan-step (view n s) x ≡ seen n (step ver s x)
   unfolding scan-step
@@ -264,8 +311,7 @@ module _ (ver : Version) where
   shows (command raw) x n ok e = show-word raw x n _ (rw e (word-read ver raw ok))
   shows (command-13 c) x n ok e = simp seen-cond
   shows (begin h) x n ok e = show-begin h x n
-  shows (name h raw fresh) x n ok e = show-name h raw fresh fresh x n
-  shows (name h raw back) x n ok e = show-name h raw back back x n
+  shows (name h raw p) x n ok e = show-in-name h raw p x n ok
   shows (value h m raw p) x n ok e = show-in-value h m raw p x n ok
   shows (line-13 h m v) x n ok e = simp seen-cond
   shows (blank-13 h) x n ok e = simp seen-cond
@@ -301,11 +347,15 @@ module _ (ver : Version) where
   open-reply n (begin h) = refl
   open-reply n (name h raw fresh) = refl
   open-reply n (name h raw back) = refl
+  open-reply n (name h raw (led y)) = refl
+  open-reply n (name h raw (tails k)) = refl
   open-reply n (value h m raw p) = cond-case (λ st. scan-reply st ≡ reply.Incomplete) (watched h m) (λ t. refl) (λ t. in-value p)
     where
-      in-value : (p : Part) → scan-reply (shown (value-phase p) h 0 (size-of (declared (h .entries))) (length m + 1 + length raw) n) ≡ reply.Incomplete
+      in-value : (p : Part) → scan-reply (shown-in (value-phase p) h 0 (size-of (declared (h .entries))) (length m + 1 + length raw) n (part-number p)) ≡ reply.Incomplete
       in-value fresh = refl
       in-value back = refl
+      in-value (led y) = refl
+      in-value (tails k) = refl
   open-reply n (line-13 h m v) = refl
   open-reply n (blank-13 h) = refl
   open-reply n (body h e b) = cond-case (λ p. scan-reply (shown p h 0 (size-of (declared (h .entries))) (length b) n) ≡ reply.Incomplete) (sized-of (declared (h .entries))) (λ t. refl) (λ t. refl)

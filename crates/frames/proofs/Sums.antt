@@ -17,7 +17,7 @@ use Rattle.headers.specs.Rows.{empty, every}
 use Rattle.headers.specs.Block.{Entry, image, entries, listed, record-length, front-entry, behind}
 use Rattle.headers.specs.Stretches.{unescaped, plain-line}
 use Rattle.headers.specs.Answers.{is-block}
-use Rattle.headers.specs.Lines.{raw-line, written-line, can-write}
+use Rattle.headers.specs.Lines.{raw-line, written-line, can-stand, can-write}
 use Rattle.headers.specs.Escapes.{encode, writable}
 use Rattle.headers.specs.declared.text.Style.{Style}
 use Rattle.headers.specs.declared.text.Field.the-variants.{Name as in-name, Value as in-value}
@@ -44,7 +44,7 @@ pub record Summing (s : Style) (es left : List Entry) (count good total : ℕ) :
 can-short : (s : Style) (e : Entry) → can-write s e ≡ true → length (raw-line s e) ≤ 512
 can-short s e h =
     leb-true (length (raw-line s e)) 512
-    (and-right (every (writable s in-value) (e .value)) _ (and-right (every (writable s in-name) (e .name)) _ (and-right (not (empty (e .name))) _ h)))
+    (and-right (can-stand s in-value (e .value)) _ (and-right (can-stand s in-name (e .name)) _ (and-right (not (empty (e .name))) _ h)))
 
 module _ (s : Style) (es : List Entry) where
   pub sum-start : Summing s es es 0 0 0

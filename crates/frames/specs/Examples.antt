@@ -4,7 +4,7 @@
 use mathlib.Core.Path.{_≡_}
 use mathlib.Core.Bool.{Bool, true, false}
 use mathlib.Core.Option.{Option, none, some}
-use mathlib.Core.List.{List, [], _∷_}
+use mathlib.Core.List.{List, [], _∷_, _++_}
 use Prim.Native.Nat.{ℕ}
 use Prim.Native.String.{String}
 use lib.ListN.{take, drop}
@@ -33,9 +33,12 @@ pub record Example : Type 0 where
 abbrev parses : String → List ℕ → Reply → Example
 parses label input reply = record { label = label; input = input; reply = reply; block = none; images = []; looked-up = none }
 
+abbrev with-octets : String → List ℕ → Example → Example
+with-octets name value e =
+    record { label = e .label; input = e .input; reply = e .reply; block = e .block; images = e .images; looked-up = some (octets-of name, value) }
+
 abbrev finding : String → String → Example → Example
-finding name value e =
-    record { label = e .label; input = e .input; reply = e .reply; block = e .block; images = e .images; looked-up = some (octets-of name, octets-of value) }
+finding name value e = with-octets name (octets-of value) e
 
 unfoldable pub examples : List Example
 examples =
@@ -76,6 +79,23 @@ examples =
     parses "C-12, a second colon in STOMP" (octets-of "STOMP\npasscode:a:") (Invalid 8 16) ∷
     parses "C-12, empty name in CONNECT" (octets-of "CONNECT\n:") (Invalid 3 8) ∷
     parses "C-12, colon after a content-length" (octets-of "CONNECT\ncontent-length:0:") (Invalid 6 24) ∷
+    with-octets "id" (195 ∷ 169 ∷ []) (parses "C-17, two octets" (octets-of "ACK\nid:" ++ (195 ∷ 169 ∷ octets-of "\n\n\0")) (Complete 2 12 2 1 11 0)) ∷
+    with-octets "id" (226 ∷ 130 ∷ 172 ∷ []) (parses "C-17, three octets" (octets-of "ACK\nid:" ++ (226 ∷ 130 ∷ 172 ∷ octets-of "\n\n\0")) (Complete 2 13 2 1 12 0)) ∷
+    with-octets "id" (240 ∷ 159 ∷ 140 ∷ 138 ∷ [])
+    (parses "C-17, four octets" (octets-of "ACK\nid:" ++ (240 ∷ 159 ∷ 140 ∷ 138 ∷ octets-of "\n\n\0")) (Complete 2 14 2 1 13 0)) ∷
+    parses "C-17, a character that is not whole" (octets-of "ACK\nid:" ++ (226 ∷ 130 ∷ [])) Incomplete ∷
+    parses "C-17, a cut character" (octets-of "ACK\nid:" ++ (195 ∷ octets-of "\n")) (Invalid 11 8) ∷
+    parses "C-17, an octet of no character" (octets-of "ACK\nid:" ++ (255 ∷ [])) (Invalid 11 7) ∷
+    parses "C-17, a tail alone, in a name" (octets-of "ACK\n" ++ (128 ∷ [])) (Invalid 11 4) ∷
+    parses "C-17, longer than it need be" (octets-of "ACK\nid:" ++ (224 ∷ 159 ∷ [])) (Invalid 11 8) ∷
+    parses "C-17, half of a surrogate pair" (octets-of "ACK\nid:" ++ (237 ∷ 160 ∷ [])) (Invalid 11 8) ∷
+    parses "C-17, beyond U+10FFFF" (octets-of "ACK\nid:" ++ (244 ∷ 144 ∷ [])) (Invalid 11 8) ∷
+    parses "C-17, no character after a backslash" (octets-of "ACK\nid:\\" ++ (255 ∷ [])) (Invalid 11 8) ∷
+    parses "C-17, a character after a backslash" (octets-of "ACK\nid:\\" ++ (195 ∷ [])) (Invalid 10 8) ∷
+    parses "C-17, no character after 13" (octets-of "ACK\r" ++ (255 ∷ [])) (Invalid 2 4) ∷
+    parses "C-17, no character in a content-length" (octets-of "SEND\ncontent-length:" ++ (255 ∷ [])) (Invalid 11 20) ∷
+    parses "C-17, a character in a content-length" (octets-of "SEND\ncontent-length:" ++ (195 ∷ [])) (Invalid 6 20) ∷
+    parses "C-17, a body is not checked" (octets-of "SEND\n\n" ++ (255 ∷ 0 ∷ [])) (Complete 2 8 12 0 6 1) ∷
     []
 
 -- ---- What an example claims

@@ -10,7 +10,7 @@ use Rattle.headers.specs.Stretches.{span, plain-in}
 
 -- how many octets are before the first 10, 13 or c
 abbrev pub stop-span : ℕ → List ℕ → ℕ
-stop-span c xs = span (plain-in (record { colon = c; back = 10 })) xs
+stop-span c xs = span (plain-in (record { cr = 13; colon = c; back = 10; top = 255 })) xs
 
 -- what follows a line end at the front
 abbrev pub end-width : List ℕ → ℕ

@@ -16,18 +16,18 @@ mark true = 1
 mark false = 0
 
 -- phase, command, lines, octets matched, whether a length is declared, number, then two octets each, high first: length, octets of
--- the line or body, octets of the item; and four that are 0
+-- the line or body, octets of the item; two that are 0, how far a character is read, and one that is 0
 unfoldable pub record-of : Scan → List ℕ
 record-of st =
     st .phase ∷ st .command % 256 ∷ st .lines % 256 ∷ st .matched % 256 ∷ mark (st .sized) ∷ st .code % 256
     ∷ st .size / 256 % 256 ∷ st .size % 256 ∷ st .len / 256 % 256 ∷ st .len % 256 ∷ st .at / 256 % 256 ∷ st .at % 256
-    ∷ 0 ∷ 0 ∷ 0 ∷ 0 ∷ []
+    ∷ 0 ∷ 0 ∷ st .rest ∷ 0 ∷ []
 
 -- which octets are such a record
 unfoldable pub is-record : List ℕ → Bool
 is-record xs =
     eqb (length xs) 16
-    && (leb (getD xs 4 0) 1 && (eqb (getD xs 12 0) 0 && (eqb (getD xs 13 0) 0 && (eqb (getD xs 14 0) 0 && eqb (getD xs 15 0) 0))))
+    && (leb (getD xs 4 0) 1 && (eqb (getD xs 12 0) 0 && (eqb (getD xs 13 0) 0 && eqb (getD xs 15 0) 0)))
 
 abbrev pub pair-at : List ℕ → ℕ → ℕ
 pair-at xs i = getD xs i 0 * 256 + getD xs (i + 1) 0
@@ -44,11 +44,12 @@ fields xs =
       size = pair-at xs 6;
       len = pair-at xs 8;
       at = pair-at xs 10;
+      rest = getD xs 14 0;
     }
 
 -- other octets count as a record of no known phase, which 71 refuses
 abbrev pub no-record : Scan
-no-record = record { phase = 255; command = 0; lines = 0; matched = 0; sized = false; size = 0; len = 0; at = 0; code = 0 }
+no-record = record { phase = 255; command = 0; lines = 0; matched = 0; sized = false; size = 0; len = 0; at = 0; code = 0; rest = 0 }
 
 unfoldable pub read-record : List ℕ → Scan
 read-record xs = cond (is-record xs) (fields xs) no-record

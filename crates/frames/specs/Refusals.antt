@@ -10,7 +10,7 @@ use Prim.Native.Nat.{ℕ, _+_}
 use lib.ListN.{length}
 use lib.Dec.{eqb, leb, ltb}
 use Rattle.headers.specs.Rows.{begins, empty, any, first-of, All}
-use Rattle.headers.specs.Text.{divides, Part, fresh, Fault, of-escape, fault, owing}
+use Rattle.headers.specs.Text.{divides, Part, fresh, Fault, of-utf8, of-escape, fault, owing}
 use Rattle.headers.specs.declared.text.Field.{Field}
 use Rattle.headers.specs.declared.text.Field.the-variants.{Name as in-name, Value as in-value}
 use Rattle.headers.specs.Numbers.{is-digit, decimal}
@@ -110,16 +110,18 @@ used-up none b = false
 used-up (some v) b = leb (decimal 0 v) (length b)
 
 pub data Reason : Type 0 where
-  no-command no-10 wrong-escape nameless second-colon no-colon long-line many-lines bad-length past-body : Reason
+  no-command no-10 not-utf8 wrong-escape nameless second-colon no-colon long-line many-lines bad-length past-body : Reason
 
--- "8 second colon, 9 line end before the colon, 10 wrong or cut escape; at one octet the order is 1, 2, 10, 3, 8, 9, 4 to 7": the
--- reasons in that order, and each reason's number (`order-numbers`, proofs/Unique.antt, has the list of the numbers).
+-- "8 second colon, 9 line end before the colon, 10 wrong or cut escape; at one octet the order is 1, 2, 10, 3, 8, 9, 4 to 7" (C-11), "11
+-- .. for an octet that no character has there, between 2 and 10" (C-17): the reasons in that order, and each reason's number
+-- (`order-numbers`, proofs/Unique.antt, has the list of the numbers).
 abbrev pub order : List Reason
-order = no-command ∷ no-10 ∷ wrong-escape ∷ nameless ∷ second-colon ∷ no-colon ∷ long-line ∷ many-lines ∷ bad-length ∷ past-body ∷ []
+order = no-command ∷ no-10 ∷ not-utf8 ∷ wrong-escape ∷ nameless ∷ second-colon ∷ no-colon ∷ long-line ∷ many-lines ∷ bad-length ∷ past-body ∷ []
 
 abbrev pub numbered : Reason → ℕ
 numbered no-command = 1
 numbered no-10 = 2
+numbered not-utf8 = 11
 numbered wrong-escape = 10
 numbered nameless = 3
 numbered second-colon = 8
@@ -131,13 +133,14 @@ numbered past-body = 7
 
 -- what header text calls at fault
 abbrev pub faulty : Fault → Reason
+faulty of-utf8 = not-utf8
 faulty of-escape = wrong-escape
 
 module _ (ver : Version) where
   abbrev pub fault-of : Begun → ℕ → Fault → Bool
   fault-of l x = fault (style ver (l .head .command)) (field (l .value)) (l .part) x
 
-  -- what the line still owes after the octet: a missing colon 1, an unfinished escape 1
+  -- what the line still owes after the octet: a missing colon 1, an unfinished escape 1, an unfinished character its missing octets
   abbrev pub owed : Begun → ℕ → ℕ
   owed l x = cond (before-colon (l .value) && not (eqb x 58)) 1 0 + owing (style ver (l .head .command)) (field (l .value)) (l .part) x
 
@@ -147,6 +150,8 @@ module _ (ver : Version) where
   fits s x no-command = at-command (position s) (λ w. not (some-command (w ++ (x ∷ []))) && not (empty w && ends x))
   -- 2: follows 13 and is not 10
   fits s x no-10 = at-13 (position s) (not (eqb x 10))
+  -- 11: an octet that no character has there
+  fits s x not-utf8 = at-line (position s) (λ l. fault-of l x of-utf8)
   -- 10: wrong or cut escape
   fits s x wrong-escape = at-line (position s) (λ l. fault-of l x of-escape)
   -- 3: colon with an empty name

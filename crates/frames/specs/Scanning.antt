@@ -8,7 +8,8 @@ use Prim.Native.Nat.{ℕ, _+_, _-_, _*_, _≤_, _<_}
 use lib.ListN.{length, take, drop, getD}
 use lib.Dec.{eqb, leb, ltb}
 use Rattle.headers.specs.Rows.{same, begins}
-use Rattle.headers.specs.Text.{divides, Part, fresh, back, owes, Into, into, bad, stop, reads}
+use Rattle.headers.specs.Text.{divides, missing, Part, fresh, back, led, tails, owes, Into, into, bad, stop, reads}
+use Rattle.headers.specs.Characters.{part-number, text-part, is-begun}
 use Rattle.headers.specs.Numbers.{is-digit, digit-value}
 use Rattle.headers.specs.Lines.{line-max, content-length}
 use Rattle.headers.specs.declared.plain.Stops.{Stops}
@@ -26,8 +27,8 @@ use Rattle.frames.specs.declared.state.Scan.{Scan}
 --      0 at the start                      1 after the 13 of a heart-beat
 --      2 in a command                      3 after the 13 of its line end
 --      4 where a line or the empty line begins
---      5 in a name                         6 after a backslash in it
---      7 in a value                        8 after a backslash in it
+--      5 in a name                         6 inside a character of it
+--      7 in a value                        8 inside a character of it
 --      9 in the first content-length      10 after the 13 of a line's end     11 after the 13 of the empty line
 --     12 in a body without a length       13 in a body with one
 --     14 a heart-beat is read             15 a frame is read                  16 refused
@@ -62,32 +63,39 @@ advance m x = cond (ltb m 14 && eqb x (getD content-length m 0)) (m + 1) 15
 abbrev pub name-phase : Part → ℕ
 name-phase fresh = 5
 name-phase back = 6
+name-phase (led x) = 6
+name-phase (tails n) = 6
 
 abbrev pub value-phase : Part → ℕ
 value-phase fresh = 7
 value-phase back = 8
+value-phase (led x) = 8
+value-phase (tails n) = 8
 
 -- Where an octet leads. It is read, and the next stands at a phase; or it is refused.
 module _ (st : Scan) where
   abbrev pub to-phase : ℕ → ℕ → Scan
-  to-phase p c = record { phase = p; command = c; lines = 0; matched = 0; sized = false; size = 0; len = 0; at = st .at + 1; code = 0 }
+  to-phase p c = record { phase = p; command = c; lines = 0; matched = 0; sized = false; size = 0; len = 0; at = st .at + 1; code = 0; rest = 0 }
 
   -- in a head that has so many lines and that length
   abbrev pub in-head : ℕ → ℕ → Bool → ℕ → Scan
-  in-head p n z s = record { phase = p; command = st .command; lines = n; matched = 0; sized = z; size = s; len = 0; at = st .at + 1; code = 0 }
+  in-head p n z s = record { phase = p; command = st .command; lines = n; matched = 0; sized = z; size = s; len = 0; at = st .at + 1; code = 0; rest = 0 }
 
-  -- in a line of that head, or in a body
+  -- in a line of that head, in a character that is read as far as r; or in a body
+  abbrev pub in-part : ℕ → ℕ → ℕ → ℕ → ℕ → Scan
+  in-part p m s n r = record { phase = p; command = st .command; lines = st .lines; matched = m; sized = st .sized; size = s; len = n; at = st .at + 1; code = 0; rest = r }
+
   abbrev pub in-line : ℕ → ℕ → ℕ → ℕ → Scan
-  in-line p m s n = record { phase = p; command = st .command; lines = st .lines; matched = m; sized = st .sized; size = s; len = n; at = st .at + 1; code = 0 }
+  in-line p m s n = in-part p m s n 0
 
   abbrev pub beat-read : Scan
   beat-read = to-phase 14 0
 
   abbrev pub frame-read : Scan
-  frame-read = record { phase = 15; command = st .command; lines = st .lines; matched = 0; sized = false; size = 0; len = st .len; at = st .at + 1; code = 0 }
+  frame-read = record { phase = 15; command = st .command; lines = st .lines; matched = 0; sized = false; size = 0; len = st .len; at = st .at + 1; code = 0; rest = 0 }
 
   abbrev pub invalid : ℕ → Scan
-  invalid k = record { phase = 16; command = 0; lines = 0; matched = 0; sized = false; size = 0; len = 0; at = st .at; code = k }
+  invalid k = record { phase = 16; command = 0; lines = 0; matched = 0; sized = false; size = 0; len = 0; at = st .at; code = k; rest = 0 }
 
   -- the empty line is read
   abbrev pub body-begins : Scan
@@ -113,7 +121,7 @@ module _ (st : Scan) where
   value-begins = cond (not (st .sized) && eqb (st .matched) 14) (in-line 9 0 0 (st .len + 1)) (in-line 7 0 (st .size) (st .len + 1))
 
   abbrev pub on-name-by : ℕ → Into → Scan
-  on-name-by x (into p) = cond (leb (st .len + 1 + owes p + 1) line-max) (in-line (name-phase p) (advance (st .matched) x) (st .size) (st .len + 1)) (invalid (numbered long-line))
+  on-name-by x (into p) = cond (leb (st .len + 1 + owes p + 1) line-max) (in-part (name-phase p) (advance (st .matched) x) (st .size) (st .len + 1) (part-number p)) (invalid (numbered long-line))
   on-name-by x (bad i) = invalid (numbered (faulty i))
   on-name-by x stop =
       cond (eqb x 58)
@@ -123,12 +131,28 @@ module _ (st : Scan) where
   unfoldable pub on-name : Part → ℕ → Scan
   on-name p x = on-name-by x (reads (style-of (st .command)) in-name p x)
 
+  -- a line more than there may be
+  abbrev pub on-more : Into → Scan
+  on-more (into p) = invalid (numbered many-lines)
+  on-more (bad i) = invalid (numbered (faulty i))
+  on-more stop = invalid (numbered many-lines)
+
   unfoldable pub on-begin : ℕ → Scan
   on-begin x =
       cond (eqb x 10) body-begins
       (cond (eqb x 13) (in-head 11 (st .lines) (st .sized) (st .size))
       (cond (eqb x 58) (invalid (numbered nameless))
-      (cond (ltb (st .lines) lines-max) (on-name fresh x) (invalid (numbered many-lines)))))
+      (cond (ltb (st .lines) lines-max) (on-name fresh x) (on-more (reads (style-of (st .command)) in-name fresh x)))))
+
+  -- An octet of a character of a line that has fewer than m octets, by what it does: where the character is whole the next stands at phase w,
+  -- inside it at phase p; n octets of the name match.
+  abbrev pub in-character : ℕ → ℕ → ℕ → ℕ → Into → Scan
+  in-character m w p n (into fresh) = cond (ltb (st .len) m) (in-line w n (st .size) (st .len + 1)) (invalid (numbered long-line))
+  in-character m w p n (into back) = cond (ltb (st .len) (m - 1)) (in-part p n (st .size) (st .len + 1) 92) (invalid (numbered long-line))
+  in-character m w p n (into (led x)) = cond (ltb (st .len) (m - missing x)) (in-part p n (st .size) (st .len + 1) x) (invalid (numbered long-line))
+  in-character m w p n (into (tails k)) = cond (ltb (st .len) (m - k)) (in-part p n (st .size) (st .len + 1) k) (invalid (numbered long-line))
+  in-character m w p n (bad i) = invalid (numbered (faulty i))
+  in-character m w p n stop = st
 
   -- the line is read: it declares the length, or does not
   abbrev pub line-read : ℕ → Bool → ℕ → Scan
@@ -137,7 +161,7 @@ module _ (st : Scan) where
       (cond (eqb x 13) (in-head 10 (st .lines + 1) z s) (invalid (numbered second-colon)))
 
   abbrev pub on-value-by : ℕ → Into → Scan
-  on-value-by x (into p) = cond (leb (st .len + 1 + owes p) line-max) (in-line (value-phase p) 0 (st .size) (st .len + 1)) (invalid (numbered long-line))
+  on-value-by x (into p) = cond (leb (st .len + 1 + owes p) line-max) (in-part (value-phase p) 0 (st .size) (st .len + 1) (part-number p)) (invalid (numbered long-line))
   on-value-by x (bad i) = invalid (numbered (faulty i))
   on-value-by x stop = cond (eqb x 58) (invalid (numbered second-colon)) (line-read x (st .sized) (st .size))
 
@@ -188,8 +212,8 @@ scan-step st x =
     (cond (eqb (st .phase) 13) (on-counted st x)
     (cond (eqb (st .phase) 2) (on-word st x)
     (cond (eqb (st .phase) 9) (on-length st x)
-    (cond (eqb (st .phase) 8) (on-value st back x)
-    (cond (eqb (st .phase) 6) (on-name st back x)
+    (cond (eqb (st .phase) 8) (on-value st (text-part (st .rest)) x)
+    (cond (eqb (st .phase) 6) (on-name st (text-part (st .rest)) x)
     (cond (eqb (st .phase) 10) (on-10 st (in-head st 4 (st .lines) (st .sized) (st .size)) x)
     (cond (eqb (st .phase) 11) (on-10 st (body-begins st) x)
     (cond (eqb (st .phase) 0) (on-start st x)
@@ -202,7 +226,7 @@ scan st (x ∷ xs) = scan (scan-step st x) xs
 
 -- before the first octet
 abbrev pub nothing-read : Scan
-nothing-read = record { phase = 0; command = 0; lines = 0; matched = 0; sized = false; size = 0; len = 0; at = 0; code = 0 }
+nothing-read = record { phase = 0; command = 0; lines = 0; matched = 0; sized = false; size = 0; len = 0; at = 0; code = 0; rest = 0 }
 
 -- what a state replies
 abbrev pub scan-reply : Scan → Reply
@@ -254,6 +278,8 @@ pub record Valid (st : Scan) : Type 0 where
   pub no-lines : st .phase < 4 → st .lines ≡ 0
   pub clean-code : st .phase < 16 → st .code ≡ 0
   pub clean-match : 6 < st .phase → st .matched ≡ 0
+  pub clean-rest : (st .phase ≡ 6 → ⊥) → (st .phase ≡ 8 → ⊥) → st .rest ≡ 0
+  pub under-way : eqb (st .phase) 6 || eqb (st .phase) 8 ≡ true → is-begun (style-of (st .command)) (st .rest) ≡ true
   pub clean-size : st .sized ≡ false → (st .phase ≡ 9 → ⊥) → st .size ≡ 0
   pub unsized : st .phase ≡ 12 → st .sized ≡ false
 
@@ -261,14 +287,14 @@ pub record Valid (st : Scan) : Type 0 where
 
 -- what ends a stretch of header text beside 10 and 13: a colon and a backslash, or 10 again in the place of one that does not
 abbrev pub text-stops : Style → Field → Stops
-text-stops s f = record { colon = cond (divides s f) 58 10; back = cond (s .escapes) 92 10 }
+text-stops s f = record { cr = 13; colon = cond (divides s f) 58 10; back = cond (s .escapes) 92 10; top = 127 }
 
 abbrev pub not-zero : ℕ → Bool
 not-zero x = not (eqb x 0)
 
 -- the state k octets on, in the same phase
 abbrev pub skip : ℕ → Scan → Scan
-skip k st = record { phase = st .phase; command = st .command; lines = st .lines; matched = st .matched; sized = st .sized; size = st .size; len = st .len + k; at = st .at + k; code = st .code }
+skip k st = record { phase = st .phase; command = st .command; lines = st .lines; matched = st .matched; sized = st .sized; size = st .size; len = st .len + k; at = st .at + k; code = st .code; rest = st .rest }
 
 -- k octets of xs from i on can be passed at a go
 pub record Ahead (xs : List ℕ) (i : ℕ) (st : Scan) (k : ℕ) : Type 0 where

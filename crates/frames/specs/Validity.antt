@@ -4,8 +4,9 @@ use mathlib.Core.List.{List, [], _∷_}
 use Prim.Native.Nat.{ℕ, _+_, _*_}
 use lib.ListN.{length, getD}
 use lib.Dec.{eqb, leb, ltb}
+use Rattle.headers.specs.Characters.{is-begun}
 use Rattle.frames.specs.declared.state.Scan.{Scan}
-use Rattle.frames.specs.Scanning.{most-of, word-of, len-max, line-open, outside}
+use Rattle.frames.specs.Scanning.{style-of, most-of, word-of, len-max, line-open, outside}
 
 -- by a command's number, how many letters tell its word from those of the commands before it; 0 is no command
 abbrev pub leasts : List ℕ
@@ -33,7 +34,8 @@ module _ (st : Scan) where
       && (not (eqb (st .phase) 12) || leb (st .len) (most-of (st .command)))
       && (not (eqb (st .phase) 13) || leb (st .len) (st .size))
 
-  -- what most phases do not use is 0 there: lines, the number of a refusal, the octets matched, a length; the rest is not looked at
+  -- what most phases do not use is 0 there: lines, the number of a refusal, the octets matched, a length, how far a character is read;
+  -- inside a character that is such as a run can leave; the rest is not looked at
   abbrev pub is-clean : Bool
   is-clean =
       (not (ltb (st .phase) 4) || eqb (st .lines) 0)
@@ -41,6 +43,8 @@ module _ (st : Scan) where
       && (not (ltb 6 (st .phase)) || eqb (st .matched) 0)
       && (st .sized || (eqb (st .phase) 9 || eqb (st .size) 0))
       && (not (eqb (st .phase) 12) || not (st .sized))
+      && (eqb (st .phase) 6 || (eqb (st .phase) 8 || eqb (st .rest) 0))
+      && (not (eqb (st .phase) 6 || eqb (st .phase) 8) || is-begun (style-of (st .command)) (st .rest))
 
   unfoldable pub is-valid : Bool
   is-valid = is-small && is-so-far && is-clean

@@ -2,9 +2,10 @@
 ghost use mathlib.Core.Path.{_≡_};
 ghost use mathlib.Core.Bool.{_&&_};
 ghost use Prim.Native.Nat.{_+_, _≤_, _<_};
-ghost use lib.ListN.{length, drop};
+ghost use lib.ListN.{length, take, drop};
 ghost use Rattle.headers.specs.Rows.{every};
 ghost use Rattle.headers.specs.Stretches.{span};
+ghost use Rattle.headers.specs.Text.{Text};
 ghost use Rattle.frames.specs.Scanning.{Valid, Ahead, text-stops, not-zero, skip};
 ghost use Rattle.headers.specs.declared.text.Field.the-variants.{Name, Value};
 use crate::state::Scan;
@@ -18,13 +19,17 @@ pub(crate) fn name_stops(style: Style) -> Stops
 {
     if style.escapes {
         return Stops {
+            cr: 13,
             colon: 58,
             back: 92,
+            top: 127,
         };
     }
     Stops {
+        cr: 13,
         colon: 58,
         back: 10,
+        top: 127,
     }
 }
 
@@ -34,13 +39,17 @@ fn value_stops(style: Style) -> Stops
 {
     if style.escapes {
         return Stops {
+            cr: 13,
             colon: 58,
             back: 92,
+            top: 127,
         };
     }
     Stops {
+        cr: 13,
         colon: 10,
         back: 10,
+        top: 127,
     }
 }
 
@@ -180,7 +189,27 @@ pub(crate) fn upto(i: usize, room: usize, n: usize) -> usize
     if n - i < room { n } else { i + room }
 }
 
-// How many octets of s from i on a value takes, whole escapes among them.
+// How many octets at the front of s are a whole escape, or whole characters of more than one octet; 0 where none is there.
+fn beyond_plain(s: &[u8], style: Style) -> usize
+    ensures { λ r. ⌜ (r ≤ length (now (s .entry))) × Text style Value (take r (now (s .entry))) ⌝ }
+{
+    if s.len() < 2 {
+        return 0;
+    }
+    if 127 < s[0] {
+        return headers::wide_span(s);
+    }
+    if !headers::is_open(style, s[0]) {
+        return 0;
+    }
+    if headers::is_letter(style, s[1]) {
+        2
+    } else {
+        0
+    }
+}
+
+// How many octets of s from i on a value takes, whole characters among them.
 pub(crate) fn value_span(s: &[u8], i: usize, st: Scan) -> usize
     requires { ⌜ (i ≤ length (now s)) × Valid st × (st .phase ≡ 7) ⌝ }
     ensures { λ r. ⌜ Ahead (now (s .entry)) i st r ⌝ }
@@ -189,14 +218,12 @@ pub(crate) fn value_span(s: &[u8], i: usize, st: Scan) -> usize
     let stops = value_stops(style);
     let e = upto(i, crate::limits::LINE - st.len, s.len());
     let mut j = i + plain_span(&s[i..e], stops);
-    while 2 <= e - j {
-        if !headers::is_open(style, s[j]) {
+    while j < e {
+        let k = beyond_plain(&s[j..e], style);
+        if k == 0 {
             return j - i;
         }
-        if !headers::is_letter(style, s[j + 1]) {
-            return j - i;
-        }
-        let f = j + 2;
+        let f = j + k;
         j = f + plain_span(&s[f..e], stops);
     }
     j - i
@@ -217,5 +244,6 @@ pub(crate) fn skip(st: Scan, k: usize) -> Scan
         len: st.len + k,
         at: st.at + k,
         code: st.code,
+        rest: st.rest,
     }
 }

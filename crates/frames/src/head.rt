@@ -1,19 +1,21 @@
 // The steps for the octets of a head: of a name, of a value, of the first content-length, and of the line ends between them.
 ghost use mathlib.Core.Path.{_≡_};
 ghost use mathlib.Core.Bool.{true, cond};
-ghost use Prim.Native.Nat.{_+_, _<_};
+ghost use Prim.Native.Nat.{_+_, _≤_, _<_};
 ghost use lib.Dec.{ltb};
 ghost use lib.ListN.{getD};
 ghost use Rattle.headers.specs.Lines.{content-length};
-ghost use Rattle.headers.specs.Text.{fresh, is-letter};
-ghost use Rattle.frames.specs.Refusals.{numbered, long-line, wrong-escape};
-ghost use Rattle.frames.specs.Scanning.{Bounded, style-of, in-line, invalid, advance, value-begins, body-begins, line-read, nameless-at};
+ghost use Rattle.headers.specs.Text.{fresh, is-letter, starts, utf8-reads};
+ghost use Rattle.headers.specs.Characters.{utf8-part, text-part};
+ghost use Rattle.frames.specs.Refusals.{numbered, long-line, not-utf8, wrong-escape};
+ghost use Rattle.frames.specs.Scanning.{Bounded, style-of, in-line, in-part, in-character, invalid, advance, value-begins, body-begins, line-read, nameless-at};
 ghost use Rattle.frames.specs.Scanning.{on-name, on-begin, on-value, on-digit, on-length};
 use crate::limits;
 use crate::parse::Refusal;
 use crate::state::Scan;
 use crate::state::in_head;
 use crate::state::in_line;
+use crate::state::in_part;
 use crate::state::refused;
 use crate::word::most_of;
 use crate::word::style_of;
@@ -90,6 +92,34 @@ fn grow(st: Scan, most: usize, phase: u8, matched: usize) -> Scan
     refused(st, Refusal::LONG_LINE)
 }
 
+// The same inside a character, which is read as far as rest says after it.
+fn grow_part(st: Scan, most: usize, phase: u8, matched: usize, rest: u8) -> Scan
+    requires { ⌜ Bounded st ⌝ }
+    ensures { λ r. ⌜ r ≡ cond (ltb (st .len) most) (in-part st phase matched (st .size) (st .len + 1) rest) (invalid st (numbered long-line)) ⌝ }
+{
+    if st.len < most {
+        return in_part(st, phase, matched, st.size, st.len + 1, rest);
+    }
+    refused(st, Refusal::LONG_LINE)
+}
+
+// An octet of UTF-8, in a character that is read as far as rest says, in a line that has fewer than most octets: the next is at phase
+// whole where the character is read, at phase inside where it is not.
+fn on_utf8(st: Scan, rest: u8, most: usize, whole: u8, inside: u8, matched: usize, x: u8) -> Scan
+    requires { ⌜ Bounded st × (3 ≤ most) ⌝ }
+    ensures { λ r. ⌜ r ≡ in-character st most whole inside matched (utf8-reads (utf8-part rest) x) ⌝ }
+{
+    let next = headers::utf8_next(rest, x);
+    if next == 255 {
+        return refused(st, Refusal::NOT_UTF8);
+    }
+    if next == 0 {
+        return grow(st, most, whole, matched);
+    }
+    let owed = headers::utf8_owes(next) as usize;
+    grow_part(st, most - owed, inside, matched, next)
+}
+
 pub(crate) fn on_name(st: Scan, x: u8) -> Scan
     requires { ⌜ Bounded st ⌝ }
     ensures { λ r. ⌜ r ≡ on-name st fresh x ⌝ }
@@ -106,22 +136,79 @@ pub(crate) fn on_name(st: Scan, x: u8) -> Scan
     }
     let matched = advance(st.matched, x);
     if headers::is_open(style, x) {
-        return grow(st, limits::NAME_BEFORE_ESCAPE, Scan::NAME_ESCAPE, matched);
+        return grow_part(st, limits::NAME_BEFORE_ESCAPE, Scan::NAME_PART, matched, 92);
     }
-    grow(st, limits::NAME, Scan::IN_NAME, matched)
+    on_utf8(
+        st,
+        0,
+        limits::NAME,
+        Scan::IN_NAME,
+        Scan::NAME_PART,
+        matched,
+        x,
+    )
 }
 
 // An octet after a backslash: one more where it is the letter of an escape.
-pub(crate) fn on_back(st: Scan, most: usize, phase: u8, matched: usize, x: u8) -> Scan
+fn on_back(st: Scan, most: usize, phase: u8, matched: usize, x: u8) -> Scan
     requires { ⌜ Bounded st ⌝ }
     ensures { λ r. ⌜ r ≡ cond (is-letter (style-of (st .command)) x)
         (cond (ltb (st .len) most) (in-line st phase matched (st .size) (st .len + 1)) (invalid st (numbered long-line)))
-        (invalid st (numbered wrong-escape)) ⌝ }
+        (cond (starts x) (invalid st (numbered wrong-escape)) (invalid st (numbered not-utf8))) ⌝ }
 {
-    if !headers::is_letter(style_of(st.command), x) {
+    if headers::is_letter(style_of(st.command), x) {
+        return grow(st, most, phase, matched);
+    }
+    if begins_character(x) {
         return refused(st, Refusal::WRONG_ESCAPE);
     }
-    grow(st, most, phase, matched)
+    refused(st, Refusal::NOT_UTF8)
+}
+
+// Whether the octet begins a character.
+fn begins_character(x: u8) -> bool
+    ensures { λ r. ⌜ r ≡ starts x ⌝ }
+{
+    (x < 128) | (headers::missing_after(x) != 0)
+}
+
+// An octet inside a character of a name.
+pub(crate) fn on_name_part(st: Scan, x: u8) -> Scan
+    requires { ⌜ Bounded st × (st .rest ≡ 0 → ⊥) ⌝ }
+    ensures { λ r. ⌜ r ≡ on-name st (text-part (st .rest)) x ⌝ }
+{
+    let matched = advance(st.matched, x);
+    if st.rest == 92 {
+        return on_back(st, limits::NAME, Scan::IN_NAME, matched, x);
+    }
+    on_utf8(
+        st,
+        st.rest,
+        limits::NAME,
+        Scan::IN_NAME,
+        Scan::NAME_PART,
+        matched,
+        x,
+    )
+}
+
+// An octet inside a character of a value.
+pub(crate) fn on_value_part(st: Scan, x: u8) -> Scan
+    requires { ⌜ Bounded st × (st .rest ≡ 0 → ⊥) ⌝ }
+    ensures { λ r. ⌜ r ≡ on-value st (text-part (st .rest)) x ⌝ }
+{
+    if st.rest == 92 {
+        return on_back(st, limits::LINE, Scan::IN_VALUE, 0, x);
+    }
+    on_utf8(
+        st,
+        st.rest,
+        limits::LINE,
+        Scan::IN_VALUE,
+        Scan::VALUE_PART,
+        0,
+        x,
+    )
 }
 
 // Whether no name can begin with the octet, or none at all.
@@ -145,7 +232,10 @@ pub(crate) fn on_begin(st: Scan, x: u8) -> Scan
     if x == 58 {
         return refused(st, Refusal::NAMELESS);
     }
-    refused(st, Refusal::MANY_LINES)
+    if begins_character(x) {
+        return refused(st, Refusal::MANY_LINES);
+    }
+    refused(st, Refusal::NOT_UTF8)
 }
 
 // The line is read.
@@ -174,9 +264,9 @@ pub(crate) fn on_value(st: Scan, x: u8) -> Scan
         return line_read(st, x, st.sized, st.size);
     }
     if headers::is_open(style, x) {
-        return grow(st, limits::LINE_BEFORE_ESCAPE, Scan::VALUE_ESCAPE, 0);
+        return grow_part(st, limits::LINE_BEFORE_ESCAPE, Scan::VALUE_PART, 0, 92);
     }
-    grow(st, limits::LINE, Scan::IN_VALUE, 0)
+    on_utf8(st, 0, limits::LINE, Scan::IN_VALUE, Scan::VALUE_PART, 0, x)
 }
 
 // An octet of the first content-length that is no stop, where its line has fewer than most.
@@ -217,5 +307,8 @@ pub(crate) fn on_length(st: Scan, x: u8) -> Scan
     if headers::is_open(style, x) {
         return on_digit(st, limits::LINE_BEFORE_ESCAPE, x);
     }
-    on_digit(st, limits::LINE, x)
+    if !begins_character(x) {
+        return refused(st, Refusal::NOT_UTF8);
+    }
+    on_digit(st, limits::LINE - (headers::missing_after(x) as usize), x)
 }

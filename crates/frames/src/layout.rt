@@ -36,7 +36,16 @@ fn stop_at(s: &[u8], i: usize, colon: u8) -> usize
     requires { ⌜ i ≤ length (now s) ⌝ }
     ensures { λ r. ⌜ (r ≡ i + stop-span colon (drop i (now (s .entry)))) × (r ≤ length (now (s .entry))) ⌝ }
 {
-    i + headers::plain_span(&s[i..], Stops { colon, back: 10 })
+    i
+        + headers::plain_span(
+            &s[i..],
+            Stops {
+                cr: 13,
+                colon,
+                back: 10,
+                top: 255,
+            },
+        )
 }
 
 // The same, and how far the text goes without a backslash: one search finds the end of a text without one, and a text that has one is searched on.
@@ -48,7 +57,15 @@ fn text_end(s: &[u8], i: usize, colon: u8) -> TextEnd
         × Stretch (take (stop-span colon (drop i (now (s .entry)))) (drop i (now (s .entry)))) (r .known)
         ⌝ }
 {
-    let known = headers::plain_span(&s[i..], Stops { colon, back: 92 });
+    let known = headers::plain_span(
+        &s[i..],
+        Stops {
+            cr: 13,
+            colon,
+            back: 92,
+            top: 255,
+        },
+    );
     let stop = i + known;
     if s.len() <= stop {
         return TextEnd { at: stop, known };

@@ -36,6 +36,9 @@ impl Refusal {
     // It is no escape's letter after a backslash.
     pub const WRONG_ESCAPE: u32 = 10;
 
+    // An octet that no character has there.
+    pub const NOT_UTF8: u32 = 11;
+
     // It is a colon with an empty name.
     pub const NAMELESS: u32 = 3;
 

@@ -4,15 +4,14 @@ ghost use mathlib.Core.Bool.{true};
 ghost use Prim.Native.Nat.{_<_, _≤_};
 ghost use Rattle.frames.specs.Scanning.{Reached, Bounded, Valid, line-ends};
 ghost use Rattle.frames.specs.Scanning.{on-10, on-word, on-start, on-body, on-counted, scan-step};
-use crate::head::advance;
 use crate::head::body_begins;
 use crate::head::is_nameless;
-use crate::head::on_back;
 use crate::head::on_begin;
 use crate::head::on_length;
 use crate::head::on_name;
+use crate::head::on_name_part;
 use crate::head::on_value;
-use crate::limits;
+use crate::head::on_value_part;
 use crate::parse::Refusal;
 use crate::state::Scan;
 use crate::state::frame_read;
@@ -104,11 +103,11 @@ fn step_line(st: Scan, x: u8) -> Scan
     if phase == Scan::IN_LENGTH {
         return on_length(st, x);
     }
-    if phase == Scan::VALUE_ESCAPE {
-        return on_back(st, limits::LINE, Scan::IN_VALUE, 0, x);
+    if phase == Scan::VALUE_PART {
+        return on_value_part(st, x);
     }
-    if phase == Scan::NAME_ESCAPE {
-        return on_back(st, limits::NAME, Scan::IN_NAME, advance(st.matched, x), x);
+    if phase == Scan::NAME_PART {
+        return on_name_part(st, x);
     }
     if (phase == Scan::LINE_START) & is_nameless(st, x) {
         return on_begin(st, x);

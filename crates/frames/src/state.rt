@@ -1,6 +1,6 @@
 // The state of a scan: what of an item has been read, in numbers, and the moves to the next one.
 ghost use mathlib.Core.Path.{_≡_};
-ghost use Rattle.frames.specs.Scanning.{Bounded, nothing-read, to-phase, in-head, in-line, frame-read, invalid};
+ghost use Rattle.frames.specs.Scanning.{Bounded, nothing-read, to-phase, in-head, in-line, in-part, frame-read, invalid};
 
 // How far an item is read. The small fields stand together at the end, so that the state has no gaps inside, which are slow to copy.
 pub struct Scan {
@@ -16,6 +16,8 @@ pub struct Scan {
     pub at: usize,
     // Where the next octet is.
     pub phase: u8,
+    // How far a character is read, inside one: 92 after a backslash, its first octet, or how many octets of it are to come; otherwise 0.
+    pub rest: u8,
     // Whether a content-length is declared.
     pub sized: bool,
     // The number of the refusal.
@@ -44,14 +46,14 @@ impl Scan {
     // In a name.
     pub const IN_NAME: u8 = 5;
 
-    // After a backslash in it.
-    pub const NAME_ESCAPE: u8 = 6;
+    // Inside a character of it.
+    pub const NAME_PART: u8 = 6;
 
     // In a value.
     pub const IN_VALUE: u8 = 7;
 
-    // After a backslash in it.
-    pub const VALUE_ESCAPE: u8 = 8;
+    // Inside a character of it.
+    pub const VALUE_PART: u8 = 8;
 
     // In the first content-length.
     pub const IN_LENGTH: u8 = 9;
@@ -92,6 +94,7 @@ pub(crate) fn nothing_read() -> Scan
         len: 0,
         at: 0,
         code: 0,
+        rest: 0,
     }
 }
 
@@ -110,6 +113,7 @@ pub(crate) fn to_phase(st: Scan, phase: u8, command: u32) -> Scan
         len: 0,
         at: st.at + 1,
         code: 0,
+        rest: 0,
     }
 }
 
@@ -128,6 +132,7 @@ pub(crate) fn in_head(st: Scan, phase: u8, lines: usize, sized: bool, size: usiz
         len: 0,
         at: st.at + 1,
         code: 0,
+        rest: 0,
     }
 }
 
@@ -146,6 +151,33 @@ pub(crate) fn in_line(st: Scan, phase: u8, matched: usize, size: usize, len: usi
         len,
         at: st.at + 1,
         code: 0,
+        rest: 0,
+    }
+}
+
+// One octet on, inside a character of a line that is read as far as rest says.
+pub(crate) fn in_part(
+    st: Scan,
+    phase: u8,
+    matched: usize,
+    size: usize,
+    len: usize,
+    rest: u8,
+) -> Scan
+    requires { ⌜ Bounded st ⌝ }
+    ensures { λ r. ⌜ r ≡ in-part st phase matched size len rest ⌝ }
+{
+    Scan {
+        phase,
+        command: st.command,
+        lines: st.lines,
+        matched,
+        sized: st.sized,
+        size,
+        len,
+        at: st.at + 1,
+        code: 0,
+        rest,
     }
 }
 
@@ -164,6 +196,7 @@ pub(crate) fn frame_read(st: Scan) -> Scan
         len: st.len,
         at: st.at + 1,
         code: 0,
+        rest: 0,
     }
 }
 
@@ -181,5 +214,6 @@ pub(crate) fn refused(st: Scan, code: u32) -> Scan
         len: 0,
         at: st.at,
         code,
+        rest: 0,
     }
 }

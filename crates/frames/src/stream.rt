@@ -54,7 +54,7 @@ pub fn new_stream() -> StreamParser
 fn is_number(code: u32) -> bool
     ensures { λ r. ⌜ r ≡ is-number code ⌝ }
 {
-    (Refusal::NO_COMMAND <= code) & (code <= Refusal::WRONG_ESCAPE)
+    (Refusal::NO_COMMAND <= code) & (code <= Refusal::NOT_UTF8)
 }
 
 // Whether a run can be taken up from a state: the rule of 71, in constant time.

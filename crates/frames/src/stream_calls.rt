@@ -1,7 +1,7 @@
 // The stream parser for C: its record as 16 octets that the caller keeps, and an answer in one number.
 ghost use mathlib.Core.Path.{_≡_};
 ghost use Prim.Native.Nat.{_+_, _*_, _≤_, _<_};
-ghost use lib.ListN.{length, getD};
+ghost use lib.ListN.{length};
 ghost use Rattle.frames.specs.Answers.{parsed-says};
 ghost use Rattle.frames.specs.Streams.{feed-answer, feed-state, feed-buffer};
 ghost use Rattle.frames.specs.Records.{mark, record-of, is-record, pair-at, fields, read-record, record-left, packed-taken, packed-feed, Packable};
@@ -37,7 +37,7 @@ fn is_record(r: &[u8]) -> bool
     if r.len() != 16 {
         return false;
     }
-    (r[4] <= 1) & ((r[12] == 0) & ((r[13] == 0) & ((r[14] == 0) & (r[15] == 0))))
+    (r[4] <= 1) & ((r[12] == 0) & ((r[13] == 0) & (r[15] == 0)))
 }
 
 // The state that the octets of a record have.
@@ -55,6 +55,7 @@ fn fields(r: &[u8]) -> Scan
         len: pair_at(r, 8),
         at: pair_at(r, 10),
         phase: r[0],
+        rest: r[14],
         sized,
         command,
         code,
@@ -75,6 +76,7 @@ fn read_record(r: &[u8]) -> Scan
         len: 0,
         at: 0,
         phase: 255,
+        rest: 0,
         sized: false,
         command: 0,
         code: 0,
@@ -109,7 +111,7 @@ fn write_record(r: &mut [u8], st: Scan)
         (st.at % 256) as u8,
         0,
         0,
-        0,
+        st.rest,
         0,
     ];
     headers::copy(r, 0, &octets);

@@ -1,10 +1,11 @@
 // Whether a state passes the tests for states of a run, in constant time: every state that a run leaves does.
 ghost use mathlib.Core.Path.{_≡_};
-ghost use mathlib.Core.Bool.{true, _||_, not};
+ghost use mathlib.Core.Bool.{true, _&&_, _||_, not};
 ghost use lib.Dec.{eqb};
 ghost use Prim.Native.Nat.{_≤_};
 ghost use lib.ListN.{length, getD};
-ghost use Rattle.frames.specs.Scanning.{word-of, Valid, len-max, line-open, outside};
+ghost use Rattle.headers.specs.Characters.{is-begun};
+ghost use Rattle.frames.specs.Scanning.{style-of, word-of, Valid, len-max, line-open, outside};
 ghost use Rattle.frames.specs.Validity.{leasts, is-reached, is-small, is-so-far, is-clean};
 use crate::limits;
 use crate::state::Scan;
@@ -15,9 +16,9 @@ fn len_max(phase: u8) -> usize
 {
     match phase {
         Scan::IN_NAME => limits::NAME,
-        Scan::NAME_ESCAPE => limits::NAME_BEFORE_ESCAPE,
+        Scan::NAME_PART => limits::NAME_BEFORE_ESCAPE,
         Scan::IN_VALUE => limits::LINE,
-        Scan::VALUE_ESCAPE => limits::LINE_BEFORE_ESCAPE,
+        Scan::VALUE_PART => limits::LINE_BEFORE_ESCAPE,
         Scan::IN_LENGTH => limits::LINE,
         Scan::IN_BODY => limits::BODY,
         Scan::IN_COUNTED => limits::BODY,
@@ -132,6 +133,20 @@ fn is_so_far(st: Scan) -> bool
     is_word(st)
 }
 
+// Whether how far a character is read is such as a run can leave inside one, and 0 elsewhere.
+fn is_rest_clean(st: Scan) -> bool
+    ensures { λ r. ⌜ r ≡ (eqb (st .phase) 6 || (eqb (st .phase) 8 || eqb (st .rest) 0))
+        && (not (eqb (st .phase) 6 || eqb (st .phase) 8) || is-begun (style-of (st .command)) (st .rest)) ⌝ }
+{
+    let phase = st.phase;
+    if (phase != Scan::NAME_PART) & (phase != Scan::VALUE_PART) {
+        return st.rest == 0;
+    }
+    let style = crate::word::style_of(st.command);
+    (style.escapes & (st.rest == 92))
+        | ((st.rest == 1) | ((st.rest == 2) | (headers::missing_after(st.rest) != 0)))
+}
+
 // Whether what a phase does not use is 0.
 fn is_clean(st: Scan) -> bool
     ensures { λ r. ⌜ r ≡ is-clean st ⌝ }
@@ -143,7 +158,10 @@ fn is_clean(st: Scan) -> bool
     if (phase < Scan::REFUSED) & (st.code != 0) {
         return false;
     }
-    if (Scan::NAME_ESCAPE < phase) & (st.matched != 0) {
+    if (Scan::NAME_PART < phase) & (st.matched != 0) {
+        return false;
+    }
+    if !is_rest_clean(st) {
         return false;
     }
     (st.sized | ((phase == Scan::IN_LENGTH) | (st.size == 0)))

@@ -14,22 +14,24 @@
 use mathlib.Core.Path.{_≡_, refl, sym, _∙_, ap, ap₂, subst}
 use mathlib.Core.Bool.{Bool, true, false, cond, _&&_, not}
 use mathlib.Core.List.{List, [], _∷_, _++_, append-assoc, append-nil}
+use mathlib.Core.Logic.{_⊎_, inl, inr, ⊎-elim}
 use Prim.Native.Nat.{ℕ, suc, _+_, _-_, _*_, _/_, _≤_, _<_}
 use native.Mathlib.Omega.{arith}
 use native.Mathlib.Numerals.{add-one}
 use lib.ListN.{length, take, drop, getD, length-append, length-drop, drop-of-length-le, take-append-drop}
 use lib.Seq.{drop-cons, drop-drop, take-all, length-take-le}
-use lib.Dec.{eqb, leb}
-use borrow.Author.Tests.{eqb-true, not-true, leb-true, le-leb}
+use lib.Dec.{eqb, leb, ltb}
+use borrow.Author.Tests.{eqb-true, ne-eqb, ltb-false, not-true, leb-true, le-leb}
 use Rattle.headers.specs.Rows.{every}
 use Rattle.headers.specs.Stretches.{not-back, Stretch, kept}
-use Rattle.headers.specs.Text.{divides, stops, escape-table, is-letter, opens, plain, Character, itself, escape, Text, none, more}
+use Rattle.headers.specs.Text.{divides, stops, escape-table, is-letter, opens, plain, missing, tail, second, ascii, itself, escape, wide, Text, none, more, Part, fresh, back, led, tails, left, of-utf8, Into, bad, utf8-reads, then-reads, reads-whole, is-text-from, is-text, is-utf8-from, is-utf8}
 use Rattle.headers.specs.Escapes.{meaning, letter-of, means, at-escape, width, octet-at, decode, escaped, encode-octet, encode, writable}
 use Rattle.headers.specs.Lines.{content-length}
 use Rattle.headers.specs.declared.text.Style.{Style}
 use Rattle.headers.specs.declared.text.Field.{Field}
 use Rattle.headers.specs.declared.text.Field.the-variants.{Name, Value}
-use Rattle.headers.proofs.Rows.{cond-case, and-left, and-right, and-no, any-key}
+use Rattle.headers.proofs.Rows.{cond-case, and-left, and-right, and-no, refuted, any-key}
+use Rattle.headers.proofs.Reading.{missing-high, second-high, tail-high, letter-ascii, high-text, text-is, is-text-text}
 
 -- ---- the table of escapes: each letter is that of its octet, and each octet that of its letter
 
@@ -135,10 +137,45 @@ decode-letter s y ys e h = decode-escape s (92 ∷ y ∷ ys) (rw (e, h))
 
 -- ---- the laws
 
+-- octets from 128 on, of which characters of more than one octet are, are decoded and encoded as they stand
+abbrev high : ℕ → Bool
+high x = not (ascii x)
+
+high-false : (x : ℕ) → high x ≡ true → ascii x ≡ false
+high-false x h = not-true (ascii x) h
+
+wide-high : (x y : ℕ) (t : List ℕ) → missing x ≡ suc (length t) → second x y ≡ true → every tail t ≡ true → every high (x ∷ y ∷ t) ≡ true
+wide-high x y t e h k = rw (missing-high x (omega arith), second-high y′ y h) (each t k)
+  where
+    y′ : ℕ
+    y′ = x
+
+    each : (t : List ℕ) → every tail t ≡ true → every high t ≡ true
+    each [] k = refl
+    each (z ∷ t) k = rw (tail-high z (and-left (tail z) (every tail t) k)) (each t (and-right (tail z) (every tail t) k))
+
+unescaped-high : (s : Style) (x : ℕ) → ascii x ≡ false → escaped s x ≡ false
+unescaped-high s x h =
+    let l : 128 ≤ x = ltb-false x 128 h in
+    simp (ne-eqb x 13 (omega arith), ne-eqb x 10 (omega arith), ne-eqb x 58 (omega arith), ne-eqb x 92 (omega arith), and-no)
+
+decode-high : (s : Style) (u xs : List ℕ) → every high u ≡ true → decode s (u ++ xs) ≡ u ++ decode s xs
+decode-high s [] xs h = refl
+decode-high s (x ∷ u) xs h =
+    decode-itself s x (u ++ xs) (high-text s Name x (high-false x (and-left (high x) (every high u) h)) .1) ∙ ap (x ∷_) (decode-high s u xs (and-right (high x) (every high u) h))
+
+encode-high : (s : Style) (u xs : List ℕ) → every high u ≡ true → encode s (u ++ xs) ≡ u ++ encode s xs
+unfolding encode
+encode-high s [] xs h = refl
+encode-high s (x ∷ u) xs h =
+    rw (unescaped-high s x (high-false x (and-left (high x) (every high u) h))) (ap (x ∷_) (encode-high s u xs (and-right (high x) (every high u) h)))
+
 pub decode-means : {s : Style} {f : Field} {xs : List ℕ} (t : Text s f xs) → decode s xs ≡ means t
 unfolding decode
 decode-means none = refl
-decode-means {s} {f} (more {xs = xs} (itself {x = x} h) t) =
+decode-means {s} {f} (more {xs = xs} (wide {x = x} {y = y} {t = w} e h k) t) =
+    decode-high s (x ∷ y ∷ w) xs (wide-high x y w e h k) ∙ ap ((x ∷ y ∷ w) ++_) (decode-means t)
+decode-means {s} {f} (more {xs = xs} (itself {x = x} h a) t) =
     decode-itself s x xs (not-true (opens s x) (and-right (not (stops s f x)) _ h)) ∙ ap (x ∷_) (decode-means t)
 decode-means {s} (more {xs = xs} (escape {x = y} e h) t) = decode-letter s y xs e h ∙ ap (meaning s y ∷_) (decode-means t)
 
@@ -153,7 +190,9 @@ decode-encode s (x ∷ xs) =
 encode-means : {s : Style} {f : Field} {xs : List ℕ} (t : Text s f xs) → encode s (means t) ≡ xs
 unfolding encode
 encode-means none = refl
-encode-means {s} {f} (more {xs = xs} (itself {x = x} h) t) = rw (unescaped) (ap (x ∷_) (encode-means t))
+encode-means {s} {f} (more {xs = xs} (wide {x = x} {y = y} {t = w} e h k) t) =
+    encode-high s (x ∷ y ∷ w) (means t) (wide-high x y w e h k) ∙ ap ((x ∷ y ∷ w) ++_) (encode-means t)
+encode-means {s} {f} (more {xs = xs} (itself {x = x} h a) t) = rw (unescaped) (ap (x ∷_) (encode-means t))
   where
     unescaped : escaped s x ≡ false
     unescaped = contrary (escaped s x) (not (plain s f x)) (λ k. rw (octet-not-plain s f x k)) (rw h)
@@ -170,15 +209,138 @@ decode-short s (x ∷ y ∷ ys) =
     cond-case (λ u. length u ≤ length (x ∷ y ∷ ys)) (opens s x && is-letter s y) {a = meaning s y ∷ decode s ys} {b = x ∷ decode s (y ∷ ys)}
     (λ h. omega (arith, decode-short s ys)) (λ h. omega (arith, decode-short s (y ∷ ys)))
 
-pub encode-text : (s : Style) (f : Field) (xs : List ℕ) → every (writable s f) xs ≡ true → Text s f (encode s xs)
-unfolding encode
-encode-text s f [] h = none
-encode-text s f (x ∷ xs) h =
-    more (cond-case (Character s f) (escaped s x) (λ k. escape (and-left (s .escapes) _ k) (octet-letter s x k)) (λ k. itself {x = x} (rw (raw k, contrary (opens s x) (escaped s x) (opens-escaped s x) k))))
-    (encode-text s f xs (and-right (writable s f x) _ h))
+-- ---- UTF-8: encoding and decoding keep it exactly
+
+-- no backslash is pending
+abbrev Settled : Part → Type 0
+Settled fresh = Unit {0}
+Settled back = ⊥
+Settled (led x) = Unit {0}
+Settled (tails n) = Unit {0}
+
+settled-left : (n : ℕ) → Settled (left n)
+settled-left n = cond-case Settled (eqb n 0) (λ t. tt) (λ t. tt)
+
+ascii-second : (y x : ℕ) → ascii x ≡ true → second y x ≡ false
+ascii-second y x a = refuted (second y x) (λ h. let k = second-high y x h in let z : _≡_ {A = ℕ} 0 1 = cc in omega arith)
+
+ascii-tail : (x : ℕ) → ascii x ≡ true → tail x ≡ false
+ascii-tail x a = refuted (tail x) (λ h. let k = tail-high x h in let z : _≡_ {A = ℕ} 0 1 = cc in omega arith)
+
+-- an octet below 128 in UTF-8: it is a character, and stands inside none
+inside-out : (p : Part) → Settled p → (p ≡ fresh) ⊎ ((x : ℕ) → ascii x ≡ true → utf8-reads p x ≡ bad of-utf8)
+inside-out fresh d = inl refl
+inside-out back d = absurd d
+inside-out (led y) d = inr (λ x a. rw (ascii-second y x a))
+inside-out (tails n) d = inr (λ x a. rw (ascii-tail x a))
+
+meaning-ascii : (s : Style) (x : ℕ) → is-letter s x ≡ true → ascii (meaning s x) ≡ true
+meaning-ascii s x h = any-key (λ e. e .letter) (λ y. ascii (meaning s y) ≡ true) x (escape-table s) (refl, (refl, (refl, (refl, tt)))) h
+
+escaped-ascii : (s : Style) (x : ℕ) → escaped s x ≡ true → ascii x ≡ true
+escaped-ascii s x h = any-key (λ e. e .octet) (λ y. ascii y ≡ true) x (escape-table s) (refl, (refl, (refl, (refl, tt)))) (and-right (s .escapes) _ h)
+
+-- what becomes of the rest, where one test of it is the other and w
+module _ (w : Bool) (f g : Part → Bool) (h : (q : Part) → Settled q → f q ≡ w && g q) where
+  abbrev Spread : Into → Type 0
+  Spread i = then-reads i f ≡ w && then-reads i g
+
+  spread : (p : Part) (x : ℕ) → Settled p → Spread (utf8-reads p x)
+  spread fresh x d =
+      cond-case Spread (ascii x) (λ a. h fresh tt) (λ a. cond-case Spread (ltb 0 (missing x)) (λ m. h (led x) tt) (λ m. sym (and-no w)))
+  spread back x d = absurd d
+  spread (led y) x d = cond-case Spread (second y x) (λ t. h (left (missing y - 1)) (settled-left (missing y - 1))) (λ t. sym (and-no w))
+  spread (tails n) x d = cond-case Spread (tail x) (λ t. h (left (n - 1)) (settled-left (n - 1))) (λ t. sym (and-no w))
+
+-- an octet below 128
+module _ (x : ℕ) (xs : List ℕ) (a : ascii x ≡ true) where
+  ascii-on : is-utf8-from fresh (x ∷ xs) ≡ is-utf8-from fresh xs
+  unfolding reads-whole
+  ascii-on = rw a
+
+  ascii-off : (p : Part) → utf8-reads p x ≡ bad of-utf8 → is-utf8-from p (x ∷ xs) ≡ false
+  unfolding reads-whole
+  ascii-off p e = rw e
+
+-- of any octets: decoded they are UTF-8 exactly if they are
+decode-utf8-from : (s : Style) (xs : List ℕ) (p : Part) → Settled p → is-utf8-from p (decode s xs) ≡ is-utf8-from p xs
+unfolding decode reads-whole
+decode-utf8-from s [] p d = refl
+decode-utf8-from s (x ∷ []) p d = refl
+decode-utf8-from s (x ∷ y ∷ ys) p d =
+    cond-case (λ u. is-utf8-from p u ≡ is-utf8-from p (x ∷ y ∷ ys)) (opens s x && is-letter s y) {a = meaning s y ∷ decode s ys} {b = x ∷ decode s (y ∷ ys)}
+    (λ h.
+    let l = and-right (opens s x) (is-letter s y) h in
+    let ax : ascii x ≡ true = rw (eqb-true x 92 (and-right (s .escapes) (eqb x 92) (and-left (opens s x) (is-letter s y) h))) in
+    by p d ax (letter-ascii s y l) (meaning-ascii s y l) (decode-utf8-from s ys fresh tt))
+    (λ h. spread true (λ q. is-utf8-from q (decode s (y ∷ ys))) (λ q. is-utf8-from q (y ∷ ys)) (λ q e. decode-utf8-from s (y ∷ ys) q e) p x d)
   where
-    raw : escaped s x ≡ false → stops s f x ≡ false
-    raw k = not-true (stops s f x) (rw k at (and-left (writable s f x) _ h))
+    by : (p : Part) → Settled p → ascii x ≡ true → ascii y ≡ true → ascii (meaning s y) ≡ true → is-utf8-from fresh (decode s ys) ≡ is-utf8-from fresh ys
+        → is-utf8-from p (meaning s y ∷ decode s ys) ≡ is-utf8-from p (x ∷ y ∷ ys)
+    by p d ax ay am ih =
+        ⊎-elim
+        (λ e. subst (λ p. is-utf8-from p (meaning s y ∷ decode s ys) ≡ is-utf8-from p (x ∷ y ∷ ys)) (sym e)
+        (ascii-on (meaning s y) (decode s ys) am ∙ ih ∙ sym (ascii-on x (y ∷ ys) ax ∙ ascii-on y ys ay)))
+        (λ off. ascii-off (meaning s y) (decode s ys) am p (off (meaning s y) am) ∙ sym (ascii-off x (y ∷ ys) ax p (off x ax)))
+        (inside-out p d)
+
+pub decode-utf8 : (s : Style) (xs : List ℕ) → is-utf8 (decode s xs) ≡ is-utf8 xs
+decode-utf8 s xs = decode-utf8-from s xs fresh tt
+
+-- encoded octets are raw text exactly if each can be written and they are UTF-8
+encode-is-from : (s : Style) (f : Field) (xs : List ℕ) (p : Part) → Settled p → is-text-from s f p (encode s xs) ≡ every (writable s f) xs && is-utf8-from p xs
+unfolding encode reads-whole
+encode-is-from s f [] p d = refl
+encode-is-from s f (x ∷ xs) p d =
+    cond-case (λ u. is-text-from s f p (u ++ encode s xs) ≡ every (writable s f) (x ∷ xs) && is-utf8-from p (x ∷ xs)) (escaped s x) {a = 92 ∷ letter-of s x ∷ []} {b = x ∷ []}
+    (λ h. turned p d h (encode-is-from s f xs fresh tt)) (λ h. itself-on p d h (encode-is-from s f xs))
+  where
+    on : s .escapes ≡ true → is-letter s (letter-of s x) ≡ true → is-text-from s f fresh (92 ∷ letter-of s x ∷ encode s xs) ≡ is-text-from s f fresh (encode s xs)
+    on e l = rw (e, l)
+
+    turned : (p : Part) → Settled p → escaped s x ≡ true → is-text-from s f fresh (encode s xs) ≡ every (writable s f) xs && is-utf8-from fresh xs
+        → is-text-from s f p (92 ∷ letter-of s x ∷ encode s xs) ≡ (writable s f x && every (writable s f) xs) && is-utf8-from p (x ∷ xs)
+    turned fresh d h ih =
+        on (and-left (s .escapes) _ h) (octet-letter s x h) ∙ ih ∙ rw (h, ascii-on x xs (escaped-ascii s x h))
+    turned back d h ih = absurd d
+    turned (led y) d h ih = rw (ascii-second y 92 refl, ascii-second y x (escaped-ascii s x h)) (sym (and-no (writable s f x && every (writable s f) xs)))
+    turned (tails n) d h ih = rw (ascii-tail x (escaped-ascii s x h)) (sym (and-no (writable s f x && every (writable s f) xs)))
+
+    W : Bool
+    W = every (writable s f) xs
+
+    inside : (p : Part) → Settled p → (ascii x ≡ true → utf8-reads p x ≡ bad of-utf8) → escaped s x ≡ false
+        → ((q : Part) → Settled q → is-text-from s f q (encode s xs) ≡ W && is-utf8-from q xs) → (a : Bool) → ascii x ≡ a
+        → then-reads (utf8-reads p x) (λ q. is-text-from s f q (encode s xs)) ≡ (writable s f x && W) && then-reads (utf8-reads p x) (λ q. is-utf8-from q xs)
+    inside p d off h ih true a = rw (off a) (sym (and-no (writable s f x && W)))
+    inside p d off h ih false a = rw (h, high-text s f x a .0) (spread W (λ q. is-text-from s f q (encode s xs)) (λ q. is-utf8-from q xs) ih p x d)
+
+    shut : escaped s x ≡ false → opens s x ≡ false
+    shut h = contrary (opens s x) (escaped s x) (opens-escaped s x) h
+
+    begun : (t a : Bool) → stops s f x ≡ t → ascii x ≡ a → escaped s x ≡ false
+        → ((q : Part) → Settled q → is-text-from s f q (encode s xs) ≡ W && is-utf8-from q xs)
+        → is-text-from s f fresh (x ∷ encode s xs) ≡ (writable s f x && W) && is-utf8-from fresh (x ∷ xs)
+    begun true a e k h ih = rw (e, h)
+    begun false true e k h ih = rw (e, shut h, k, h) (ih fresh tt)
+    begun false false e k h ih = rw (e, shut h, h) (spread W (λ q. is-text-from s f q (encode s xs)) (λ q. is-utf8-from q xs) ih fresh x tt)
+
+    itself-on : (p : Part) → Settled p → escaped s x ≡ false → ((q : Part) → Settled q → is-text-from s f q (encode s xs) ≡ W && is-utf8-from q xs)
+        → is-text-from s f p (x ∷ encode s xs) ≡ (writable s f x && W) && is-utf8-from p (x ∷ xs)
+    itself-on fresh d h ih = begun (stops s f x) (ascii x) refl refl h ih
+    itself-on back d h ih = absurd d
+    itself-on (led y) d h ih = inside (led y) d (λ a. rw (ascii-second y x a)) h ih (ascii x) refl
+    itself-on (tails n) d h ih = inside (tails n) d (λ a. rw (ascii-tail x a)) h ih (ascii x) refl
+
+pub encode-is : (s : Style) (f : Field) (xs : List ℕ) → is-text s f (encode s xs) ≡ every (writable s f) xs && is-utf8 xs
+encode-is s f xs = encode-is-from s f xs fresh tt
+
+pub encode-text : (s : Style) (f : Field) (xs : List ℕ) → every (writable s f) xs && is-utf8 xs ≡ true → Text s f (encode s xs)
+encode-text s f xs h = is-text-text s f (encode s xs) (encode-is s f xs ∙ h)
+
+-- what text stands for can be written
+pub text-writable : {s : Style} {f : Field} {xs : List ℕ} → Text s f xs → every (writable s f) (decode s xs) && is-utf8 (decode s xs) ≡ true
+text-writable {s} {f} {xs} t = sym (encode-is s f (decode s xs)) ∙ ap (is-text s f) (encode-decode t) ∙ text-is s f xs t
 
 -- one octet of encoding
 pub encode-step : (s : Style) (xs : List ℕ) (i : ℕ) → i < length xs → encode s (drop i xs) ≡ encode-octet s (getD xs i 0) ++ encode s (drop (i + 1) xs)

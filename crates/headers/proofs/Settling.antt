@@ -5,24 +5,24 @@
 use mathlib.Core.Path.{_≡_, refl, sym, ap, ap₂, _∙_}
 use mathlib.Core.Bool.{Bool, true, false, _&&_, _||_, not}
 use mathlib.Core.List.{List, [], _∷_, _++_}
-use Prim.Native.Nat.{ℕ, zero, suc, _+_, _≤_, _<_}
+use Prim.Native.Nat.{ℕ, zero, suc, _+_, _≤_, _<_, _-_}
 use native.Mathlib.Omega.{arith}
-use lib.ListN.{length, take, drop, length-append, take-append-drop}
+use lib.ListN.{length, take, drop, length-append, take-append-drop, length-drop, drop-of-length-le}
 use lib.Seq.{take-all}
 use lib.Dec.{eqb, leb, ltb, eqb·suc-zero}
 use borrow.Author.Tests.{leb-true, leb-false, le-leb, lt-leb, lt-ltb, le-ltb}
 use Rattle.headers.specs.Rows.{empty, every}
-use Rattle.headers.specs.Text.{divides, stops, is-text}
+use Rattle.headers.specs.Text.{divides, stops, is-text, is-utf8}
 use Rattle.headers.specs.Escapes.{decode, encode, escaped, writable}
 use Rattle.headers.specs.Numbers.{shortest}
 use Rattle.headers.specs.Block.{Entry, entry-record}
 use Rattle.headers.specs.Stretches.{not-back, kept, unescaped}
-use Rattle.headers.specs.Lines.{line-max, entry-of, decoded-entry, line-length, are-text, raw-line, written-line, can-write}
+use Rattle.headers.specs.Lines.{line-max, entry-of, decoded-entry, line-length, are-text, raw-line, written-line, can-stand, can-write}
 use Rattle.headers.specs.Answers.{Answer, accepted, refused, settle, left-in, written-record, decoded-answer, record-answer, writable-answer, length-answer, encoded-answer, line-answer, decimal-answer}
 use Rattle.headers.specs.declared.text.Style.{Style}
 use Rattle.headers.specs.declared.text.Field.{Field}
 use Rattle.headers.specs.declared.text.Field.the-variants.{Name, Value}
-use Rattle.headers.proofs.Rows.{and-left, and-right, and-no, refuted, every-left, every-right, every-append, every-also}
+use Rattle.headers.proofs.Rows.{and-left, and-right, and-no, refuted, every-right, every-append, every-also}
 use Rattle.headers.proofs.Coding.{kept-clear, decode-off, encode-long, encode-append}
 use Rattle.headers.proofs.Blocks.{length-record}
 
@@ -58,11 +58,11 @@ module _ (s : Style) (e : Entry) where
   pub no-name : empty (e .name) ≡ true → can-write s e ≡ false
   no-name h = rw h
 
-  pub no-name-octet : every (writable s Name) (e .name) ≡ false → can-write s e ≡ false
-  no-name-octet h = simp (h, and-no)
+  pub no-name-text : can-stand s Name (e .name) ≡ false → can-write s e ≡ false
+  no-name-text h = simp (h, and-no)
 
-  pub no-value-octet : every (writable s Value) (e .value) ≡ false → can-write s e ≡ false
-  no-value-octet h = simp (h, and-no)
+  pub no-value-text : can-stand s Value (e .value) ≡ false → can-write s e ≡ false
+  no-value-text h = simp (h, and-no)
 
   pub no-room : 512 < length (raw-line s e) → can-write s e ≡ false
   no-room h = simp (lt-leb (length (raw-line s e)) 512 h, and-no)
@@ -71,7 +71,7 @@ module _ (s : Style) (e : Entry) where
   pub no-room-plain : 511 < length (e .name) + length (e .value) → can-write s e ≡ false
   no-room-plain h = no-room (omega (arith, raw-long, encode-long s (e .name), encode-long s (e .value)))
 
-  pub can : empty (e .name) ≡ false → every (writable s Name) (e .name) ≡ true → every (writable s Value) (e .value) ≡ true → length (raw-line s e) ≤ 512 → can-write s e ≡ true
+  pub can : empty (e .name) ≡ false → can-stand s Name (e .name) ≡ true → can-stand s Value (e .value) ≡ true → length (raw-line s e) ≤ 512 → can-write s e ≡ true
   can a b c h = simp (a, b, c, le-leb (length (raw-line s e)) 512 h)
 
   pub length-no : can-write s e ≡ false → length-answer s e ≡ refused 53
@@ -121,6 +121,18 @@ divided-empty (suc k) (x ∷ xs) = rw (eqb·suc-zero k, eqb·suc-zero (length xs
 pub divided-plain : (k : ℕ) (xs : List ℕ) → length (take k xs) + length (drop k xs) ≡ length xs
 divided-plain k xs = simp length-append at (ap length (take-append-drop k xs))
 
+-- ---- a text: each octet can be written, and it is UTF-8
+
+module _ (s : Style) (f : Field) (xs : List ℕ) (n : ℕ) where
+  pub stand-octets : every (writable s f) xs ≡ false → refused 53 ≡ writable-answer (can-stand s f xs) n
+  stand-octets h = rw h
+
+  pub stand-utf8 : is-utf8 xs ≡ false → refused 53 ≡ writable-answer (can-stand s f xs) n
+  stand-utf8 h = let z : can-stand s f xs ≡ false = simp (h, and-no) in rw z
+
+  pub stand-yes : (m : ℕ) → every (writable s f) xs ≡ true → is-utf8 xs ≡ true → m ≡ n → accepted (m ∷ []) ≡ writable-answer (can-stand s f xs) n
+  stand-yes m h u e = rw (h, u, e)
+
 -- the part of a row up to a place, or to its end
 pub take-place : (a e : ℕ) (xs : List ℕ) → (a ≤ length xs → e ≡ a) → (length xs < a → e ≡ length xs) → take e xs ≡ take a xs
 take-place a e xs inside past = by (leb a (length xs)) refl
@@ -128,6 +140,17 @@ take-place a e xs inside past = by (leb a (length xs)) refl
     by : (t : Bool) → leb a (length xs) ≡ t → take e xs ≡ take a xs
     by true t = ap (λ n. take n xs) (inside (leb-true a (length xs) t))
     by false t = let l = leb-false a (length xs) t in take-all e xs (omega (arith, past l)) ∙ sym (take-all a xs (omega arith))
+
+-- and the part after it
+pub drop-place : (k e : ℕ) (xs : List ℕ) → (k ≤ length xs → e ≡ k) → (length xs < k → e ≡ length xs) → take (length xs - e) (drop e xs) ≡ drop k xs
+drop-place k e xs inside past = take-all (length xs - e) (drop e xs) (omega (arith, length-drop e xs)) ∙ by (leb k (length xs)) refl
+  where
+    by : (t : Bool) → leb k (length xs) ≡ t → drop e xs ≡ drop k xs
+    by true t = ap (λ m. drop m xs) (inside (leb-true k (length xs) t))
+    by false t =
+        let l = leb-false k (length xs) t in
+        let p = past l in
+        drop-of-length-le xs {i = e} (omega arith) ∙ sym (drop-of-length-le xs {i = k} (omega arith))
 
 -- what can be written, by whether there are escapes: each stop has one. Octets 13, 10, 58 and 92 are escaped, 10, 13 and 58 are stops.
 pub writable-is : (s : Style) (f : Field) (x : ℕ) → s .escapes || not (stops s f x) ≡ writable s f x
@@ -169,20 +192,34 @@ module _ (s : Style) (k : ℕ) (xs : List ℕ) where
       refuted (can-write s (divided k xs))
       (λ w.
       let texts = and-right (not (empty (take k xs))) _ w in
-      let rest = and-right (every (writable s Name) (take k xs)) _ texts in
+      let name = and-left (every (writable s Name) (take k xs)) _ (and-left (can-stand s Name (take k xs)) _ texts) in
+      let value = and-left (every (writable s Value) (drop k xs)) _ (and-left (can-stand s Value (drop k xs)) _ (and-right (can-stand s Name (take k xs)) _ texts)) in
       let whole : every (writable s Value) (take k xs ++ drop k xs) ≡ true =
-      every-append (writable s Value) (take k xs) (drop k xs)
-      (every-also (writable s Name) (writable s Value) (name-value s) (take k xs) (and-left (every (writable s Name) (take k xs)) _ texts)) (and-left (every (writable s Value) (drop k xs)) _ rest) in
+      every-append (writable s Value) (take k xs) (drop k xs) (every-also (writable s Name) (writable s Value) (name-value s) (take k xs) name) value in
       let all : every (writable s Value) xs ≡ true = rw take-append-drop at whole in
       let z : _≡_ {A = ℕ} 0 1 = cc in omega arith)
 
   pub divided-name : every (writable s Name) (take k xs) ≡ false → can-write s (divided k xs) ≡ false
-  divided-name h = no-name-octet s (divided k xs) h
+  divided-name h = no-name-text s (divided k xs) (rw h refl)
 
-  pub divided-can : empty (take k xs) ≡ false → every (writable s Value) xs ≡ true → every (writable s Name) (take k xs) ≡ true → length (encode s xs) ≤ 511 → can-write s (divided k xs) ≡ true
-  divided-can some h n fits =
+  -- each is UTF-8 by itself
+  pub divided-utf8 : is-utf8 (take k xs) && is-utf8 (drop k xs) ≡ false → can-write s (divided k xs) ≡ false
+  divided-utf8 h = by (is-utf8 (take k xs)) refl
+    where
+      by : (t : Bool) → is-utf8 (take k xs) ≡ t → can-write s (divided k xs) ≡ false
+      by false e = no-name-text s (divided k xs) (ap (every (writable s Name) (take k xs) &&_) e ∙ and-no (every (writable s Name) (take k xs)))
+      by true e =
+          let v : is-utf8 (drop k xs) ≡ false = rw e at h in
+          no-value-text s (divided k xs) (ap (every (writable s Value) (drop k xs) &&_) v ∙ and-no (every (writable s Value) (drop k xs)))
+
+  pub divided-can : empty (take k xs) ≡ false → every (writable s Value) xs ≡ true → every (writable s Name) (take k xs) ≡ true
+      → is-utf8 (take k xs) && is-utf8 (drop k xs) ≡ true → length (encode s xs) ≤ 511 → can-write s (divided k xs) ≡ true
+  divided-can some h n u fits =
       let whole : every (writable s Value) (take k xs ++ drop k xs) ≡ true = rw take-append-drop h in
-      can s (divided k xs) some n (every-right (writable s Value) (take k xs) (drop k xs) whole) (omega (arith, divided-long))
+      can s (divided k xs) some
+      (rw (n, and-left (is-utf8 (take k xs)) (is-utf8 (drop k xs)) u) refl)
+      (rw (every-right (writable s Value) (take k xs) (drop k xs) whole, and-right (is-utf8 (take k xs)) (is-utf8 (drop k xs)) u) refl)
+      (omega (arith, divided-long))
 
 -- ---- one record
 

@@ -10,7 +10,7 @@ use mathlib.Core.Logic.{_⊎_, inl, inr, ⊎-elim}
 use Prim.Native.Nat.{ℕ, _+_, _-_, _≤_, _<_, min}
 use native.Mathlib.Numerals.{add-one, one-add}
 use native.Mathlib.Omega.{arith}
-use lib.Dec.{eqb, ltb}
+use lib.Dec.{eqb, ltb, leb}
 use lib.ListN.{length, take, drop, getD, drop-of-length-le, take-append-drop, length-take, length-drop}
 use lib.Seq.{drop-cons, drop-drop, take-all, length-take-le}
 use borrow.Author.Tests.{not-true, not-false, eqb-true, ltb-true, ltb-false}
@@ -194,13 +194,13 @@ pub stretch-at : (xs : List ℕ) (n : ℕ) → n ≡ span not-back xs → Stretc
 stretch-at xs n e = rw e (stretch-span xs)
 
 -- octets that no stop of header text ends have no backslash where it is one of the stops
-pub back-on : (s : List ℕ) (i : ℕ) {k : ℕ} → i ≤ length s → k ≡ span (plain-in (record { colon = 92; back = 92 })) (take (length s - i) (drop i s))
+pub back-on : (s : List ℕ) (i : ℕ) {k : ℕ} → i ≤ length s → k ≡ span (plain-in (record { cr = 92; colon = 92; back = 92; top = 255 })) (take (length s - i) (drop i s))
     → (i + k ≤ length s) × (i + k + span not-back (drop (i + k) s) ≡ i + span not-back (drop i s))
 back-on s i {k} h e =
-    let p : ℕ → Bool = plain-in (record { colon = 92; back = 92 }) in
+    let p : ℕ → Bool = plain-in (record { cr = 92; colon = 92; back = 92; top = 255 }) in
     let (same, fits) = span-rest p s i h e in
     let also : (x : ℕ) → p x ≡ true → not-back x ≡ true =
-    λ x t. rw (or-false-right (eqb x 10 || eqb x 13 || eqb x 92) (eqb x 92) (not-true _ t)) refl in
+    λ x t. rw (or-false-right (eqb x 10 || eqb x 92 || eqb x 92) (eqb x 92) (not-true _ (and-left _ (leb x 255) t))) refl in
     let inside = span-inside p not-back also (drop i s) in
     let there : drop (span p (drop i s)) (drop i s) ≡ drop (i + k) s = drop-drop (span p (drop i s)) i s ∙ ap (λ n. drop n s) (sym same) in
     (fits, omega (arith, same, inside, ap (span not-back) there))

@@ -6,10 +6,11 @@ use Prim.Native.Nat.{ℕ, _+_}
 use lib.ListN.{length}
 use lib.Dec.{leb}
 use Rattle.headers.specs.Rows.{octets-of, empty, every}
-use Rattle.headers.specs.Text.{is-text}
+use Rattle.headers.specs.Text.{is-text, is-utf8}
 use Rattle.headers.specs.Escapes.{decode, encode, writable}
 use Rattle.headers.specs.Block.{Entry}
 use Rattle.headers.specs.declared.text.Style.{Style}
+use Rattle.headers.specs.declared.text.Field.{Field}
 use Rattle.headers.specs.declared.text.Field.the-variants.{Name, Value}
 
 -- "512 octets in a raw header line, its line end not counted"
@@ -39,12 +40,14 @@ raw-line s e = encode s (e .name) ++ (58 ∷ encode s (e .value))
 abbrev pub written-line : Style → Entry → List ℕ
 written-line s e = encode s (e .name) ++ (58 ∷ (encode s (e .value) ++ (10 ∷ [])))
 
--- the entry can be written: not "an empty name, a raw line over 512, or in CONNECT/CONNECTED holds 10, 13 or a colon"; the colon only
--- in the name (C-12)
+-- the text can be written in this field: each octet can be, and it is UTF-8
+abbrev pub can-stand : Style → Field → List ℕ → Bool
+can-stand s f xs = every (writable s f) xs && is-utf8 xs
+
+-- the entry can be written: not "an empty name, a raw line over 512, or in CONNECT/CONNECTED holds 10, 13 or a colon", the colon only
+-- in the name (C-12); nor "where a name or value is not UTF-8" (C-17)
 abbrev pub can-write : Style → Entry → Bool
-can-write s e =
-    not (empty (e .name))
-    && (every (writable s Name) (e .name) && (every (writable s Value) (e .value) && leb (length (raw-line s e)) line-max))
+can-write s e = not (empty (e .name)) && (can-stand s Name (e .name) && (can-stand s Value (e .value) && leb (length (raw-line s e)) line-max))
 
 -- the header name `content-length`
 abbrev pub content-length : List ℕ

@@ -1,11 +1,11 @@
 -- Stretches of octets: how far a test holds from the front, and stretches without a backslash (C-14). Assumes nothing.
 use mathlib.Core.Path.{_≡_}
-use mathlib.Core.Bool.{Bool, true, false, cond, _||_, not}
+use mathlib.Core.Bool.{Bool, true, false, cond, _&&_, _||_, not}
 use mathlib.Core.List.{List, [], _∷_, _++_}
 use mathlib.Core.Logic.{_⊎_}
 use Prim.Native.Nat.{ℕ, _+_, _≤_}
 use lib.ListN.{length, take, drop, getD}
-use lib.Dec.{eqb}
+use lib.Dec.{eqb, leb}
 use Rattle.headers.specs.Rows.{every}
 use Rattle.headers.specs.Escapes.{decode}
 use Rattle.headers.specs.declared.plain.Stops.{Stops}
@@ -18,7 +18,7 @@ span p (x ∷ xs) = cond (p x) (1 + span p xs) 0
 
 -- the octets that stops leave as they are
 abbrev pub plain-in : Stops → ℕ → Bool
-plain-in s x = not (eqb x 10 || eqb x 13 || eqb x (s .colon) || eqb x (s .back))
+plain-in s x = not (eqb x 10 || eqb x (s .cr) || eqb x (s .colon) || eqb x (s .back)) && leb x (s .top)
 
 -- no backslash
 abbrev pub not-back : ℕ → Bool

@@ -1,6 +1,7 @@
 // Header text and escapes, decimal numbers, and the header block: the lowest layer.
 pub mod octets; // rows of octets
 pub mod plain; // stretches of plain octets
+pub mod utf8; // characters of UTF-8
 pub mod text; // raw header text, decoded and encoded
 pub mod decimal; // decimal numbers
 pub mod block; // the header block
@@ -46,3 +47,8 @@ pub use text::is_open;
 pub use text::is_raw;
 pub use text::is_stop;
 pub use text::is_writable;
+pub use utf8::is_utf8;
+pub use utf8::missing_after;
+pub use utf8::utf8_next;
+pub use utf8::utf8_owes;
+pub use utf8::wide_span;

@@ -1,12 +1,14 @@
 // One raw header line, written from an entry's name and value.
 ghost use mathlib.Core.Path.{_≡_};
+ghost use mathlib.Core.Bool.{true, _&&_};
 ghost use Prim.Native.Nat.{_+_, _≤_, _<_};
 ghost use lib.ListN.{length, take, drop};
 ghost use lib.Dec.{leb};
 ghost use Rattle.headers.specs.Rows.{every};
+ghost use Rattle.headers.specs.Text.{ascii, is-utf8};
 ghost use Rattle.headers.specs.Escapes.{writable, encode};
 ghost use Rattle.headers.specs.Stretches.{plain-line};
-ghost use Rattle.headers.specs.Lines.{entry-of, written-line};
+ghost use Rattle.headers.specs.Lines.{entry-of, can-stand, written-line};
 ghost use Rattle.headers.specs.declared.text.Field.the-variants.{Name};
 ghost use Rattle.headers.specs.Answers.{left-in, Puts, writable-answer, length-answer, length-says, encoded-answer, line-answer, line-says};
 use crate::octets::both_fit;
@@ -18,6 +20,7 @@ use crate::text::encoded_length;
 use crate::text::encoded_width;
 use crate::text::is_writable;
 use crate::text::put_encoded;
+use crate::utf8::is_utf8;
 
 // The octets of a raw header line, its line end not counted.
 pub const LINE_MAX: usize = 512;
@@ -38,22 +41,68 @@ pub enum LineWritten {
     TooShort,
 }
 
-// How long short text is encoded; or that an octet of it cannot be written (53).
-fn text_length(text: &[u8], style: Style, field: Field) -> LineLength
+// What short text comes to: whether each octet of it can be written; if so, how long it is encoded, and whether every octet is below 128.
+pub(crate) struct Measured {
+    pub length: usize,
+    pub writable: bool,
+    pub ascii: bool,
+}
+
+// One pass over short text.
+fn measure(text: &[u8], style: Style, field: Field) -> Measured
     requires { ⌜ length (now text) ≤ 511 ⌝ }
-    ensures { λ r. ⌜ length-says r ≡ writable-answer (every (writable style field) (now (text .entry))) (length (encode style (now (text .entry)))) ⌝ }
+    ensures { λ r. ⌜
+        (r .writable ≡ every (writable style field) (now (text .entry)))
+        × (r .writable ≡ true → (r .length ≡ length (encode style (now (text .entry)))) × (r .ascii ≡ every ascii (now (text .entry))))
+        ⌝ }
 {
     let mut n = 0u16;
+    let mut ascii = true;
     let mut i = 0usize;
     while i < text.len() {
         let x = text[i];
         if !can_write(style, field, x) {
-            return LineLength::Unwritable;
+            return Measured {
+                length: 0,
+                writable: false,
+                ascii: false,
+            };
         }
         n += encoded_width(style, x);
+        ascii = ascii & (x < 128);
         i += 1;
     }
-    LineLength::Length(n as usize)
+    Measured {
+        length: n as usize,
+        writable: true,
+        ascii,
+    }
+}
+
+// Whether the text is UTF-8, where it is known whether every octet is below 128.
+fn is_known_utf8(text: &[u8], low: bool) -> bool
+    requires { ⌜ low ≡ every ascii (now text) ⌝ }
+    ensures { λ r. ⌜ r ≡ is-utf8 (now (text .entry)) ⌝ }
+{
+    if low {
+        return true;
+    }
+    is_utf8(text)
+}
+
+// How long short text is encoded; or that an octet of it cannot be written, or that it is not UTF-8 (53).
+fn text_length(text: &[u8], style: Style, field: Field) -> LineLength
+    requires { ⌜ length (now text) ≤ 511 ⌝ }
+    ensures { λ r. ⌜ length-says r ≡ writable-answer (can-stand style field (now (text .entry))) (length (encode style (now (text .entry)))) ⌝ }
+{
+    let m = measure(text, style, field);
+    if !m.writable {
+        return LineLength::Unwritable;
+    }
+    if !is_known_utf8(text, m.ascii) {
+        return LineLength::Unwritable;
+    }
+    LineLength::Length(m.length)
 }
 
 // The place a, or the end n where that is less.
@@ -72,6 +121,21 @@ fn is_name(text: &[u8], name: usize, style: Style) -> bool
     }
     let e = place(name, text.len());
     is_writable(&text[0..e], style, Field::Name)
+}
+
+// Whether a name and the value after it are UTF-8, each by itself, where it is known whether every octet of both is below 128.
+fn are_utf8(text: &[u8], name: usize, low: bool) -> bool
+    requires { ⌜ low ≡ every ascii (now text) ⌝ }
+    ensures { λ r. ⌜ r ≡ is-utf8 (take name (now (text .entry))) && is-utf8 (drop name (now (text .entry))) ⌝ }
+{
+    if low {
+        return true;
+    }
+    let e = place(name, text.len());
+    if !is_utf8(&text[0..e]) {
+        return false;
+    }
+    is_utf8(&text[e..])
 }
 
 // How long the raw line of an entry is, its line end not counted.
@@ -96,7 +160,8 @@ pub fn line_length(name: &[u8], value: &[u8], style: Style) -> LineLength
     LineLength::Length(n + 1 + v)
 }
 
-// The same of a name and the value behind it in one text, the name's length being given: one pass over both.
+// The same of a name and the value after it in one text, the name's length being given: one pass over both, and one more where an octet
+// is 128 or more.
 pub fn entry_length(text: &[u8], name: usize, style: Style) -> LineLength
     ensures { λ r. ⌜ length-says r ≡ length-answer style (entry-of (take name (now (text .entry))) (drop name (now (text .entry)))) ⌝ }
 {
@@ -106,16 +171,20 @@ pub fn entry_length(text: &[u8], name: usize, style: Style) -> LineLength
     if TEXT_MAX < text.len() {
         return LineLength::Unwritable;
     }
-    let LineLength::Length(n) = text_length(text, style, Field::Value) else {
+    let m = measure(text, style, Field::Value);
+    if !m.writable {
         return LineLength::Unwritable;
-    };
+    }
     if !is_name(text, name, style) {
         return LineLength::Unwritable;
     }
-    if TEXT_MAX < n {
+    if !are_utf8(text, name, m.ascii) {
         return LineLength::Unwritable;
     }
-    LineLength::Length(n + 1)
+    if TEXT_MAX < m.length {
+        return LineLength::Unwritable;
+    }
+    LineLength::Length(m.length + 1)
 }
 
 // The raw line of an entry, with octet 10 behind it, at the front of d; its length.

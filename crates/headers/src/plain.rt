@@ -5,17 +5,19 @@ ghost use lib.ListN.{length, drop};
 ghost use Rattle.headers.specs.Rows.{every};
 ghost use Rattle.headers.specs.Stretches.{span, plain-in, not-back, Stretch};
 
-// The octets that end a stretch of header text beside 10 and 13: 10 again in the place of one that does not.
+// The octets that end a stretch beside 10: 10 again in the place of one that does not. An octet above top ends it too.
 pub struct Stops {
+    pub cr: u8,
     pub colon: u8,
     pub back: u8,
+    pub top: u8,
 }
 
 // Whether header text takes the octet as it is.
 fn is_plain(stops: Stops, x: u8) -> bool
     ensures { λ r. ⌜ r ≡ plain-in stops x ⌝ }
 {
-    !((x == 10) | (x == 13) | (x == stops.colon) | (x == stops.back))
+    !((x == 10) | (x == stops.cr) | (x == stops.colon) | (x == stops.back)) & (x <= stops.top)
 }
 
 // Whether header text takes every octet of a block as it stands: every octet is looked at, so that many are at once.
@@ -87,8 +89,8 @@ pub fn plain_span(s: &[u8], stops: Stops) -> usize
     i
 }
 
-// How many octets at the front of s are no backslash, by blocks. Octets 10 and 13 also end a stretch of header text, so where one is
-// found the search goes on after it.
+// How many octets at the front of s are no backslash, by blocks. Octet 10 ends a stretch of header text too, so where one is found the
+// search goes on after it.
 fn far_stretch(s: &[u8]) -> usize
     ensures { λ r. ⌜ r ≡ span not-back (now (s .entry)) ⌝ }
 {
@@ -97,8 +99,10 @@ fn far_stretch(s: &[u8]) -> usize
         i += plain_span(
             &s[i..],
             Stops {
+                cr: 92,
                 colon: 92,
                 back: 92,
+                top: 255,
             },
         );
         if s.len() <= i {

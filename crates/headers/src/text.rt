@@ -1,14 +1,15 @@
 // Raw header text: tests on it, its decoding and encoding.
 ghost use mathlib.Core.Path.{_≡_};
-ghost use mathlib.Core.Bool.{cond, not};
 ghost use Prim.Native.Nat.{_+_, _≤_, _<_};
 ghost use lib.ListN.{length, drop};
 ghost use Rattle.headers.specs.Rows.{every};
-ghost use Rattle.headers.specs.Text.{divides, stops, opens, is-letter, is-text};
+ghost use Rattle.headers.specs.Text.{divides, stops, opens, is-letter, reads, is-text};
+ghost use Rattle.headers.specs.Characters.{text-part, into-number};
 ghost use Rattle.headers.specs.Escapes.{at-escape, width, octet-at, meaning, letter-of, escaped, writable, decode, encode-octet, encode};
 ghost use Rattle.headers.specs.Answers.{Puts};
 use crate::octets::copy;
 use crate::plain::stretch;
+use crate::utf8::utf8_next;
 
 // What a command makes of header text.
 pub struct Style {
@@ -80,31 +81,42 @@ fn letter_for(style: Style, x: u8) -> u8
     if x == 13 { 114 } else { newline }
 }
 
-// Whether the octet goes on with text whose last octet is a pending backslash, or is not.
-fn goes_on(style: Style, field: Field, back: bool, x: u8) -> bool
-    ensures { λ r. ⌜ r ≡ cond back (is-letter style x) (not (stops style field x)) ⌝ }
+// One octet of raw text, from how far its character is read on: how far it is then, or 255 where the octet does not go on with the text.
+fn raw_next(style: Style, field: Field, part: u8, x: u8) -> u8
+    ensures { λ r. ⌜ r ≡ into-number (reads style field (text-part part) x) ⌝ }
 {
-    if back {
-        return is_letter(style, x);
+    if part == 0 {
+        if is_stop(style, field, x) {
+            return 255;
+        }
+        if is_open(style, x) {
+            return 92;
+        }
+        return utf8_next(0, x);
     }
-    !is_stop(style, field, x)
+    if part == 92 {
+        if is_letter(style, x) {
+            return 0;
+        }
+        return 255;
+    }
+    utf8_next(part, x)
 }
 
 // Whether the octets are raw text.
 pub fn is_raw(raw: &[u8], style: Style, field: Field) -> bool
     ensures { λ r. ⌜ r ≡ is-text style field (now (raw .entry)) ⌝ }
 {
-    let mut back = false;
-    let mut i = 0;
+    let mut part = 0u8;
+    let mut i = 0usize;
     while i < raw.len() {
-        let x = raw[i];
-        if !goes_on(style, field, back, x) {
+        part = raw_next(style, field, part, raw[i]);
+        if part == 255 {
             return false;
         }
-        back = !back & is_open(style, x);
         i += 1;
     }
-    !back
+    part == 0
 }
 
 // Whether an escape stands at i.

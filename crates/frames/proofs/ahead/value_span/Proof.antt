@@ -1,17 +1,18 @@
--- `ahead::value_span` meets its contract: a plain stretch, then escapes with a plain stretch after each.
-use Rattle.headers.proofs.Stretches.{span-part}
-use Rattle.frames.proofs.Gliding.{line-short, Takes, takes-first, takes-more}
+-- `ahead::value_span` meets its contract: a plain stretch, then characters with a plain stretch after them, is text.
 use borrow.Author.Needs.{needs}
-use borrow.Author.Tests.{not-false}
+use mathlib.Core.Path.{_≡_, subst}
 use Prim.Native.Nat.{_≤_, _-_, _+_}
 use native.Mathlib.Omega.{arith}
-use lib.ListN.{length}
-use mathlib.Core.Path.{sym, _∙_}
+use lib.ListN.{length, take, drop}
+use Rattle.headers.specs.Text.{Text}
+use Rattle.headers.specs.declared.text.Field.the-variants.{Value as in-value}
+use Rattle.headers.proofs.Stretches.{span-part, part-long}
+use Rattle.frames.proofs.Gliding.{line-short, span-text, text-on, ahead-text}
 use Rattle.frames.proofs.ahead.value_span.Statement.{statement}
 use Rattle.frames.proofs.ahead.value_span.Tie as tie
 
 abbrev Inv-loop : tie.InvT-loop
-Inv-loop s i style stops e j₀ j = (i ≤ j) × (j ≤ e) × (e ≤ length s) × Takes style s i e j
+Inv-loop s i style stops e j₀ j = (i ≤ j) × (j ≤ e) × (e ≤ length s) × Text style in-value (take (j - i) (drop i s))
 
 abbrev μ-loop : tie.MeasureT-loop
 μ-loop s i style stops e j₀ j = e - j
@@ -23,7 +24,8 @@ value-stops-requires : tie.Need-value-stops-requires Inv-loop μ-loop
 value-stops-requires c κs = search needs
 
 sub-upto : tie.Need-sub-upto Inv-loop μ-loop
-sub-upto c = omega (arith, line-short (c .before .before .before .before .pre .1) (c .before .before .before .before .pre .2))
+sub-upto c =
+    omega (arith, line-short (c .before .before .before .before .pre .1) (c .before .before .before .before .pre .2))
 
 upto-requires : tie.Need-upto-requires Inv-loop μ-loop
 upto-requires c κs = search needs
@@ -44,91 +46,97 @@ plain-span-requires c κs = search needs
 first-part : (c : tie.After-plain-span Inv-loop μ-loop) → c .before .before .before .before .before .before .before .args .i + c .plain-span .result ≤ c .before .before .upto .result
 first-part c = span-part _ _ _ _ _ (omega arith) (omega arith) (c .plain-span .ensures)
 
--- and so does the one after an escape
-next-part : (c : tie.After-plain-span2 Inv-loop μ-loop) → c .before .before .before .before .before .before .before .before .before .loop .j + 2 + c .plain-span2 .result ≤ c .before .before .before .before .before .before .before .before .before .before .before .before .upto .result
-next-part c = span-part _ _ _ _ _ (omega arith) (omega arith) (c .plain-span2 .ensures)
+-- and so do the characters after it, and the next stretch
+next-part : (c : tie.After-plain-span2 Inv-loop μ-loop) → (c .before .before .before .beyond-plain .result ≤ (c .before .before .before .before .before .before .before .before .before .upto .result) - (c .before .before .before .before .before .before .loop .j)) × ((c .before .before .before .before .before .before .loop .j) + c .before .before .before .beyond-plain .result + c .plain-span2 .result ≤ (c .before .before .before .before .before .before .before .before .before .upto .result))
+next-part c =
+    let k : c .before .before .before .beyond-plain .result ≤ (c .before .before .before .before .before .before .before .before .before .upto .result) - (c .before .before .before .before .before .before .loop .j) = omega (arith, c .before .before .before .beyond-plain .ensures .0, part-long (c .before .before .before .before .before .before .before .before .before .before .before .before .before .before .args .s .now) (c .before .before .before .before .before .before .loop .j) (c .before .before .before .before .before .before .before .before .before .upto .result) (c .before .before .before .before .before .before .loop .inv .1) (c .before .before .before .before .before .before .loop .inv .2)) in
+    (k, span-part _ _ _ _ _ (omega (arith, k, c .before .before .before .before .before .before .loop .inv .1)) (omega (arith, c .before .before .before .before .before .before .loop .inv .2)) (c .plain-span2 .ensures))
 
 add-j : tie.Need-add-j Inv-loop μ-loop
-add-j c = omega (arith, first-part c)
+add-j c =
+    omega (arith, first-part c)
 
 loop-holds : tie.Need-loop-holds Inv-loop μ-loop
-loop-holds c = (omega arith, first-part c, omega arith, takes-first _ _ _ _ (omega arith) (c .before .before .before .before .value-stops .ensures) _ (omega arith) (c .plain-span .ensures))
+loop-holds c =
+    let k = c .plain-span .result in
+    let same : k ≡ c .before .before .before .before .before .before .before .args .i + k - c .before .before .before .before .before .before .before .args .i = omega arith in (
+      omega arith,
+      first-part c,
+      omega arith,
+      subst (λ n. Text (c .before .before .before .before .before .style-of .result) in-value (take n (drop (c .before .before .before .before .before .before .before .args .i) (c .before .before .before .before .before .before .before .args .s .now)))) same
+          (span-text (c .before .before .before .before .before .style-of .result) in-value (c .before .before .before .before .value-stops .ensures) (c .before .before .before .before .before .before .before .args .s .now) (c .before .before .before .before .before .before .before .args .i) (c .before .before .upto .result) k (c .plain-span .ensures)),
+    )
 
-sub-loop : tie.Need-sub-loop Inv-loop μ-loop
-sub-loop c = search needs
+sub-beyond-plain : tie.Need-sub-beyond-plain Inv-loop μ-loop
+sub-beyond-plain c = search needs
 
-shared-slice-read-is-open : tie.Need-shared-slice-read-is-open Inv-loop μ-loop
-shared-slice-read-is-open c = search needs
+part-beyond-plain-start : tie.Need-part-beyond-plain-start Inv-loop μ-loop
+part-beyond-plain-start c = search needs
 
-is-open-requires : tie.Need-is-open-requires Inv-loop μ-loop
-is-open-requires c κs = search needs
+part-beyond-plain-end : tie.Need-part-beyond-plain-end Inv-loop μ-loop
+part-beyond-plain-end c = search needs
+
+beyond-plain-requires : tie.Need-beyond-plain-requires Inv-loop μ-loop
+beyond-plain-requires c κs = search needs
 
 sub-result : tie.Need-sub-result Inv-loop μ-loop
 sub-result c = search needs
 
 returns : tie.Need-returns Inv-loop μ-loop
 returns c =
-    let q = c .before .before .before .before .before in
-    let a = q .before .before .before .before .before .before .before in
-    let h = line-short (a .pre .1) (a .pre .2) in
-    c .before .before .before .before .loop .inv .3 (a .args .st) (a .pre .1) (q .before .before .before .before .before .style-of .ensures) (a .pre .2) (omega arith)
+    let fits : c .before .before .before .before .before .before .before .before .before .before .before .before .args .st .len + ((c .before .before .before .before .before .before .before .upto .result) - c .before .before .before .before .before .before .before .before .before .before .before .before .args .i) ≤ 512 = omega (arith, line-short (c .before .before .before .before .before .before .before .before .before .before .before .before .pre .1) (c .before .before .before .before .before .before .before .before .before .before .before .before .pre .2), c .before .before .before .before .before .before .before .upto .ensures .2) in
+    let l = c .before .before .before .before .loop .inv in
+    ahead-text (c .before .before .before .before .before .before .before .before .before .before .before .before .args .st) (c .before .before .before .before .before .before .before .before .before .before .before .before .pre .1) (c .before .before .before .before .before .before .before .before .before .before .before .before .pre .2) (c .before .before .before .before .before .before .before .before .before .before .style-of .ensures) (c .before .before .before .before .before .before .before .before .before .before .before .before .args .s .now) (c .before .before .before .before .before .before .before .before .before .before .before .before .args .i) ((c .before .before .before .before .loop .j) - c .before .before .before .before .before .before .before .before .before .before .before .before .args .i) (omega (arith, l .0, l .1, l .2)) (omega (arith, fits, l .0, l .1)) (l .3)
 
-add-is-letter : tie.Need-add-is-letter Inv-loop μ-loop
-add-is-letter c = search needs
+add-f : tie.Need-add-f Inv-loop μ-loop
+add-f c =
+    let k : c .before .beyond-plain .result ≤ (c .before .before .before .before .before .before .before .upto .result) - (c .before .before .before .before .loop .j) = omega (arith, c .before .beyond-plain .ensures .0, part-long (c .before .before .before .before .before .before .before .before .before .before .before .before .args .s .now) (c .before .before .before .before .loop .j) (c .before .before .before .before .before .before .before .upto .result) (c .before .before .before .before .loop .inv .1) (c .before .before .before .before .loop .inv .2)) in
+    omega (arith, k, c .before .before .before .before .loop .inv .1, c .before .before .before .before .loop .inv .2)
 
-shared-slice-read-is-letter : tie.Need-shared-slice-read-is-letter Inv-loop μ-loop
-shared-slice-read-is-letter c = search needs
+sub-plain-span-2 : tie.Need-sub-plain-span-2 Inv-loop μ-loop
+sub-plain-span-2 c =
+    let k : c .before .beyond-plain .result ≤ (c .before .before .before .before .before .before .before .upto .result) - (c .before .before .before .before .loop .j) = omega (arith, c .before .beyond-plain .ensures .0, part-long (c .before .before .before .before .before .before .before .before .before .before .before .before .args .s .now) (c .before .before .before .before .loop .j) (c .before .before .before .before .before .before .before .upto .result) (c .before .before .before .before .loop .inv .1) (c .before .before .before .before .loop .inv .2)) in
+    omega (arith, k, c .before .before .before .before .loop .inv .1, c .before .before .before .before .loop .inv .2)
 
-is-letter-requires : tie.Need-is-letter-requires Inv-loop μ-loop
-is-letter-requires c κs = search needs
+part-plain-span-start-2 : tie.Need-part-plain-span-start-2 Inv-loop μ-loop
+part-plain-span-start-2 c =
+    let k : c .before .beyond-plain .result ≤ (c .before .before .before .before .before .before .before .upto .result) - (c .before .before .before .before .loop .j) = omega (arith, c .before .beyond-plain .ensures .0, part-long (c .before .before .before .before .before .before .before .before .before .before .before .before .args .s .now) (c .before .before .before .before .loop .j) (c .before .before .before .before .before .before .before .upto .result) (c .before .before .before .before .loop .inv .1) (c .before .before .before .before .loop .inv .2)) in
+    omega (arith, k, c .before .before .before .before .loop .inv .1, c .before .before .before .before .loop .inv .2)
+
+part-plain-span-end-2 : tie.Need-part-plain-span-end-2 Inv-loop μ-loop
+part-plain-span-end-2 c =
+    let k : c .before .beyond-plain .result ≤ (c .before .before .before .before .before .before .before .upto .result) - (c .before .before .before .before .loop .j) = omega (arith, c .before .beyond-plain .ensures .0, part-long (c .before .before .before .before .before .before .before .before .before .before .before .before .args .s .now) (c .before .before .before .before .loop .j) (c .before .before .before .before .before .before .before .upto .result) (c .before .before .before .before .loop .inv .1) (c .before .before .before .before .loop .inv .2)) in
+    omega (arith, k, c .before .before .before .before .loop .inv .1, c .before .before .before .before .loop .inv .2)
+
+plain-span-requires-2 : tie.Need-plain-span-requires-2 Inv-loop μ-loop
+plain-span-requires-2 c κs = search needs
+
+add-j-2 : tie.Need-add-j-2 Inv-loop μ-loop
+add-j-2 c =
+    omega (arith, next-part c .0, next-part c .1)
+
+loop-less : tie.Need-loop-less Inv-loop μ-loop
+loop-less c =
+    omega (arith, next-part c .0, next-part c .1, c .before .before .if1 .left)
+
+loop-again : tie.Need-loop-again Inv-loop μ-loop
+loop-again c =
+    let l = c .before .before .before .before .before .before .loop .inv in (
+      omega (arith, l .0),
+      next-part c .1,
+      l .2,
+      text-on (c .before .before .before .before .before .before .before .before .before .before .before .before .style-of .result) in-value (c .before .before .before .before .before .before .before .before .before .before .before .value-stops .ensures) (c .before .before .before .before .before .before .before .before .before .before .before .before .before .before .args .s .now) (c .before .before .before .before .before .before .before .before .before .before .before .before .before .before .args .i) (c .before .before .before .before .before .before .loop .j) (c .before .before .before .before .before .before .before .before .before .upto .result) (c .before .before .before .beyond-plain .result) (c .plain-span2 .result)
+          (l .0) (next-part c .0) (l .3) (c .before .before .before .beyond-plain .ensures .1) (c .plain-span2 .ensures),
+    )
 
 sub-result-2 : tie.Need-sub-result-2 Inv-loop μ-loop
 sub-result-2 c = search needs
 
 returns-2 : tie.Need-returns-2 Inv-loop μ-loop
 returns-2 c =
-    let q = c .before .before .before .before .before .before .before .before in
-    let a = q .before .before .before .before .before .before .before in
-    let h = line-short (a .pre .1) (a .pre .2) in
-    c .before .before .before .before .before .before .before .loop .inv .3 (a .args .st) (a .pre .1) (q .before .before .before .before .before .style-of .ensures) (a .pre .2) (omega arith)
-
-add-f : tie.Need-add-f Inv-loop μ-loop
-add-f c = search needs
-
-sub-plain-span-2 : tie.Need-sub-plain-span-2 Inv-loop μ-loop
-sub-plain-span-2 c = search needs
-
-part-plain-span-start-2 : tie.Need-part-plain-span-start-2 Inv-loop μ-loop
-part-plain-span-start-2 c = search needs
-
-part-plain-span-end-2 : tie.Need-part-plain-span-end-2 Inv-loop μ-loop
-part-plain-span-end-2 c = search needs
-
-plain-span-requires-2 : tie.Need-plain-span-requires-2 Inv-loop μ-loop
-plain-span-requires-2 c κs = search needs
-
-add-j-2 : tie.Need-add-j-2 Inv-loop μ-loop
-add-j-2 c = omega (arith, next-part c)
-
-loop-less : tie.Need-loop-less Inv-loop μ-loop
-loop-less c = omega (arith, next-part c)
-
-loop-again : tie.Need-loop-again Inv-loop μ-loop
-loop-again c =
-    let l = c .before .before .before .before .before .before .before .before .before .loop in
-    let o = sym (c .before .before .before .before .before .before .is-open .ensures) ∙ not-false _ (c .before .before .before .before .before .if1 .left) in
-    let t = sym (c .before .before .before .is-letter .ensures) ∙ not-false _ (c .before .before .if2 .left) in
-    (omega arith, next-part c, l .inv .2, takes-more _ _ _ _ (l .inv .2) (c .before .before .before .before .before .before .before .before .before .before .before .before .before .before .value-stops .ensures) (l .j) _ (l .inv .0) (omega arith) o t (c .plain-span2 .ensures) (l .inv .3))
-
-sub-result-3 : tie.Need-sub-result-3 Inv-loop μ-loop
-sub-result-3 c = search needs
-
-returns-3 : tie.Need-returns-3 Inv-loop μ-loop
-returns-3 c =
-    let q = c .before .before in
-    let a = q .before .before .before .before .before .before .before in
-    let h = line-short (a .pre .1) (a .pre .2) in
-    c .before .loop .inv .3 (a .args .st) (a .pre .1) (q .before .before .before .before .before .style-of .ensures) (a .pre .2) (omega arith)
+    let fits : c .before .before .before .before .before .before .before .before .before .args .st .len + ((c .before .before .before .before .upto .result) - c .before .before .before .before .before .before .before .before .before .args .i) ≤ 512 = omega (arith, line-short (c .before .before .before .before .before .before .before .before .before .pre .1) (c .before .before .before .before .before .before .before .before .before .pre .2), c .before .before .before .before .upto .ensures .2) in
+    let l = c .before .loop .inv in
+    ahead-text (c .before .before .before .before .before .before .before .before .before .args .st) (c .before .before .before .before .before .before .before .before .before .pre .1) (c .before .before .before .before .before .before .before .before .before .pre .2) (c .before .before .before .before .before .before .before .style-of .ensures) (c .before .before .before .before .before .before .before .before .before .args .s .now) (c .before .before .before .before .before .before .before .before .before .args .i) ((c .before .loop .j) - c .before .before .before .before .before .before .before .before .before .args .i) (omega (arith, l .0, l .1, l .2)) (omega (arith, fits, l .0, l .1)) (l .3)
 
 pub value-span-spec : {M : Type 1} → statement M
 value-span-spec =
@@ -146,16 +154,12 @@ value-span-spec =
     plain-span-requires
     add-j
     loop-holds
-    sub-loop
-    shared-slice-read-is-open
-    is-open-requires
+    sub-beyond-plain
+    part-beyond-plain-start
+    part-beyond-plain-end
+    beyond-plain-requires
     sub-result
     returns
-    add-is-letter
-    shared-slice-read-is-letter
-    is-letter-requires
-    sub-result-2
-    returns-2
     add-f
     sub-plain-span-2
     part-plain-span-start-2
@@ -164,5 +168,5 @@ value-span-spec =
     add-j-2
     loop-less
     loop-again
-    sub-result-3
-    returns-3)
+    sub-result-2
+    returns-2)

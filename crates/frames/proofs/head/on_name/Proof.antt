@@ -1,23 +1,14 @@
--- `head::on_name` meets its contract: the octet is a stop, a backslash or itself, and the line is short enough or not.
-use mathlib.Core.Path.{refl, _≡_}
-use Rattle.headers.specs.Text.{fresh, back, into, stop, reads}
-use Rattle.frames.specs.Scanning.{style-of, on-name}
+-- `head::on_name` meets its contract: the octet is a stop, a backslash or of UTF-8, and the line is short enough or not.
+use mathlib.Core.Path.{refl, sym, _∙_, ap}
+use Rattle.headers.specs.Text.{starts-with}
 use Rattle.headers.specs.declared.text.Field.the-variants.{Name as in-name}
-use Rattle.frames.proofs.Steps.{read-stop, read-open, read-plain, room-name}
+use Rattle.frames.specs.Scanning.{on-name, in-character}
+use Rattle.headers.proofs.Characters.{goes8}
+use Rattle.frames.proofs.Steps.{read-stop, read-open, read-start, room-name, name-in}
 use borrow.Author.Tests.{eq-eqb, ne-eqb}
 use borrow.Author.Needs.{needs}
 use Rattle.frames.proofs.head.on_name.Statement.{statement}
 use Rattle.frames.proofs.head.on_name.Tie as tie
-
--- what the octet does, by the tests that led there
-stopped : (c : tie.Then1) → let a = c .before .before .before .args in reads (style-of (a .st .command)) in-name fresh (a .x) ≡ stop
-stopped c = read-stop in-name (c .before .before .before .args .x) (c .before .before .style-of .ensures) (c .before .is-stop .ensures) (c .if1 .taken)
-
-opened : (c : tie.Then4) → let a = c .before .before .before .before .before .before .args in reads (style-of (a .st .command)) in-name fresh (a .x) ≡ into back
-opened c = let d = c .before .before .before in read-open in-name (d .before .before .before .args .x) (d .before .before .style-of .ensures) (d .before .is-stop .ensures) (d .if1 .left) (c .before .is-open .ensures) (c .if4 .taken)
-
-plain : (c : tie.Else4) → let a = c .before .before .before .before .before .before .args in reads (style-of (a .st .command)) in-name fresh (a .x) ≡ into fresh
-plain c = let d = c .before .before .before in read-plain in-name (d .before .before .before .args .x) (d .before .before .style-of .ensures) (d .before .is-stop .ensures) (d .if1 .left) (c .before .is-open .ensures) (c .if4 .left)
 
 style-of-requires : tie.Need-style-of-requires
 style-of-requires c κs = search needs
@@ -30,21 +21,24 @@ refused-requires c κs = search needs
 
 returns : tie.Need-returns
 unfolding on-name
-returns c = rw (stopped (c .before .before)) (simp (c .refused .ensures, ne-eqb _ _ (c .before .if2 .taken)))
+returns c =
+    rw (read-stop in-name (c .before .before .before .before .before .args .x) (c .before .before .before .before .style-of .ensures) (c .before .before .before .is-stop .ensures) (c .before .before .if1 .taken)) (simp (c .refused .ensures, ne-eqb _ _ (c .before .if2 .taken)))
 
 refused-requires-2 : tie.Need-refused-requires-2
 refused-requires-2 c κs = search needs
 
 returns-2 : tie.Need-returns-2
 unfolding on-name
-returns-2 c = rw (stopped (c .before .before .before .before)) (simp (c .refused2 .ensures, eq-eqb _ _ (c .before .before .before .if2 .left), eq-eqb _ _ (c .before .if3 .taken)))
+returns-2 c =
+    rw (read-stop in-name (c .before .before .before .before .before .before .before .args .x) (c .before .before .before .before .before .before .style-of .ensures) (c .before .before .before .before .before .is-stop .ensures) (c .before .before .before .before .if1 .taken)) (simp (c .refused2 .ensures, eq-eqb _ _ (c .before .before .before .if2 .left), eq-eqb _ _ (c .before .if3 .taken)))
 
 value-begins-requires : tie.Need-value-begins-requires
 value-begins-requires c κs = search needs
 
 returns-3 : tie.Need-returns-3
 unfolding on-name
-returns-3 c = rw (stopped (c .before .before .before .before)) (simp (c .value-begins .ensures, eq-eqb _ _ (c .before .before .before .if2 .left), ne-eqb _ _ (c .before .if3 .left)))
+returns-3 c =
+    rw (read-stop in-name (c .before .before .before .before .before .before .before .args .x) (c .before .before .before .before .before .before .style-of .ensures) (c .before .before .before .before .before .is-stop .ensures) (c .before .before .before .before .if1 .taken)) (simp (c .value-begins .ensures, eq-eqb _ _ (c .before .before .before .if2 .left), ne-eqb _ _ (c .before .if3 .left)))
 
 advance-requires : tie.Need-advance-requires
 advance-requires c κs = search needs
@@ -52,19 +46,21 @@ advance-requires c κs = search needs
 is-open-requires : tie.Need-is-open-requires
 is-open-requires c κs = search needs
 
-grow-requires : tie.Need-grow-requires
-grow-requires c κs = search needs
+grow-part-requires : tie.Need-grow-part-requires
+grow-part-requires c κs = search needs
 
 returns-4 : tie.Need-returns-4
 unfolding on-name
-returns-4 c = rw (opened (c .before), room-name 1 510 _ refl, ← c .before .before .before .advance .ensures) (c .grow .ensures)
+returns-4 c =
+    rw (read-open in-name (c .before .before .before .before .before .before .before .args .x) (c .before .before .before .before .before .before .style-of .ensures) (c .before .before .before .before .before .is-stop .ensures) (c .before .before .before .before .if1 .left) (c .before .before .is-open .ensures) (c .before .if4 .taken), room-name 1 510 _ refl, ← c .before .before .before .advance .ensures) (c .grow-part .ensures)
 
-grow-requires-2 : tie.Need-grow-requires-2
-grow-requires-2 c κs = search needs
+on-utf8-requires : tie.Need-on-utf8-requires
+on-utf8-requires c κs = search needs
 
 returns-5 : tie.Need-returns-5
 unfolding on-name
-returns-5 c = rw (plain (c .before), room-name 0 511 _ refl, ← c .before .before .before .advance .ensures) (c .grow2 .ensures)
+returns-5 c =
+    rw (read-start in-name (c .before .before .before .before .before .before .before .args .x) (c .before .before .before .before .before .before .style-of .ensures) (c .before .before .before .before .before .is-stop .ensures) (c .before .before .before .before .if1 .left) (c .before .before .is-open .ensures) (c .before .if4 .left)) (c .on-utf8 .ensures ∙ ap (λ m. in-character (c .before .before .before .before .before .before .before .args .st) 511 5 6 m (starts-with (c .before .before .before .before .before .before .before .args .x))) (c .before .before .before .advance .ensures) ∙ sym (name-in (c .before .before .before .before .before .before .before .args .st) (c .before .before .before .before .before .before .before .args .x) (starts-with (c .before .before .before .before .before .before .before .args .x)) (goes8 0 (c .before .before .before .before .before .before .before .args .x))))
 
 pub on-name-spec : {M : Type 1} → statement M
 on-name-spec =
@@ -80,7 +76,7 @@ on-name-spec =
     returns-3
     advance-requires
     is-open-requires
-    grow-requires
+    grow-part-requires
     returns-4
-    grow-requires-2
+    on-utf8-requires
     returns-5)

@@ -1,77 +1,61 @@
+-- `stream_calls::fields` meets its contract.
 use borrow.Author.Needs.{needs}
 use mathlib.Core.Path.{refl}
 use Rattle.frames.proofs.stream_calls.fields.Statement.{statement}
 use Rattle.frames.proofs.stream_calls.fields.Tie as tie
-use Rattle.frames.proofs.stream_calls.fields.Reads as reads
-use Rattle.frames.proofs.stream_calls.fields.Lts as lts
-use Rattle.frames.proofs.stream_calls.pair_at.Reads as pair-at-reads
-use Rattle.frames.proofs.stream_calls.wide.Reads as wide-reads
 
--- src/stream_calls.rt:47:24
 shared-slice-read-wide : tie.Need-shared-slice-read-wide
 shared-slice-read-wide c = search needs
 
--- src/stream_calls.rt:47:19
 wide-requires : tie.Need-wide-requires
 wide-requires c κs = search needs
 
--- src/stream_calls.rt:47:19
 cast-command : tie.Need-cast-command
 cast-command c = search needs
 
--- src/stream_calls.rt:48:21
 shared-slice-read-wide-2 : tie.Need-shared-slice-read-wide-2
 shared-slice-read-wide-2 c = search needs
 
--- src/stream_calls.rt:48:16
 wide-requires-2 : tie.Need-wide-requires-2
 wide-requires-2 c κs = search needs
 
--- src/stream_calls.rt:48:16
 cast-code : tie.Need-cast-code
 cast-code c = search needs
 
--- src/stream_calls.rt:49:17
 shared-slice-read-sized : tie.Need-shared-slice-read-sized
 shared-slice-read-sized c = search needs
 
--- src/stream_calls.rt:51:21
 shared-slice-read-wide-3 : tie.Need-shared-slice-read-wide-3
 shared-slice-read-wide-3 c = search needs
 
--- src/stream_calls.rt:51:16
 wide-requires-3 : tie.Need-wide-requires-3
 wide-requires-3 c κs = search needs
 
--- src/stream_calls.rt:52:23
 shared-slice-read-wide-4 : tie.Need-shared-slice-read-wide-4
 shared-slice-read-wide-4 c = search needs
 
--- src/stream_calls.rt:52:18
 wide-requires-4 : tie.Need-wide-requires-4
 wide-requires-4 c κs = search needs
 
--- src/stream_calls.rt:53:15
 pair-at-requires : tie.Need-pair-at-requires
 pair-at-requires c κs = search needs
 
--- src/stream_calls.rt:54:14
 pair-at-requires-2 : tie.Need-pair-at-requires-2
 pair-at-requires-2 c κs = search needs
 
--- src/stream_calls.rt:55:13
 pair-at-requires-3 : tie.Need-pair-at-requires-3
 pair-at-requires-3 c κs = search needs
 
--- src/stream_calls.rt:56:16
 shared-slice-read-t18 : tie.Need-shared-slice-read-t18
 shared-slice-read-t18 c = search needs
 
--- src/stream_calls.rt:43:1
+shared-slice-read-t20 : tie.Need-shared-slice-read-t20
+shared-slice-read-t20 c = search needs
+
 returns : tie.Need-returns
 returns c =
     rw
-    (c .before .before .before .before .before .before .wide3 .ensures .0, c .before .before .before .before .wide4 .ensures .0, c .before .before .before .pair-at .ensures, c .before .before .pair-at2 .ensures, c .before .pair-at3 .ensures, c .before .before .before .before .before .before .before .before .before .before .before .wide .ensures .0, c .before .before .before .before .before .before .before .before .before .wide2 .ensures .0)
+    (c .before .before .before .before .before .before .before .wide3 .ensures .0, c .before .before .before .before .before .wide4 .ensures .0, c .before .before .before .before .pair-at .ensures, c .before .before .before .pair-at2 .ensures, c .before .before .pair-at3 .ensures, c .before .before .before .before .before .before .before .before .before .before .before .before .wide .ensures .0, c .before .before .before .before .before .before .before .before .before .before .wide2 .ensures .0)
     refl
 
 pub fields-spec : {M : Type 1} → statement M
@@ -93,4 +77,5 @@ fields-spec =
     pair-at-requires-2
     pair-at-requires-3
     shared-slice-read-t18
+    shared-slice-read-t20
     returns)

@@ -1,41 +1,30 @@
+-- `stream_calls::is_record` meets its contract.
 use borrow.Author.Needs.{needs}
 use mathlib.Core.Path.{refl}
 use borrow.Author.Tests.{ne-eqb, eq-eqb}
 use Rattle.frames.specs.Records.{is-record}
 use Rattle.frames.proofs.stream_calls.is_record.Statement.{statement}
 use Rattle.frames.proofs.stream_calls.is_record.Tie as tie
-use Rattle.frames.proofs.stream_calls.is_record.Reads as reads
-use Rattle.frames.proofs.stream_calls.is_record.Lts as lts
 
--- src/stream_calls.rt:37:9
 returns : tie.Need-returns
 unfolding is-record
 returns c = rw (ne-eqb _ _ (c .if1 .taken)) refl
 
--- src/stream_calls.rt:39:6
 shared-slice-read-result : tie.Need-shared-slice-read-result
 shared-slice-read-result c = search needs
 
--- src/stream_calls.rt:39:21
 shared-slice-read-result-2 : tie.Need-shared-slice-read-result-2
 shared-slice-read-result-2 c = search needs
 
--- src/stream_calls.rt:39:37
 shared-slice-read-result-3 : tie.Need-shared-slice-read-result-3
 shared-slice-read-result-3 c = search needs
 
--- src/stream_calls.rt:39:53
 shared-slice-read-result-4 : tie.Need-shared-slice-read-result-4
 shared-slice-read-result-4 c = search needs
 
--- src/stream_calls.rt:39:68
-shared-slice-read-result-5 : tie.Need-shared-slice-read-result-5
-shared-slice-read-result-5 c = search needs
-
--- src/stream_calls.rt:33:1
 returns-2 : tie.Need-returns-2
 unfolding is-record
-returns-2 c = rw (eq-eqb _ _ (c .before .before .before .before .before .if1 .left)) refl
+returns-2 c = rw (eq-eqb _ _ (c .before .before .before .before .if1 .left)) refl
 
 pub is-record-spec : {M : Type 1} → statement M
 is-record-spec =
@@ -46,5 +35,4 @@ is-record-spec =
     shared-slice-read-result-2
     shared-slice-read-result-3
     shared-slice-read-result-4
-    shared-slice-read-result-5
     returns-2)

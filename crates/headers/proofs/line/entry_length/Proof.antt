@@ -1,75 +1,59 @@
 -- `line::entry_length` meets its contract: each refusal says why the entry cannot be written.
 use borrow.Author.Needs.{needs}
-use mathlib.Core.Path.{_≡_, sym, ap, _∙_}
-use mathlib.Core.Bool.{true}
+use mathlib.Core.Path.{sym, _∙_}
 use native.Mathlib.Omega.{arith}
-use lib.ListN.{length}
 use borrow.Author.Tests.{not-true, not-false}
-use Rattle.headers.specs.Rows.{every}
-use Rattle.headers.specs.Escapes.{encode, writable}
-use Rattle.headers.specs.Answers.{length-says}
-use Rattle.headers.specs.declared.text.Field.the-variants.{Value}
-use Rattle.headers.proofs.Settling.{told-refused, told-accepted, no-name, no-room, no-room-plain, length-no, length-yes, divided, divided-empty, divided-plain, divided-long, divided-octet, divided-name, divided-can}
+use Rattle.headers.proofs.Settling.{no-name, no-room, no-room-plain, length-no, length-yes, divided, divided-empty, divided-plain, divided-long, divided-octet, divided-name, divided-utf8, divided-can}
 use Rattle.headers.proofs.line.entry_length.Statement.{statement}
 use Rattle.headers.proofs.line.entry_length.Tie as tie
 
 returns : tie.Need-returns
-returns c = let a = c .before .before .args in
-    let e = divided (a .name) (a .text .now) in
-    sym (length-no (a .style) e (no-name (a .style) e (divided-empty (a .name) (a .text .now) ∙ c .if1 .taken)))
+returns c =
+    sym (length-no (c .before .before .args .style) (divided (c .before .before .args .name) (c .before .before .args .text .now)) (no-name (c .before .before .args .style) (divided (c .before .before .args .name) (c .before .before .args .text .now)) (divided-empty (c .before .before .args .name) (c .before .before .args .text .now) ∙ c .if1 .taken)))
 
 returns-2 : tie.Need-returns-2
-returns-2 c = let a = c .before .before .before .args in
-    let e = divided (a .name) (a .text .now) in
-    sym (length-no (a .style) e (no-room-plain (a .style) e (omega (arith, divided-plain (a .name) (a .text .now)))))
+returns-2 c =
+    sym (length-no (c .before .before .before .args .style) (divided (c .before .before .before .args .name) (c .before .before .before .args .text .now)) (no-room-plain (c .before .before .before .args .style) (divided (c .before .before .before .args .name) (c .before .before .before .args .text .now)) (omega (arith, divided-plain (c .before .before .before .args .name) (c .before .before .before .args .text .now)))))
 
-text-length-requires : tie.Need-text-length-requires
-text-length-requires c κs = search needs
-
-enum-known-n : tie.Need-enum-known-n
-enum-known-n c = search needs
-
-enum-told : tie.Need-enum-told
-enum-told c = search needs
+measure-requires : tie.Need-measure-requires
+measure-requires c κs = search needs
 
 returns-3 : tie.Need-returns-3
-returns-3 c = let a = c .before .before .before .before .before .before .args in
-    let e = divided (a .name) (a .text .now) in
-    sym (length-no (a .style) e (divided-octet (a .style) (a .name) (a .text .now) (told-refused _ _ 53 (sym (ap length-says (c .enum-told .given .1)) ∙ c .before .before .text-length .ensures))))
-
--- what the length is, and that the text can be written
-abbrev Told : tie.After-known-told → Type 0
-Told c =
-    let a = c .before .before .before .before .before .before .before .args in
-    (every (writable (a .style) Value) (a .text .now) ≡ true) × (c .before .n .given .0 .0 ≡ length (encode (a .style) (a .text .now)))
-
-told : (c : tie.After-known-told) → Told c
-told c = told-accepted _ _ _ (sym (ap length-says (c .before .n .given .1)) ∙ c .before .before .before .text-length .ensures)
+returns-3 c =
+    sym (length-no (c .before .before .before .before .before .before .args .style) (divided (c .before .before .before .before .before .before .args .name) (c .before .before .before .before .before .before .args .text .now)) (divided-octet (c .before .before .before .before .before .before .args .style) (c .before .before .before .before .before .before .args .name) (c .before .before .before .before .before .before .args .text .now) (sym (c .before .before .measure .ensures .0) ∙ not-true _ (c .if3 .taken))))
 
 is-name-requires : tie.Need-is-name-requires
 is-name-requires c κs = search needs
 
 returns-4 : tie.Need-returns-4
-returns-4 c = let a = c .before .before .before .before .before .before .before .before .before .args in
-    let e = divided (a .name) (a .text .now) in
-    sym (length-no (a .style) e (divided-name (a .style) (a .name) (a .text .now) (sym (c .before .is-name .ensures) ∙ not-true _ (c .if3 .taken))))
+returns-4 c =
+    sym (length-no (c .before .before .before .before .before .before .before .before .args .style) (divided (c .before .before .before .before .before .before .before .before .args .name) (c .before .before .before .before .before .before .before .before .args .text .now)) (divided-name (c .before .before .before .before .before .before .before .before .args .style) (c .before .before .before .before .before .before .before .before .args .name) (c .before .before .before .before .before .before .before .before .args .text .now) (sym (c .before .is-name .ensures) ∙ not-true _ (c .if4 .taken))))
+
+are-utf8-requires : tie.Need-are-utf8-requires
+are-utf8-requires c κs =
+    (c .before .before .before .before .measure .ensures .1 (not-false _ (c .before .before .if3 .left))) .1
 
 returns-5 : tie.Need-returns-5
-returns-5 c = let a = c .before .before .before .before .before .before .before .before .before .before .args in
-    let e = divided (a .name) (a .text .now) in
-    sym (length-no (a .style) e (no-room (a .style) e (omega (arith, divided-long (a .style) (a .name) (a .text .now), told (c .before .before .before)))))
-
-add-t6 : tie.Need-add-t6
-add-t6 c = omega arith
+returns-5 c =
+    sym (length-no (c .before .before .before .before .before .before .before .before .before .before .args .style) (divided (c .before .before .before .before .before .before .before .before .before .before .args .name) (c .before .before .before .before .before .before .before .before .before .before .args .text .now)) (divided-utf8 (c .before .before .before .before .before .before .before .before .before .before .args .style) (c .before .before .before .before .before .before .before .before .before .before .args .name) (c .before .before .before .before .before .before .before .before .before .before .args .text .now) (sym (c .before .are-utf8 .ensures) ∙ not-true _ (c .if5 .taken))))
 
 returns-6 : tie.Need-returns-6
-returns-6 c = let a = c .before .before .before .before .before .before .before .before .before .before .args in
-    let e = divided (a .name) (a .text .now) in
-    let (all, n) = told (c .before .before .before) in
-    let long = divided-long (a .style) (a .name) (a .text .now) in
-    let named = sym (c .before .before .is-name .ensures) ∙ not-false _ (c .before .if3 .left) in
-    let ok = divided-can (a .style) (a .name) (a .text .now) (divided-empty (a .name) (a .text .now) ∙ c .before .before .before .before .before .before .before .before .if1 .left) all named (omega (arith, n)) in
-    rw (n, ← long) (sym (length-yes (a .style) e ok))
+returns-6 c =
+    sym (length-no (c .before .before .before .before .before .before .before .before .before .before .before .before .args .style) (divided (c .before .before .before .before .before .before .before .before .before .before .before .before .args .name) (c .before .before .before .before .before .before .before .before .before .before .before .before .args .text .now)) (no-room (c .before .before .before .before .before .before .before .before .before .before .before .before .args .style) (divided (c .before .before .before .before .before .before .before .before .before .before .before .before .args .name) (c .before .before .before .before .before .before .before .before .before .before .before .before .args .text .now)) (omega (arith, divided-long (c .before .before .before .before .before .before .before .before .before .before .before .before .args .style) (c .before .before .before .before .before .before .before .before .before .before .before .before .args .name) (c .before .before .before .before .before .before .before .before .before .before .before .before .args .text .now), (c .before .before .before .before .before .before .before .before .measure .ensures .1 (not-false _ (c .before .before .before .before .before .before .if3 .left))) .0, c .if6 .taken))))
+
+add-t6 : tie.Need-add-t6
+add-t6 c =
+    omega (arith, c .before .if6 .left)
+
+returns-7 : tie.Need-returns-7
+returns-7 c =
+    let n = (c .before .before .before .before .before .before .before .before .before .measure .ensures .1 (not-false _ (c .before .before .before .before .before .before .before .if3 .left))) .0 in
+    let all = sym (c .before .before .before .before .before .before .before .before .before .measure .ensures .0) ∙ not-false _ (c .before .before .before .before .before .before .before .if3 .left) in
+    let named = sym (c .before .before .before .before .before .before .is-name .ensures) ∙ not-false _ (c .before .before .before .before .before .if4 .left) in
+    let both = sym (c .before .before .before .before .are-utf8 .ensures) ∙ not-false _ (c .before .before .before .if5 .left) in
+    let some = divided-empty (c .before .before .before .before .before .before .before .before .before .before .before .before .before .args .name) (c .before .before .before .before .before .before .before .before .before .before .before .before .before .args .text .now) ∙ c .before .before .before .before .before .before .before .before .before .before .before .if1 .left in
+    let ok = divided-can (c .before .before .before .before .before .before .before .before .before .before .before .before .before .args .style) (c .before .before .before .before .before .before .before .before .before .before .before .before .before .args .name) (c .before .before .before .before .before .before .before .before .before .before .before .before .before .args .text .now) some all named both (omega (arith, n, c .before .if6 .left)) in
+    rw (n, ← divided-long (c .before .before .before .before .before .before .before .before .before .before .before .before .before .args .style) (c .before .before .before .before .before .before .before .before .before .before .before .before .before .args .name) (c .before .before .before .before .before .before .before .before .before .before .before .before .before .args .text .now)) (sym (length-yes (c .before .before .before .before .before .before .before .before .before .before .before .before .before .args .style) (divided (c .before .before .before .before .before .before .before .before .before .before .before .before .before .args .name) (c .before .before .before .before .before .before .before .before .before .before .before .before .before .args .text .now)) ok))
 
 pub entry-length-spec : {M : Type 1} → statement M
 entry-length-spec =
@@ -77,12 +61,12 @@ entry-length-spec =
     (tie.spec
     returns
     returns-2
-    text-length-requires
-    enum-known-n
-    enum-told
+    measure-requires
     returns-3
     is-name-requires
     returns-4
+    are-utf8-requires
     returns-5
+    returns-6
     add-t6
-    returns-6)
+    returns-7)

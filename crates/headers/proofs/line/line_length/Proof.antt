@@ -5,13 +5,12 @@ use mathlib.Core.Bool.{true}
 use native.Mathlib.Omega.{arith}
 use lib.ListN.{length}
 use borrow.Author.Tests.{not-true, not-false, leb-true, leb-false}
-use Rattle.headers.specs.Rows.{every}
-use Rattle.headers.specs.Escapes.{encode, writable}
-use Rattle.headers.specs.Lines.{entry-of}
+use Rattle.headers.specs.Escapes.{encode}
+use Rattle.headers.specs.Lines.{entry-of, can-stand}
 use Rattle.headers.specs.Answers.{length-says}
 use Rattle.headers.specs.declared.text.Field.the-variants.{Name, Value}
 use Rattle.headers.proofs.Rows.{empty-zero, empty-not}
-use Rattle.headers.proofs.Settling.{told-refused, told-accepted, raw-long, no-name, no-name-octet, no-value-octet, no-room, no-room-plain, can, length-no, length-yes}
+use Rattle.headers.proofs.Settling.{told-refused, told-accepted, raw-long, no-name, no-name-text, no-value-text, no-room, no-room-plain, can, length-no, length-yes}
 use Rattle.headers.proofs.line.line_length.Statement.{statement}
 use Rattle.headers.proofs.line.line_length.Tie as tie
 
@@ -40,7 +39,7 @@ enum-told c = search needs
 returns-3 : tie.Need-returns-3
 returns-3 c = let a = c .before .before .before .before .before .before .before .before .args in
     let e = entry-of (a .name .now) (a .value .now) in
-    sym (length-no (a .style) e (no-name-octet (a .style) e (told-refused _ _ 53 (sym (ap length-says (c .enum-told .given .1)) ∙ c .before .before .text-length .ensures))))
+    sym (length-no (a .style) e (no-name-text (a .style) e (told-refused _ _ 53 (sym (ap length-says (c .enum-told .given .1)) ∙ c .before .before .text-length .ensures))))
 
 text-length-requires-2 : tie.Need-text-length-requires-2
 text-length-requires-2 c κs =
@@ -55,7 +54,7 @@ enum-told-2 c = search needs
 returns-4 : tie.Need-returns-4
 returns-4 c = let a = c .before .before .before .before .before .before .before .before .before .before .before .before .args in
     let e = entry-of (a .name .now) (a .value .now) in
-    sym (length-no (a .style) e (no-value-octet (a .style) e (told-refused _ _ 53 (sym (ap length-says (c .enum-told2 .given .1)) ∙ c .before .before .text-length2 .ensures))))
+    sym (length-no (a .style) e (no-value-text (a .style) e (told-refused _ _ 53 (sym (ap length-says (c .enum-told2 .given .1)) ∙ c .before .before .text-length2 .ensures))))
 
 both-fit-requires-2 : tie.Need-both-fit-requires-2
 both-fit-requires-2 c κs = search needs
@@ -64,8 +63,8 @@ both-fit-requires-2 c κs = search needs
 abbrev Told : tie.After-known-told2 → Type 0
 Told c =
     let a = c .before .before .before .before .before .before .before .before .before .before .before .before .before .args in
-    ((every (writable (a .style) Name) (a .name .now) ≡ true) × (c .before .before .before .before .before .n .given .0 .0 ≡ length (encode (a .style) (a .name .now))))
-    × ((every (writable (a .style) Value) (a .value .now) ≡ true) × (c .before .v .given .0 .0 ≡ length (encode (a .style) (a .value .now))))
+    ((can-stand (a .style) Name (a .name .now) ≡ true) × (c .before .before .before .before .before .n .given .0 .0 ≡ length (encode (a .style) (a .name .now))))
+    × ((can-stand (a .style) Value (a .value .now) ≡ true) × (c .before .v .given .0 .0 ≡ length (encode (a .style) (a .value .now))))
 
 told : (c : tie.After-known-told2) → Told c
 told c = (
