@@ -1,5 +1,6 @@
-// Every octet in a value, written as a line and read back from it.
+// Every octet of ASCII in a value, and longer characters, written as a line and read back from it.
 use crate::calls::length;
+use crate::calls::length_of;
 use crate::calls::lengths;
 use crate::show::number;
 use crate::show::say;
@@ -9,24 +10,38 @@ use headers::Field;
 use headers::LineWritten;
 use headers::Style;
 
-// The octets 0 to 255.
-fn all_octets() -> [u8; 256] {
-    let mut all = [0u8; 256];
+// The octets 0 to 127.
+fn all_octets() -> [u8; 128] {
+    let mut all = [0u8; 128];
     let mut i: usize = 0;
-    while i < 256 {
+    while i < 128 {
         all[i] = i as u8;
         i += 1;
     }
     all
 }
 
-// The octets 0 to 255 as a value: encoded, decoded again, and compared.
+// The octets 0 to 127 as a value: encoded, decoded again, and compared.
 pub(crate) fn every_octet() {
     let all = all_octets();
     let value: &[u8] = &all;
-    lengths(b"every octet: ", value);
+    lengths(b"every octet of ASCII: ", value);
     again(value);
-    length(b"every octet, no escapes: ", value, false);
+    length(b"every octet of ASCII, no escapes: ", value, false);
+}
+
+// The same of characters of two, three and four octets; and what is no UTF-8: a character that is cut, the first that is longer than it
+// need be, half of a surrogate pair, and the first beyond the last.
+pub(crate) fn characters() {
+    let value: &[u8] = &[195u8, 169, 226, 130, 172, 240, 159, 140, 138];
+    lengths(b"characters: ", value);
+    again(value);
+    length(b"characters, no escapes: ", value, false);
+    length(b"a cut character: ", &[226u8, 130], true);
+    length(b"longer than it need be: ", &[224u8, 159, 191], true);
+    length(b"half of a surrogate pair: ", &[237u8, 160, 128], false);
+    length(b"beyond the last: ", &[244u8, 144, 128, 128], true);
+    length_of(b"cut by the value: ", &[97u8, 195, 169], 2, true);
 }
 
 // A value written as a line, its raw value made a record, and the record's value compared with it.

@@ -3,6 +3,7 @@ mod again; // every octet, there and back
 mod calls; // one call, and its answer shown
 mod show; // words, numbers and octets
 
+use crate::again::characters;
 use crate::again::every_octet;
 use crate::calls::decimal;
 use crate::calls::decimal_itself;
@@ -20,6 +21,7 @@ fn main() {
     document_lines();
     one_pass();
     every_octet();
+    characters();
     not_raw();
     rooms();
     long_lines();

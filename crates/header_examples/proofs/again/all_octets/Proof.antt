@@ -7,10 +7,10 @@ use Rattle.header_examples.proofs.again.all_octets.Statement.{statement
 use Rattle.header_examples.proofs.again.all_octets.Tie as tie
 
 abbrev Inv-loop : tie.InvT-loop
-Inv-loop all₀ i₀ all i = (i ≤ 256) × (length all ≡ 256)
+Inv-loop all₀ i₀ all i = (i ≤ 128) × (length all ≡ 128)
 
 abbrev μ-loop : tie.MeasureT-loop
-μ-loop all₀ i₀ all i = 256 - i
+μ-loop all₀ i₀ all i = 128 - i
 
 loop-holds : tie.Need-loop-holds Inv-loop μ-loop
 loop-holds c = search needs
