@@ -1,6 +1,7 @@
 //! Tests of the rules against slower readings of the definitions: items are put together by the
 //! grammar instead of taken apart, and "can still be finished" is looked up among their beginnings.
 
+mod characters;
 mod deliveries;
 mod feeding;
 mod histories;
@@ -18,17 +19,39 @@ use crate::random::Random;
 use crate::streams;
 use std::collections::HashSet;
 
-/// The octets that the small rows are made of.
-const SMALL: &[u8] = b"ac\\:\n\r\0";
+/// What the small rows are made of, and which of it is text where there are escapes; the rest of it is a
+/// backslash, a colon, line ends, and octets that are no characters by themselves.
+struct Small {
+    octets: &'static [u8],
+    plain: &'static [u8],
+    escapes: &'static [&'static [u8]],
+    characters: &'static [&'static [u8]],
+}
+
+const SMALL: Small = Small {
+    octets: b"ac\\:\n\r\0",
+    plain: b"ac\0",
+    escapes: &[b"\\c", b"\\\\"],
+    characters: &[],
+};
+
+/// Two characters are made of its octets, of two octets and of three.
+const WIDE: Small = Small {
+    octets: b"a\\:\n\xc2\xe2\x82",
+    plain: b"a",
+    escapes: &[b"\\\\"],
+    characters: &[b"\xc2\x82", b"\xe2\x82\x82"],
+};
+
+fn one_by_one(octets: &[u8]) -> Vec<Vec<u8>> {
+    octets.iter().map(|&octet| vec![octet]).collect()
+}
 
 /// All rows of so many octets.
-fn rows(length: usize) -> Vec<Vec<u8>> {
+fn rows(small: &Small, length: usize) -> Vec<Vec<u8>> {
     let mut rows = vec![Vec::new()];
     for _ in 0..length {
-        rows = product(
-            &rows,
-            &SMALL.iter().map(|&octet| vec![octet]).collect::<Vec<_>>(),
-        );
+        rows = product(&rows, &one_by_one(small.octets));
     }
     rows
 }
@@ -48,80 +71,90 @@ fn is_connect(command: Command) -> bool {
     [5, 6].contains(&command.0)
 }
 
-/// All names of so many octets: sound octets and whole escapes.
-fn names(command: Command, length: usize) -> Vec<Vec<u8>> {
+/// All names of so many octets: sound octets, whole escapes and whole characters.
+fn names(small: &Small, command: Command, length: usize) -> Vec<Vec<u8>> {
     if command.escapes() {
-        texts(b"ac\0", &[b"\\c", b"\\\\"], length)
+        texts(small, b"", small.escapes, length)
     } else {
-        texts(b"ac\0\\", &[], length)
+        texts(small, b"\\", &[], length)
     }
 }
 
 /// All values of so many octets: in CONNECT and CONNECTED a colon is an octet like any other.
-fn values(command: Command, length: usize) -> Vec<Vec<u8>> {
+fn values(small: &Small, command: Command, length: usize) -> Vec<Vec<u8>> {
     if is_connect(command) {
-        texts(b"ac\0\\:", &[], length)
+        texts(small, b"\\:", &[], length)
     } else {
-        names(command, length)
+        names(small, command, length)
     }
 }
 
-/// All texts of so many octets, made of these octets and of these pairs.
-fn texts(singles: &[u8], pairs: &[&[u8]], length: usize) -> Vec<Vec<u8>> {
+/// All texts of so many octets, made of the small row's plain octets and characters, of these octets and of
+/// these escapes.
+fn texts(small: &Small, singles: &[u8], escapes: &[&[u8]], length: usize) -> Vec<Vec<u8>> {
     if length == 0 {
         return vec![Vec::new()];
     }
-    let fronts: Vec<_> = singles.iter().map(|&octet| vec![octet]).collect();
-    let mut all = product(&fronts, &texts(singles, pairs, length - 1));
-    if length > 1 {
-        let fronts: Vec<_> = pairs.iter().map(|pair| pair.to_vec()).collect();
-        all.extend(product(&fronts, &texts(singles, pairs, length - 2)));
+    let mut fronts = one_by_one(&[small.plain, singles].concat());
+    fronts.extend(escapes.iter().map(|escape| escape.to_vec()));
+    fronts.extend(small.characters.iter().map(|character| character.to_vec()));
+    let mut all = Vec::new();
+    for front in fronts.into_iter().filter(|front| front.len() <= length) {
+        let rest = texts(small, singles, escapes, length - front.len());
+        all.extend(product(&[front], &rest));
     }
     all
 }
 
 /// All header lines of so many octets, their line end counted.
-fn lines(command: Command, length: usize) -> Vec<Vec<u8>> {
+fn lines(small: &Small, command: Command, length: usize) -> Vec<Vec<u8>> {
     let mut all = Vec::new();
-    for (end, width) in [(&b"\n"[..], 1), (b"\r\n", 2)] {
+    for (end, width) in line_ends(small) {
         for name in 1..length.saturating_sub(width) {
             let value = length - width - 1 - name;
-            let named = product(&names(command, name), &[b":".to_vec()]);
-            let whole = product(&named, &values(command, value));
+            let named = product(&names(small, command, name), &[b":".to_vec()]);
+            let whole = product(&named, &values(small, command, value));
             all.extend(product(&whole, &[end.to_vec()]));
         }
     }
     all
 }
 
+/// The line ends that these octets make, with their lengths.
+fn line_ends(small: &Small) -> Vec<(&'static [u8], usize)> {
+    let both: [(&[u8], usize); 2] = [(b"\n", 1), (b"\r\n", 2)];
+    let made = |end: &&[u8]| end.iter().all(|octet| small.octets.contains(octet));
+    both.iter().copied().filter(|(end, _)| made(end)).collect()
+}
+
 /// All header blocks of so many octets, with the empty line.
-fn blocks(command: Command, length: usize) -> Vec<Vec<u8>> {
-    let mut all = match length {
-        1 => vec![b"\n".to_vec()],
-        2 => vec![b"\r\n".to_vec()],
-        _ => Vec::new(),
-    };
+fn blocks(small: &Small, command: Command, length: usize) -> Vec<Vec<u8>> {
+    let mut all: Vec<_> = line_ends(small)
+        .into_iter()
+        .filter(|(_, width)| *width == length)
+        .map(|(end, _)| end.to_vec())
+        .collect();
     for first in 1..length {
         all.extend(product(
-            &lines(command, first),
-            &blocks(command, length - first),
+            &lines(small, command, first),
+            &blocks(small, command, length - first),
         ));
     }
     all
 }
 
-/// All that can follow the command's line in a frame, of so many octets.
-fn tails(command: Command, length: usize) -> Vec<Vec<u8>> {
+/// All that can follow the command's line in a frame, of so many octets, and octet 0.
+fn tails(small: &Small, command: Command, length: usize) -> Vec<Vec<u8>> {
     let mut all = Vec::new();
     for body in 0..length.saturating_sub(1) {
         if body > 0 && !command.has_body() {
             continue;
         }
-        let bodies: Vec<_> = rows(body)
+        let bodies: Vec<_> = rows(small, body)
             .into_iter()
             .filter(|row| !row.contains(&0))
             .collect();
-        let fronts = product(&blocks(command, length - body - 1), &bodies);
+        let fronts = product(&blocks(small, command, length - body - 1), &bodies);
         all.extend(product(&fronts, &[vec![0]]));
     }
     all
@@ -140,11 +173,23 @@ fn is_item(row: &[u8]) -> bool {
 
 #[test]
 fn items_are_those_of_the_grammar() {
+    items_are_made(&SMALL, b"");
+}
+
+/// The same with characters; octet 0, which ends a frame, stands behind each row.
+#[test]
+fn items_of_characters_are_those_of_the_grammar() {
+    items_are_made(&WIDE, b"\0");
+}
+
+/// Of all rows up to seven octets, with this end behind them, the items are those put together.
+fn items_are_made(small: &Small, end: &[u8]) {
     for command in small_commands() {
         let head = [command.name(), b"\n"].concat();
         for length in 0..=7 {
-            let made: HashSet<Vec<u8>> = tails(command, length).into_iter().collect();
-            for tail in rows(length) {
+            let made = tails(small, command, length + end.len());
+            let made: HashSet<Vec<u8>> = made.into_iter().collect();
+            for tail in product(&rows(small, length), &[end.to_vec()]) {
                 assert_eq!(
                     is_item(&[&head[..], &tail].concat()),
                     made.contains(&tail),
@@ -157,15 +202,26 @@ fn items_are_those_of_the_grammar() {
 
 #[test]
 fn unfinished_are_the_beginnings_of_items() {
+    are_beginnings(&SMALL, 4, 9);
+}
+
+/// The same with characters.
+#[test]
+fn unfinished_characters_are_the_beginnings_of_items() {
+    are_beginnings(&WIDE, 3, 9);
+}
+
+/// Of all rows up to so many octets, those that can be finished are the beginnings of items up to so many.
+fn are_beginnings(small: &Small, most: usize, most_of_item: usize) {
     for command in small_commands() {
         let head = [command.name(), b"\n"].concat();
         let mut beginnings = HashSet::new();
-        for tail in (0..=9).flat_map(|length| tails(command, length)) {
-            for end in 0..tail.len().min(5) {
+        for tail in (0..=most_of_item).flat_map(|length| tails(small, command, length)) {
+            for end in 0..tail.len().min(most + 1) {
                 beginnings.insert(tail[..end].to_vec());
             }
         }
-        for tail in (0..=4).flat_map(rows) {
+        for tail in (0..=most).flat_map(|length| rows(small, length)) {
             let found = can_be_finished(&[&head[..], &tail].concat());
             assert_eq!(found, beginnings.contains(&tail), "{head:?} {tail:?}");
         }
@@ -189,7 +245,7 @@ fn content_length_decides() {
         blocks.extend(single.iter().map(|second| [&first[..], second].concat()));
     }
     let bodies: Vec<Vec<u8>> = (0..=3)
-        .flat_map(rows)
+        .flat_map(|length| rows(&SMALL, length))
         .filter(|row| row.iter().all(|octet| b"a\0\r".contains(octet)))
         .collect();
     for command in small_commands() {
@@ -290,13 +346,13 @@ fn spoils(command: Command, line: &[u8], octet: u8) -> Option<usize> {
 fn spoiled_lines_have_their_number() {
     for command in small_commands() {
         let head = [command.name(), b"\n"].concat();
-        for line in (0..=4).flat_map(rows) {
+        for line in (0..=4).flat_map(|length| rows(&SMALL, length)) {
             let before = [&head[..], &line].concat();
             let ended = line.iter().any(|octet| b"\n\r".contains(octet));
             if ended || !can_be_finished(&before) {
                 continue;
             }
-            for &octet in SMALL {
+            for &octet in SMALL.octets {
                 let refused = match parse(&[&before[..], &[octet]].concat()) {
                     Answer::Invalid { code, .. } => Some(code),
                     _ => None,

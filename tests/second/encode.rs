@@ -1,7 +1,8 @@
-//! Encoding, document 01, "Writing", and document 02, C-16: the image of a command, a header block and a
+//! Encoding, document 01, "Writing", and document 02, C-16 and C-17: the image of a command, a header block and a
 //! body, or the first of the refusals in the document's order.
 
 use crate::block::{self, Entry};
+use crate::characters::is_utf8;
 use crate::decode::Content;
 use crate::item::{
     Command, BACKSLASH, COLON, CONTENT_LENGTH, CR, ESCAPED, ESCAPE_LETTERS, LF, MAX_LINE,
@@ -78,7 +79,7 @@ fn first_length(content: &Content) -> Option<&Entry> {
 
 /// "53 an entry has an empty name, a raw line over 512, or in CONNECT/CONNECTED holds 10, 13 or a
 /// colon (the first such entry is named, from 0)"; by document 02, C-12, "a colon gets 53 there only in
-/// the name".
+/// the name"; by C-17 "53 also where a name or value is not UTF-8".
 fn spoiled_entry(content: &Content) -> Option<Refusal> {
     let command = content.command;
     let spoiled = |entry: &Entry| {
@@ -86,6 +87,8 @@ fn spoiled_entry(content: &Content) -> Option<Refusal> {
         let unwritable = [LF, CR].iter().any(holds) || entry.name.contains(&COLON);
         entry.name.is_empty()
             || line(command, entry).len() > MAX_LINE
+            || !is_utf8(&entry.name)
+            || !is_utf8(&entry.value)
             || (!command.escapes() && unwritable)
     };
     let index = content.entries.iter().position(spoiled)?;

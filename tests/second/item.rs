@@ -1,9 +1,10 @@
-//! The rules of document 01, "Items on the wire", with those of document 02's C-12 for colons, read over
-//! whole items and whole lines.
+//! The rules of document 01, "Items on the wire", with those of document 02's C-12 for colons and C-17 for
+//! characters, read over whole items and whole lines.
 //!
 //! `first_item` is the only place that knows the format. Whether octets can still be finished is
 //! asked as the document asks it: is there a row of octets after them that makes the whole an item?
 
+use crate::characters::{self, is_utf8};
 use crate::table;
 
 /// The sizes.
@@ -227,6 +228,7 @@ pub fn header_block(command: Command, row: &[u8]) -> Option<HeaderBlock<'_>> {
 
 /// "A header line is a name of at least one octet, a colon, a value that may be empty." Gives name
 /// and value, both raw. The first colon divides; whether the value may have more, the command says.
+/// Document 02, C-17: "Names and values must be UTF-8 as RFC 3629 defines it."
 pub fn header_line(command: Command, line: &[u8]) -> Option<(&[u8], &[u8])> {
     let colon = line.iter().position(|&octet| octet == COLON)?;
     let (name, value) = (&line[..colon], &line[colon + 1..]);
@@ -234,6 +236,8 @@ pub fn header_line(command: Command, line: &[u8]) -> Option<(&[u8], &[u8])> {
         && !name.is_empty()
         && is_text(command, name)
         && is_text(command, value)
+        && is_utf8(name)
+        && is_utf8(value)
         && (command.has_colons() || !value.contains(&COLON));
     sound.then_some((name, value))
 }
@@ -290,10 +294,14 @@ fn body(command: Command, declared: Option<usize>, row: &[u8]) -> Option<usize> 
 
 /// What may be missing from an unfinished item behind its command's letters, up to its body: nothing,
 /// the empty line, a line end and the empty line; before those, in a header line, a colon, an escape's
-/// letter, a digit of a content-length.
+/// letter, a digit of a content-length. The rest of a character may be missing too, before the colon or the
+/// line end: `AFTER_CHARACTER`.
 const ENDINGS: [&[u8]; 8] = [
     b"", b"\n", b"\n\n", b":\n\n", b"c\n\n", b"c:\n\n", b"0\n\n", b":0\n\n",
 ];
+
+/// What may be missing behind the rest of a character.
+const AFTER_CHARACTER: [&[u8]; 2] = [b"\n\n", b":\n\n"];
 
 /// "Octets are an unfinished beginning, and can still be finished, exactly if one or more octets
 /// after them make the whole an item." The endings tried are the shortest ones for each case; where
@@ -304,7 +312,15 @@ pub fn can_be_finished(row: &[u8]) -> bool {
         Some(letters) => finishes(row, &[letters, b"\n\n"].concat()),
         None => false,
     };
-    ENDINGS.iter().any(finishes_here) || COMMANDS.iter().any(finishes_command)
+    let finishes_character = |rest: &&[u8]| {
+        let with = |ending: &&[u8]| finishes(row, &[*rest, *ending].concat());
+        AFTER_CHARACTER.iter().any(with)
+    };
+    // A cut character ends in an octet above those that are characters by themselves.
+    let may_be_cut = row.last().is_some_and(|&octet| octet >= 128);
+    ENDINGS.iter().any(finishes_here)
+        || COMMANDS.iter().any(finishes_command)
+        || (may_be_cut && characters::RESTS.iter().any(finishes_character))
 }
 
 /// Whether the row, the ending and then some octets 0 make an item that is longer than the row. The

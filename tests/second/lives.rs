@@ -2,6 +2,7 @@
 //! often one that is not, and some after it. A log has the MESSAGE frames too that the client was sent.
 
 use crate::block::Entry;
+use crate::characters::is_utf8;
 use crate::client::messages::message;
 use crate::client::right::{leaving, right, taking};
 use crate::client::set;
@@ -279,10 +280,13 @@ fn image(random: &mut Random, frame: &Frame) -> Vec<u8> {
     image
 }
 
-/// The entry as the command can have it: without escapes there is no 10 or 13, and in the name no colon.
+/// The entry as the command can have it: without escapes there is no 10 or 13, and in the name no colon; and
+/// all is UTF-8.
 fn writable(command: Command, entry: &Entry) -> Entry {
     let without = |stops: &[u8], text: &[u8]| -> Vec<u8> {
-        let writable = |octet: &u8| command.escapes() || !stops.contains(octet);
+        let wide = is_utf8(text);
+        let stands = |octet: &u8| command.escapes() || !stops.contains(octet);
+        let writable = |octet: &u8| stands(octet) && (wide || octet.is_ascii());
         let octet = |octet: &u8| if writable(octet) { *octet } else { b';' };
         text.iter().map(octet).collect()
     };

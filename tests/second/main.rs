@@ -4,6 +4,7 @@
 
 mod block;
 mod calls;
+mod characters;
 mod client;
 mod compare;
 mod compare_encode;

@@ -1,9 +1,11 @@
 //! Random streams: whole items, damaged ones, cut ones, each octet that matters at each kind of
 //! place, and the limits with one octet more and less. Most are short; a few are as long as can be.
 
+pub mod characters;
 mod limits;
 mod places;
 
+use self::characters::{any_character, of_either_kind};
 use self::limits::{
     around_added_line, around_all_lines, around_longest, around_whole_body, around_whole_line,
 };
@@ -16,10 +18,10 @@ use crate::random::Random;
 type Stream = Vec<u8>;
 
 /// Octets that a rule speaks of, and some that none does.
-const TELLING: &[u8] = b"\0\n\r:\\crntax 019-\xff";
+const TELLING: &[u8] = b"\0\n\r:\\crntax 019-\xff\x80\xbf\xc3\xe2\xf0";
 
 /// Octets of header text that is sound in every command.
-const PLAIN: &[u8] = b"abcnr019- /.,\0\t\x7f\xff";
+const PLAIN: &[u8] = b"abcnr019- /.,\0\t\x7f";
 
 /// One random stream.
 pub fn stream(random: &mut Random) -> Stream {
@@ -175,11 +177,12 @@ fn value(random: &mut Random, command: Command, length: usize, stream: &mut Stre
     colons(random, command, &mut stream[start..]);
 }
 
-/// Puts colons in place of some octets of a value, at times of all, where the command has colons there.
+/// Puts colons in place of some octets of a value, at times of all but those of characters that have several,
+/// where the command has colons there.
 pub fn colons(random: &mut Random, command: Command, value: &mut [u8]) {
     if command.has_colons() && random.once_in(2) {
         let often = random.pick(&[1, 2, 6]);
-        for octet in value {
+        for octet in value.iter_mut().filter(|octet| octet.is_ascii()) {
             if random.once_in(often) {
                 *octet = COLON;
             }
@@ -188,12 +191,15 @@ pub fn colons(random: &mut Random, command: Command, value: &mut [u8]) {
 }
 
 /// Sound raw text of exactly that many octets, with escapes, or raw backslashes where the command
-/// has no escapes, and without colons.
+/// has no escapes, with characters of several octets, and without colons.
 fn text(random: &mut Random, command: Command, length: usize, stream: &mut Stream) {
     let end = stream.len() + length;
     while stream.len() < end {
-        let room = end - stream.len() > 1;
-        if command.escapes() && room && random.once_in(6) {
+        let left = end - stream.len();
+        let room = left > 1;
+        if room && random.once_in(8) {
+            stream.extend(any_character(random, left));
+        } else if command.escapes() && room && random.once_in(6) {
             stream.push(BACKSLASH);
             stream.push(random.pick(ESCAPE_LETTERS));
         } else if !command.escapes() && random.once_in(6) {
@@ -254,9 +260,10 @@ pub fn damage(random: &mut Random, stream: &mut Stream) {
     }
     let place = random.below(stream.len());
     let end = (place + random.between(1, 6)).min(stream.len());
-    match random.below(7) {
+    match random.below(8) {
         0 => stream[place] ^= 1 << random.below(8),
         1 => stream[place] = random.pick(TELLING),
+        7 => drop(stream.splice(place..place, of_either_kind(random))),
         2 | 3 => stream.insert(place, random.pick(TELLING)),
         4 => drop(stream.remove(place)),
         5 => drop(stream.drain(place..end)),
@@ -278,7 +285,7 @@ fn cut(random: &mut Random) -> Stream {
 
 /// Pieces of frames and single octets in any order.
 fn pieces(random: &mut Random) -> Stream {
-    let pieces: [&[u8]; 12] = [
+    let pieces: [&[u8]; 15] = [
         b"ACK\n",
         b"SEND\r\n",
         b"CONNECT\n",
@@ -291,6 +298,9 @@ fn pieces(random: &mut Random) -> Stream {
         b"0",
         b"\0",
         b":",
+        b"\xc3\xa9",
+        b"\xe2\x82",
+        b"\xac",
     ];
     let mut stream = Stream::new();
     for _ in 0..random.between(1, 12) {

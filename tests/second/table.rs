@@ -1,7 +1,9 @@
 //! The table of refusals, document 01, "The judge's three replies", with row 3 divided by document 02's
-//! C-11: one predicate for each row, asked about the octet at the place. "At one octet the order is 1, 2,
-//! 10, 3, 8, 9, 4 to 7", so the first row in that order that fits gives the number.
+//! C-11, and row 11 of its C-17: one predicate for each row, asked about the octet at the place. "At one
+//! octet the order is 1, 2, 10, 3, 8, 9, 4 to 7", and 11 is "between 2 and 10", so the first row in that
+//! order that fits gives the number.
 
+use crate::characters;
 use crate::item::{
     command_line, content_length, first_line, header_block, Command, BACKSLASH, COLON, COMMANDS,
     CONTENT_LENGTH, CR, ESCAPE_LETTERS, LF, MAX_BODY, MAX_LINE, MAX_LINES, NUL,
@@ -39,10 +41,11 @@ type Row = (usize, fn(&Place) -> bool);
 /// How many numbers there are; they are those from 1 on.
 pub const NUMBERS: usize = ROWS.len();
 
-/// "At one octet the order is 1, 2, 10, 3, 8, 9, 4 to 7."
-const ROWS: [Row; 10] = [
+/// "At one octet the order is 1, 2, 10, 3, 8, 9, 4 to 7", and 11 "between 2 and 10".
+const ROWS: [Row; 11] = [
     (1, leaves_no_command),
     (2, follows_13),
+    (11, breaks_character),
     (10, spoils_escape),
     (3, leaves_name_empty),
     (8, is_second_colon),
@@ -120,6 +123,15 @@ fn follows_13(place: &Place) -> bool {
     after_13(place) && place.octet != LF
 }
 
+/// "11 in the judge for an octet that no character has there": with it no octets make the line's text
+/// UTF-8. Colons, backslashes and line ends are characters themselves, so the line may be asked whole.
+fn breaks_character(place: &Place) -> bool {
+    let Part::Line { line, .. } = &place.part else {
+        return false;
+    };
+    characters::missing(&[line, &[place.octet][..]].concat()).is_none()
+}
+
 /// "10 wrong or cut escape": any octet after a backslash but an escape's letter, a colon and a line end
 /// among them.
 fn spoils_escape(place: &Place) -> bool {
@@ -156,7 +168,7 @@ fn ends_line_before_colon(place: &Place) -> bool {
 }
 
 /// "4 | makes the line, with what it still owes, longer than 512; a missing colon owes 1, an
-/// unfinished escape 1"
+/// unfinished escape 1", and C-17: "An unfinished character owes its missing octets toward the 512."
 fn makes_line_too_long(place: &Place) -> bool {
     let Part::Line { command, line, .. } = &place.part else {
         return false;
@@ -165,7 +177,9 @@ fn makes_line_too_long(place: &Place) -> bool {
         return false;
     }
     let with = [line, &[place.octet][..]].concat();
-    let owed = usize::from(!with.contains(&COLON)) + usize::from(in_escape(*command, &with));
+    let owed = usize::from(!with.contains(&COLON))
+        + usize::from(in_escape(*command, &with))
+        + characters::missing(&with).unwrap_or(0);
     with.len() + owed > MAX_LINE
 }
 

@@ -1,15 +1,16 @@
 //! The entries of random calls: counts and lines about as many and as long as may be, entries that no
-//! line can hold, and what content-length says.
+//! line can hold, those that are not UTF-8 among them, and what content-length says.
 
 use crate::block::Entry;
 use crate::item::{
     Command, BACKSLASH, COLON, CONTENT_LENGTH, CR, ESCAPED, LF, MAX_LINE, MAX_LINES,
 };
 use crate::random::Random;
+use crate::streams::characters::{any_character, broken, MOST};
 use crate::streams::colons;
 
 /// Octets that no command escapes.
-const PLAIN: &[u8] = b"abcnr019- /;.\0\t\xff";
+const PLAIN: &[u8] = b"abcnr019- /;.\0\t";
 
 /// The entries of a call whose body has this length.
 pub fn entries(random: &mut Random, command: Command, body: usize) -> Vec<Entry> {
@@ -44,14 +45,19 @@ fn entry(random: &mut Random, command: Command) -> Entry {
     entry
 }
 
-/// Text of that many octets: any octet where the command escapes, else no 10, 13 or colon.
+/// Text of that many octets, of any characters where the command escapes, else without 10, 13 and colon.
 fn text(random: &mut Random, command: Command, length: usize) -> Vec<u8> {
-    let octet = |_| match random.below(4) {
-        0 if command.escapes() => random.pick(&ESCAPED),
-        0 => BACKSLASH,
-        _ => random.pick(PLAIN),
-    };
-    (0..length).map(octet).collect()
+    let mut text = Vec::new();
+    while text.len() < length {
+        let room = length - text.len();
+        match random.below(8) {
+            0 | 1 if command.escapes() => text.push(random.pick(&ESCAPED)),
+            0 | 1 => text.push(BACKSLASH),
+            2 if room > 1 => text.extend(any_character(random, room)),
+            _ => text.push(random.pick(PLAIN)),
+        }
+    }
+    text
 }
 
 /// An entry whose raw line has exactly 512 octets, or one less, or one more.
@@ -79,7 +85,11 @@ fn raw_text(random: &mut Random, command: Command, length: usize, plain: usize) 
     let mut room = length;
     while room > 0 {
         let special = random.once_in(plain);
-        if special && command.escapes() && room > 1 {
+        if room > 1 && random.once_in(10) {
+            let character = any_character(random, room);
+            room -= character.len();
+            text.extend(character);
+        } else if special && command.escapes() && room > 1 {
             text.push(random.pick(&ESCAPED));
             room -= 2;
         } else {
@@ -98,8 +108,20 @@ fn raw_text(random: &mut Random, command: Command, length: usize, plain: usize) 
 /// Makes an entry one that no line can hold; or, with an octet that has an escape, one that the lines of
 /// some commands can.
 fn spoil(random: &mut Random, command: Command, entry: &mut Entry) {
-    match random.below(24) {
+    match random.below(30) {
         0..=5 => entry.name.clear(),
+        24..=28 => {
+            let text = random.once_in(2);
+            let text = if text {
+                &mut entry.name
+            } else {
+                &mut entry.value
+            };
+            let place = random.between(0, text.len());
+            let octets = broken(random);
+            text.splice(place..place, octets);
+        }
+        29 => divide(random, entry),
         6..=17 => {
             let special = random.pick(&[LF, CR, COLON, COLON, BACKSLASH]);
             let text = random.once_in(2);
@@ -121,6 +143,15 @@ fn spoil(random: &mut Random, command: Command, entry: &mut Entry) {
         }
         _ => *entry = longest(random),
     }
+}
+
+/// Puts a character half at the name's end and half at the value's start: each is asked by itself.
+fn divide(random: &mut Random, entry: &mut Entry) {
+    let character = any_character(random, MOST);
+    let place = random.between(1, character.len() - 1);
+    entry.name.extend(&character[..place]);
+    let value = [&character[place..], &entry.value].concat();
+    entry.value = value;
 }
 
 /// An entry of the lengths that only a block can hold; the longest are cut off with the slice.

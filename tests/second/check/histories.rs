@@ -181,7 +181,7 @@ type Labels = BTreeSet<Vec<u8>>;
 fn lives_have_deliveries_of_every_kind() {
     let mut random = Random::new(17);
     let mut counts: BTreeMap<&str, usize> = BTreeMap::new();
-    for _ in 0..100 {
+    for _ in 0..200 {
         let mut labels = Labels::new();
         for step in sequence(&mut random, 400) {
             let kind = match &step.call {

@@ -1,7 +1,7 @@
 //! Tests of decoding and encoding: what is written is read again, blocks and frames are put together
 //! instead of taken apart, and each refusal is asked for in another way.
 
-use super::{product, small_commands, tails};
+use super::{product, small_commands, tails, SMALL, WIDE};
 use crate::block::{self, Entry};
 use crate::calls::{self, MAX_SLICE};
 use crate::decode::{decode, decoded as decoded_text, Content};
@@ -181,7 +181,9 @@ fn a_line_is_added_where_it_is_needed_or_asked_for() {
 fn small_frames_are_written_again() {
     for command in small_commands() {
         let head = [command.name(), b"\n"].concat();
-        for tail in (2..=7).flat_map(|length| tails(command, length)) {
+        let small = (2..=7).flat_map(|length| tails(&SMALL, command, length));
+        let wide = (2..=8).flat_map(|length| tails(&WIDE, command, length));
+        for tail in small.chain(wide) {
             let frame = [&head[..], &tail].concat();
             let content = decoded(&frame);
             let image = encoded(&content, true).expect("an image");

@@ -2,6 +2,7 @@
 
 use crate::random::Random;
 use crate::session::MAX_ID;
+use crate::streams::characters::any_character;
 
 /// Octets that a rule speaks of, and some that none does.
 const OCTETS: &[u8] = b"\0\n\r:\\\\ac019 ,.\xffAB";
@@ -22,14 +23,25 @@ pub fn octets(random: &mut Random, choices: &[u8], length: usize) -> Vec<u8> {
 /// A short text, perhaps empty.
 pub fn text(random: &mut Random) -> Vec<u8> {
     let length = random.between(0, 6);
-    octets(random, OCTETS, length)
+    with_character(random, length)
+}
+
+/// Octets of any kind, at times with a character of several octets among them.
+fn with_character(random: &mut Random, length: usize) -> Vec<u8> {
+    let mut text = octets(random, OCTETS, length);
+    if length > 1 && random.once_in(4) {
+        let character = any_character(random, length);
+        let place = random.between(0, length - character.len());
+        text[place..place + character.len()].copy_from_slice(&character);
+    }
+    text
 }
 
 /// An id of a length that is allowed.
 pub fn id(random: &mut Random) -> Vec<u8> {
     let any = random.between(1, MAX_ID);
     let length = random.pick(&[1, 1, 2, 2, any, MAX_ID - 1, MAX_ID, MAX_ID]);
-    octets(random, OCTETS, length)
+    with_character(random, length)
 }
 
 /// An id that is almost this one: an octet more or less, another, one of other case, or a 0 behind.

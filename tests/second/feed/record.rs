@@ -2,7 +2,8 @@
 //! what of the item is known there. README.md has the table.
 
 use super::StreamParser;
-use crate::item::{decimal, Command, COLON, COMMANDS, CONTENT_LENGTH, CR, MAX_BODY};
+use crate::characters;
+use crate::item::{decimal, Command, BACKSLASH, COLON, COMMANDS, CONTENT_LENGTH, CR, MAX_BODY};
 use crate::table::{in_escape, part_after, Part, NUMBERS};
 use std::convert::TryInto;
 
@@ -20,9 +21,9 @@ const IN_COMMAND: u8 = 2;
 const AFTER_13_OF_COMMAND: u8 = 3;
 const AT_LINE_START: u8 = 4;
 const IN_NAME: u8 = 5;
-const IN_ESCAPE_OF_NAME: u8 = 6;
+pub const IN_CHARACTER_OF_NAME: u8 = 6;
 const IN_VALUE: u8 = 7;
-const IN_ESCAPE_OF_VALUE: u8 = 8;
+pub const IN_CHARACTER_OF_VALUE: u8 = 8;
 const IN_CONTENT_LENGTH: u8 = 9;
 const AFTER_13_OF_LINE: u8 = 10;
 const AFTER_13_OF_EMPTY_LINE: u8 = 11;
@@ -33,14 +34,17 @@ pub const REFUSED: u8 = 16;
 /// The name is not the beginning of content-length.
 const ANOTHER_NAME: usize = 15;
 
-/// The octets of a record: the phase, the number of a refusal, the count held (two octets), and those
-/// that are 0.
+/// The octets of a record: the phase, the command, the number of a refusal, the count held (two octets),
+/// the unfinished character, and those that are 0.
 pub const PHASE: usize = 0;
+pub const COMMAND: usize = 1;
 pub const CODE: usize = 5;
 pub const HELD: usize = 10;
-pub const ZEROS: usize = 12;
+pub const CHARACTER: usize = 14;
+pub const ZEROS: [usize; 3] = [12, 13, 15];
 
-/// What a record says. The size is that of content-length, the length that of the line or body.
+/// What a record says. The size is that of content-length, the length that of the line or body, the
+/// character the unfinished one.
 #[derive(Default)]
 struct Fields {
     phase: u8,
@@ -52,6 +56,7 @@ struct Fields {
     size: usize,
     length: usize,
     held: usize,
+    character: u8,
 }
 
 impl Fields {
@@ -62,7 +67,8 @@ impl Fields {
         let [command, lines, matched] = singles.map(|number| number as u8);
         let front = [self.phase, command, lines, matched];
         let mark = [u8::from(self.declared), self.code as u8];
-        let all = [&front[..], &mark, &size, &length, &held, &[0; 4]].concat();
+        let last = [0, 0, self.character, 0];
+        let all = [&front[..], &mark, &size, &length, &held, &last].concat();
         all.try_into().expect("a record's octets")
     }
 }
@@ -169,10 +175,15 @@ fn in_line(command: Command, earlier: &[&[u8]], line: &[u8]) -> Fields {
     if fields.length == 0 {
         return fields;
     }
-    let escape = in_escape(command, line);
+    fields.character = unfinished_character(command, line);
+    let unfinished = fields.character != 0;
     match value_of_length(line) {
         _ if !line.contains(&COLON) => {
-            fields.phase = if escape { IN_ESCAPE_OF_NAME } else { IN_NAME };
+            fields.phase = if unfinished {
+                IN_CHARACTER_OF_NAME
+            } else {
+                IN_NAME
+            };
             fields.matched = if CONTENT_LENGTH.starts_with(line) {
                 line.len()
             } else {
@@ -184,22 +195,53 @@ fn in_line(command: Command, earlier: &[&[u8]], line: &[u8]) -> Fields {
             fields.size = decimal(digits, MAX_BODY).unwrap_or(0);
         }
         _ => {
-            fields.phase = if escape { IN_ESCAPE_OF_VALUE } else { IN_VALUE };
+            fields.phase = if unfinished {
+                IN_CHARACTER_OF_VALUE
+            } else {
+                IN_VALUE
+            };
         }
     }
     fields
+}
+
+/// What the line stops in: 92 in an escape, the first octet of a character where only that is there, else
+/// how many octets of it are still to come; 0 where it stops in none.
+fn unfinished_character(command: Command, line: &[u8]) -> u8 {
+    match characters::unfinished(line) {
+        _ if in_escape(command, line) => BACKSLASH,
+        [] => 0,
+        [first] => *first,
+        _ => characters::missing(line).expect("a character can be finished") as u8,
+    }
 }
 
 pub fn count_held(record: &Record) -> usize {
     usize::from(record[HELD]) << 8 | usize::from(record[HELD + 1])
 }
 
-/// What is 71 by document 02: "at least a count held over 49,227 and a refusal number the judge lacks";
-/// and an octet that is kept for later requests and is not 0.
+/// What is 71 by document 02: "at least a count held over 49,227 and a refusal number the judge lacks"; an
+/// octet that is kept for later requests and is not 0; and an unfinished character where there can be none,
+/// or one that reading does not leave.
 pub fn is_refused(record: &Record) -> bool {
     let code = usize::from(record[CODE]);
     let is_number = (1..=NUMBERS).contains(&code);
     count_held(record) > MOST_HELD
         || (record[PHASE] == REFUSED && !is_number)
-        || record[ZEROS..].iter().any(|&octet| octet != 0)
+        || ZEROS.iter().any(|&index| record[index] != 0)
+        || !is_left_character(record)
+}
+
+/// Whether calls leave such an octet for the unfinished character: outside of one 0; inside one 92 where the
+/// command has escapes, 1 or 2 octets to come, or an octet that begins a longer character.
+fn is_left_character(record: &Record) -> bool {
+    let character = record[CHARACTER];
+    let inside = [IN_CHARACTER_OF_NAME, IN_CHARACTER_OF_VALUE].contains(&record[PHASE]);
+    let escapes = Command::numbered(u32::from(record[COMMAND])).is_none_or(Command::escapes);
+    match character {
+        0 => !inside,
+        1 | 2 => inside,
+        BACKSLASH => inside && escapes,
+        first => inside && characters::missing(&[first]).is_some_and(|missing| missing > 0),
+    }
 }

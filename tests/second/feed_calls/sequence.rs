@@ -2,7 +2,10 @@
 //! buffers, calls behind a refusal, and records that no call leaves.
 
 use super::{Call, Calls, Due, BUFFER};
-use crate::feed::record::{Record, CODE, HELD, LENGTH, MOST_HELD, PHASE, REFUSED, ZEROS};
+use crate::feed::record::{
+    Record, CHARACTER, CODE, COMMAND, HELD, IN_CHARACTER_OF_NAME, IN_CHARACTER_OF_VALUE, LENGTH,
+    MOST_HELD, PHASE, REFUSED, ZEROS,
+};
 use crate::feed::{StreamParser, LEAST_BUFFER};
 use crate::item::{Answer, BACKSLASH, COLON, CONTENT_LENGTH, CR, LF, NUL};
 use crate::random::Random;
@@ -11,6 +14,9 @@ use crate::streams;
 /// The longest stream of which every cut is tried, and of which most octets come alone.
 const SHORT: usize = 64;
 const ALONE: usize = 200;
+
+/// The octets of a record before those that are 0 and the unfinished character.
+const FRONT: usize = 12;
 
 /// A call, and what is due to it.
 pub struct Step {
@@ -186,13 +192,19 @@ impl Maker {
     }
 }
 
-/// Alters a record: the count, the number, the octets kept for later requests, or any octets.
+/// Octets for an unfinished character, those that calls leave and those beside them.
+const CHARACTERS: [u8; 17] = [
+    0, 1, 2, 3, 58, 91, 92, 93, 128, 191, 192, 193, 194, 223, 244, 245, 255,
+];
+
+/// Alters a record: the count, the number, the octets kept for later requests, the unfinished character, or
+/// any octets.
 fn damage(random: &mut Random, record: &mut Record) {
     let mut put_count = |random: &mut Random, least: usize, most: usize| {
         let count = random.between(least, most) as u16;
         record[HELD..HELD + 2].copy_from_slice(&count.to_be_bytes());
     };
-    match random.below(8) {
+    match random.below(10) {
         0 => {
             let most = random.pick(&[MOST_HELD + 1, MOST_HELD + 2, 65_535]);
             put_count(random, MOST_HELD + 1, most);
@@ -206,15 +218,21 @@ fn damage(random: &mut Random, record: &mut Record) {
             record[CODE] = random.pick(&[0, 1, 7, 10, 11, 12, 38, 70, 71, 255]);
             record[HELD..HELD + 2].copy_from_slice(&(count as u16).to_be_bytes());
         }
-        4 => record[random.between(ZEROS, LENGTH - 1)] = random.pick(&[1, 2, 128, 255]),
+        4 => record[random.pick(&ZEROS)] = random.pick(&[1, 2, 128, 255]),
+        8 => record[CHARACTER] = random.pick(&CHARACTERS),
+        9 => {
+            record[PHASE] = random.pick(&[IN_CHARACTER_OF_NAME, IN_CHARACTER_OF_VALUE]);
+            record[COMMAND] = random.between(1, 15) as u8;
+            record[CHARACTER] = random.pick(&CHARACTERS);
+        }
         5 => record[PHASE] = random.pick(&[0, 4, 9, 12, 13, 14, 15, 16, 17, 255]),
         6 => {
             for _ in 0..random.between(1, 3) {
-                record[random.below(ZEROS)] = random.pick(&[0, 1, 2, 14, 15, 31, 32, 33, 128, 255]);
+                record[random.below(FRONT)] = random.pick(&[0, 1, 2, 14, 15, 31, 32, 33, 128, 255]);
             }
         }
         _ => {
-            for octet in &mut record[..ZEROS] {
+            for octet in &mut record[..FRONT] {
                 *octet = random.below(256) as u8;
             }
         }
@@ -257,8 +275,8 @@ fn at_random(random: &mut Random, length: usize, most: usize) -> Vec<usize> {
     }
 }
 
-/// Places inside a command's word, a line end, an escape, content-length and its line, and beside the
-/// octets that end something.
+/// Places inside a command's word, a line end, an escape, a character of several octets, content-length and
+/// its line, and beside the octets that end something.
 fn places_that_matter(random: &mut Random, stream: &[u8]) -> Vec<usize> {
     let often = random.pick(&[1, 2, 4]);
     let first = |place: usize| &stream[place..];
@@ -268,7 +286,8 @@ fn places_that_matter(random: &mut Random, stream: &[u8]) -> Vec<usize> {
     };
     let matters = |place: &usize| {
         let octet = stream[place - 1];
-        *place < 14 || [CR, LF, BACKSLASH, COLON, NUL].contains(&octet) || in_length(*place)
+        let ends = [CR, LF, BACKSLASH, COLON, NUL].contains(&octet);
+        *place < 14 || ends || !octet.is_ascii() || in_length(*place)
     };
     let places: Vec<usize> = (1..stream.len()).filter(matters).collect();
     let places = places.into_iter().filter(|_| random.once_in(often));

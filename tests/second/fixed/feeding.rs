@@ -1,7 +1,7 @@
 //! The fixed calls of the stream parser: items in pieces, refusals and what comes after them, short
 //! buffers, and records that no call leaves.
 
-use crate::feed::record::{Record, CODE, HELD, LENGTH, PHASE, REFUSED, ZEROS};
+use crate::feed::record::{Record, CHARACTER, CODE, HELD, LENGTH, PHASE, REFUSED, ZEROS};
 use crate::feed::LEAST_BUFFER;
 use crate::feed_calls::{Call, BUFFER};
 
@@ -152,8 +152,8 @@ fn other_records() -> Vec<Call> {
         record[place] = 1;
         record
     };
-    let numbers = [0, 11, 70, 71, 255].map(refused);
-    let marks = [0, 1, 2, 3].map(|place| marked(ZEROS + place));
+    let numbers = [0, 12, 70, 71, 255].map(refused);
+    let marks = [ZEROS[0], ZEROS[1], CHARACTER, ZEROS[2]].map(marked);
     let counts = [counted(49_228), counted(65_535)];
     let mut calls = vec![fresh(LEAST_BUFFER), feed(b"ACK\nid:a\n\n\0")];
     for record in [&counts[..], &numbers, &marks].concat() {

@@ -1,8 +1,9 @@
 //! About as many lines, as long lines and as long bodies as may be.
 
+use super::characters::{of_either_kind, put_telling};
 use super::{
     any_command, body, body_length, damage, items, later_line, length_line, line, line_end, opened,
-    text, value, with_body, Stream, PLAIN, TELLING,
+    text, value, with_body, Stream, PLAIN,
 };
 use crate::item::{Command, COLON, CR, MAX_BODY, MAX_LINE, MAX_LINES, NUL};
 use crate::random::Random;
@@ -17,8 +18,11 @@ pub fn around_all_lines(random: &mut Random) -> Stream {
         line_end(random, &mut stream);
     }
     match random.below(3) {
-        0 => stream.push(random.pick(TELLING)),
-        1 => stream.extend([CR, random.pick(TELLING)]),
+        0 => put_telling(random, &mut stream),
+        1 => {
+            stream.push(CR);
+            put_telling(random, &mut stream);
+        }
         _ => line_end(random, &mut stream),
     }
     stream.push(NUL);
@@ -77,7 +81,7 @@ fn plain_line(random: &mut Random, stream: &mut Stream) {
 }
 
 /// A header line about as long as may be, with or without its colon, perhaps a content-length, then
-/// up to three octets that matter.
+/// up to three octets or characters that matter.
 pub fn around_whole_line(random: &mut Random) -> Stream {
     let command = any_command(random);
     let mut stream = opened(random, command);
@@ -93,7 +97,11 @@ pub fn around_whole_line(random: &mut Random) -> Stream {
         }
     }
     for _ in 0..random.between(0, 3) {
-        stream.push(random.pick(b"\\\\\\cc::\r\n\0a09"));
+        if random.once_in(4) {
+            stream.extend(of_either_kind(random));
+        } else {
+            stream.push(random.pick(b"\\\\\\cc::\r\n\0a09"));
+        }
     }
     if random.once_in(2) {
         line_end(random, &mut stream);

@@ -1,20 +1,23 @@
 //! The kinds of place in an item, with each octet that matters at each of them.
 
+use super::characters::{any_character, put_telling, MOST};
 use super::{
     any_command, body, items, later_lines, length_line, line_end, lines, opened, text, value,
-    with_body, Stream, TELLING,
+    with_body, Stream,
 };
 use crate::item::{BACKSLASH, CR};
 use crate::random::Random;
 
 /// The kinds of place: each makes the octets of one item up to such a place.
-const PLACES: [fn(&mut Random) -> Stream; 13] = [
+const PLACES: [fn(&mut Random) -> Stream; 15] = [
     in_command,
     after_command,
     after_13,
     at_line_start,
     in_name,
     in_value,
+    in_character,
+    in_character,
     in_line,
     in_content_length,
     in_large_content_length,
@@ -33,7 +36,7 @@ pub fn at_a_place(random: &mut Random) -> Stream {
     };
     let up_to_place = random.pick(&PLACES);
     stream.extend(up_to_place(random));
-    stream.push(random.pick(TELLING));
+    put_telling(random, &mut stream);
     match random.below(4) {
         0 => {}
         1 => stream.extend_from_slice(b"\n\n\0"),
@@ -101,12 +104,24 @@ fn backslash(random: &mut Random, stream: &mut Stream) {
     }
 }
 
+/// In a character of a name or a value: after its first octet, its second or its third.
+fn in_character(random: &mut Random) -> Stream {
+    let mut stream = if random.once_in(2) {
+        in_name(random)
+    } else {
+        in_value(random)
+    };
+    let character = any_character(random, MOST);
+    stream.extend(&character[..random.between(1, character.len() - 1)]);
+    stream
+}
+
 /// In the middle of a header line whose octets are any at all, most often spoiled.
 fn in_line(random: &mut Random) -> Stream {
     let command = any_command(random);
     let mut stream = opened(random, command);
     for _ in 0..random.between(1, 6) {
-        stream.push(random.pick(b"a:\\c\\:a\r\n0"));
+        stream.push(random.pick(b"a:\\c\\:a\r\n0\xc3\xe2\x82"));
     }
     stream
 }
