@@ -15,9 +15,9 @@
 #include "row.h"
 
 enum { TOKEN_CASES = 300000, EDGE_CASES = 100000, BODY_CASES = 1000 };
-enum { OUTCOMES = 13, LEAST_OF_EACH = 200 };
+enum { OUTCOMES = 14, LEAST_OF_EACH = 200 };
 
-/* How often each answer was given: incomplete, heart-beat, frame, invalid 1 to 10. */
+/* How often each answer was given: incomplete, heart-beat, frame, invalid 1 to 11. */
 static unsigned long tally[OUTCOMES];
 static unsigned long cases;
 
@@ -117,7 +117,8 @@ static void check_examples(void)
 static const char *const tokens[] = {
     "", "\n", "\n", "\n", "\r\n", "\r", ":", ":", "\\", "\\c", "\\n", "\\r", "\\\\", "\\t", "a", "x",
     "b:c\n", "b:\r\n", "\n\n", "content-length:", "content-length", "content-length:1\n",
-    "content-length:3\r\n", "content-length:0\n\n", "0", "1", "2", "9", "32768", "32769", "\xff", " "
+    "content-length:3\r\n", "content-length:0\n\n", "0", "1", "2", "9", "32768", "32769", " ",
+    "\xc3\xa9", "\xe2\x82\xac", "\xf0\x9f\x98\x80", "\xff", "\x80", "\xc3", "\xe2\x82", "\xed\xa0"
 };
 
 static const char *const commands[] = {
@@ -159,8 +160,11 @@ static void check_tokens(uint64_t *seed)
 /* A line that comes near its limit, and what happens there. */
 static void put_edge_line(struct row *r, uint64_t *seed)
 {
-    static const char *const ends[] = {":", "\\", "\\c", "a", "0", "\n", "\r\n", "\r", "32768", "::"};
-    switch (random_between(seed, 0, 4)) {
+    static const char *const ends[] = {
+        ":", "\\", "\\c", "a", "0", "\n", "\r\n", "\r", "32768", "::",
+        "\xc3\xa9", "\xe2\x82\xac", "\xf0\x9f\x98\x80", "\xff", "\xe2"
+    };
+    switch (random_between(seed, 0, 5)) {
     case 0:
         put_times(r, "n", random_between(seed, 506, 513));
         break;
@@ -175,6 +179,11 @@ static void put_edge_line(struct row *r, uint64_t *seed)
     case 3:
         put_times(r, "a:", 1);
         put_times(r, ":", random_between(seed, 505, 512));
+        break;
+    case 4:
+        put_times(r, "a:", random_between(seed, 0, 1));
+        put_times(r, "v", random_between(seed, 0, 2));
+        put_times(r, "\xe2\x82\xac", random_between(seed, 167, 170));
         break;
     default:
         put_times(r, "a:", random_between(seed, 0, 1));
@@ -289,7 +298,7 @@ static void check_null(void)
 void check_answers(const struct stream streams[STREAMS])
 {
     static const char *const outcomes[OUTCOMES] = {
-        "incomplete", "heart-beat", "frame", "1", "2", "3", "4", "5", "6", "7", "8", "9", "10"
+        "incomplete", "heart-beat", "frame", "1", "2", "3", "4", "5", "6", "7", "8", "9", "10", "11"
     };
     uint64_t seed = 12;
     guard = guarded_end();

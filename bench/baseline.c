@@ -37,11 +37,15 @@ static const uint8_t first_with[26] = {
     ['M' - 'A'] = 9, ['N' - 'A'] = 10, ['R' - 'A'] = 11, ['S' - 'A'] = 12, ['U' - 'A'] = 15
 };
 
-/* What an octet is in header text: with escapes, without, and where colons are plain too. */
-enum { PLAIN, END, ESCAPE };
-static const uint8_t kinds_with_escapes[256] = {[LF] = END, [CR] = END, [COLON] = END, [BACKSLASH] = ESCAPE};
-static const uint8_t kinds_without[256] = {[LF] = END, [CR] = END, [COLON] = END};
-static const uint8_t kinds_with_colons[256] = {[LF] = END, [CR] = END};
+/* What an octet is in header text: with escapes, without, and where colons are plain too. From 128 on it is
+ * the first octet of a character, or one that begins none. */
+enum { PLAIN, END, ESCAPE, WIDE, BROKEN };
+#define BEYOND [0x80 ... 0xc1] = BROKEN, [0xc2 ... 0xf4] = WIDE, [0xf5 ... 0xff] = BROKEN
+static const uint8_t kinds_with_escapes[256] = {
+    [LF] = END, [CR] = END, [COLON] = END, [BACKSLASH] = ESCAPE, BEYOND
+};
+static const uint8_t kinds_without[256] = {[LF] = END, [CR] = END, [COLON] = END, BEYOND};
+static const uint8_t kinds_with_colons[256] = {[LF] = END, [CR] = END, BEYOND};
 
 /* The octets that may follow a backslash. */
 static const uint8_t letters[256] = {['c'] = 1, ['n'] = 1, ['r'] = 1, [BACKSLASH] = 1};
@@ -99,6 +103,30 @@ static inline bool read_command(struct scan *s)
     return stop(s, STOMP_INCOMPLETE);
 }
 
+/* Reads the character of several octets that begins here, and owes them from its first one on. */
+static inline bool read_character(struct scan *s, size_t *at, size_t limit)
+{
+    size_t i = *at;
+    uint8_t first = s->octets[i];
+    size_t last = i + octets_after(first);
+    if (last >= limit)
+        return invalid(s, STOMP_INVALID_LINE_LENGTH, i);
+    i++;
+    if (i == s->length)
+        return stop(s, STOMP_INCOMPLETE);
+    if (!is_second(first, s->octets[i]))
+        return invalid(s, STOMP_INVALID_UTF8, i);
+    while (i < last) {
+        i++;
+        if (i == s->length)
+            return stop(s, STOMP_INCOMPLETE);
+        if (!is_tail(s->octets[i]))
+            return invalid(s, STOMP_INVALID_UTF8, i);
+    }
+    *at = last + 1;
+    return true;
+}
+
 /* Reads header text up to an octet that ends it, a line end or, as the kinds say, a raw colon. At `limit`
  * only those can stand. */
 static inline bool read_text(struct scan *s, const uint8_t *kinds, size_t limit)
@@ -113,6 +141,11 @@ static inline bool read_text(struct scan *s, const uint8_t *kinds, size_t limit)
         } else if (kind == END) {
             s->at = i;
             return true;
+        } else if (kind == WIDE) {
+            if (!read_character(s, &i, limit))
+                return false;
+        } else if (kind == BROKEN) {
+            return invalid(s, STOMP_INVALID_UTF8, i);
         } else {
             /* A backslash, which owes one more octet. */
             i++;
@@ -121,12 +154,14 @@ static inline bool read_text(struct scan *s, const uint8_t *kinds, size_t limit)
             if (i == s->length)
                 return stop(s, STOMP_INCOMPLETE);
             if (!letters[octets[i]])
-                return invalid(s, STOMP_INVALID_ESCAPE, i);
+                return invalid(s, kinds[octets[i]] == BROKEN ? STOMP_INVALID_UTF8 : STOMP_INVALID_ESCAPE, i);
             i++;
         }
     }
     if (i == s->length)
         return stop(s, STOMP_INCOMPLETE);
+    if (kinds[octets[i]] == BROKEN)
+        return invalid(s, STOMP_INVALID_UTF8, i);
     if (kinds[octets[i]] != END)
         return invalid(s, STOMP_INVALID_LINE_LENGTH, i);
     s->at = i;
@@ -148,7 +183,9 @@ static inline bool read_content_length(struct scan *s, size_t limit)
             s->content_length = value;
             return true;
         }
-        if (i == limit || (i + 1 == limit && s->value_kinds[x] == ESCAPE))
+        if (s->value_kinds[x] == BROKEN)
+            return invalid(s, STOMP_INVALID_UTF8, i);
+        if (i + octets_after(x) >= limit || (i + 1 == limit && s->value_kinds[x] == ESCAPE))
             return invalid(s, STOMP_INVALID_LINE_LENGTH, i);
         if (x < '0' || x > '9')
             return invalid(s, STOMP_INVALID_CONTENT_LENGTH, i);
@@ -195,7 +232,7 @@ static inline bool read_headers(struct scan *s)
         if (x == COLON)
             return invalid(s, STOMP_INVALID_EMPTY_NAME, s->at);
         if (s->headers == STOMP_MAX_LINES)
-            return invalid(s, STOMP_INVALID_LINE_COUNT, s->at);
+            return invalid(s, s->name_kinds[x] == BROKEN ? STOMP_INVALID_UTF8 : STOMP_INVALID_LINE_COUNT, s->at);
         if (!read_header(s))
             return false;
         s->headers++;

@@ -66,26 +66,37 @@ static void put_length(uint8_t *at, size_t n)
     at[1] = (uint8_t)n;
 }
 
-/* Octets that are plain, and now and then one that is escaped. */
+/* Characters of several octets, in the order of their lengths. */
+static const char *const characters[] = {"\xc3\xa9", "\xe2\x82\xac", "\xf0\x9f\x98\x80"};
+
+/* Octets that are plain, now and then one that is escaped or a character of several octets, and seldom any
+ * octet, so that the text is not UTF-8. */
 static void put_text(size_t length, size_t specials, uint64_t *seed)
 {
     static const char special[] = "\n\r:\\";
-    for (; length > 0; length--) {
+    size_t end = block.length + length;
+    while (block.length < end) {
+        size_t octets = random_between(seed, 2, 4);
         uint8_t x = (uint8_t)random_between(seed, 'a', 'z');
         if (specials > 0 && random_between(seed, 0, specials) == 0)
             x = (uint8_t)special[random_between(seed, 0, 3)];
-        else if (random_between(seed, 0, 63) == 0)
+        else if (random_between(seed, 0, 15) == 0 && octets <= end - block.length) {
+            put(&block, characters[octets - 2], octets);
+            continue;
+        } else if (random_between(seed, 0, 511) == 0)
             x = (uint8_t)random_next(seed);
+        else if (random_between(seed, 0, 63) == 0)
+            x = (uint8_t)random_between(seed, 0, 127);
         put(&block, &x, 1);
     }
 }
 
-/* Puts colons in place of some octets from a place on. */
+/* Puts colons in place of some octets from a place on, of those that are characters by themselves. */
 static void put_colons(size_t at, uint64_t *seed)
 {
     size_t others = random_between(seed, 0, 4);
     for (; at < block.length; at++)
-        if (random_between(seed, 0, others) == 0)
+        if (block.octets[at] < 128 && random_between(seed, 0, others) == 0)
             block.octets[at] = ':';
 }
 

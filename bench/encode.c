@@ -53,13 +53,32 @@ static bool read_block(const uint8_t *block, size_t length, struct entries *e)
     return true;
 }
 
-/* How many octets of a text are escaped. */
-static inline size_t escapes_in(const uint8_t *text, size_t length)
+/* How many octets of a text are escaped, and all octets ORed. */
+static inline size_t escapes_in(const uint8_t *text, size_t length, uint8_t *all)
 {
     size_t special = 0;
-    for (size_t i = 0; i < length; i++)
+    for (size_t i = 0; i < length; i++) {
         special += letters[text[i]] != 0;
+        *all |= text[i];
+    }
     return special;
+}
+
+static bool is_utf8(const uint8_t *text, size_t length)
+{
+    for (size_t i = 0; i < length;) {
+        uint8_t first = text[i++];
+        if (first < 0x80)
+            continue;
+        size_t after = octets_after(first);
+        if (after == 0 || length - i < after || !is_second(first, text[i]))
+            return false;
+        size_t end = i + after;
+        for (i++; i < end; i++)
+            if (!is_tail(text[i]))
+                return false;
+    }
+    return true;
 }
 
 /* The length of the raw line of an entry, or 0 where it cannot be written. */
@@ -69,14 +88,23 @@ static inline size_t line_length(const uint8_t *text, size_t name, size_t value,
     if (name == 0 || length > STOMP_MAX_LINE)
         return 0;
     size_t special = 0;
+    uint8_t all = 0;
     if (escapes) {
-        special = escapes_in(text, name + value);
+        special = escapes_in(text, name + value, &all);
         length += special;
-        return length <= STOMP_MAX_LINE ? length : 0;
+        if (length > STOMP_MAX_LINE)
+            return 0;
+    } else {
+        for (size_t i = 0; i < name + value; i++) {
+            special += (text[i] == LF) | (text[i] == CR) | ((text[i] == COLON) & (i < name));
+            all |= text[i];
+        }
+        if (special > 0)
+            return 0;
     }
-    for (size_t i = 0; i < name + value; i++)
-        special += (text[i] == LF) | (text[i] == CR) | ((text[i] == COLON) & (i < name));
-    return special == 0 ? length : 0;
+    if (all >= 0x80 && !(is_utf8(text, name) && is_utf8(text + name, value)))
+        return 0;
+    return length;
 }
 
 /* Whether these are digits of the number, which is small. */

@@ -14,7 +14,7 @@
 enum { WHOLE, ONES, HUNDREDS, PACKETS, LARGE, WAYS };
 static const size_t pieces[WAYS] = {0, 1, 100, 1460, 65536};
 
-/* The five streams and that of the captured clients. */
+/* The streams and that of the captured clients. */
 enum { CAPTURED = STREAMS, ALL_STREAMS };
 enum { COUNTED_BODIES = 3 };
 

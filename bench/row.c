@@ -44,7 +44,7 @@ static void shift(struct row *r, size_t from, size_t to)
 
 void damage(struct row *r, uint64_t *seed)
 {
-    static const char octets[] = "\0\n\r:\\\\cnrt0019 aA\xff";
+    static const char octets[] = "\0\n\r:\\\\cnrt0019 aA\xff\x80\xc3\xe2";
     size_t at = damage_place(r, seed);
     uint8_t x = (uint8_t)octets[random_between(seed, 0, sizeof octets - 2)];
     size_t piece = random_between(seed, 1, r->length - at < 40 ? r->length - at : 40);

@@ -1,5 +1,5 @@
-/* What the three parts of the baseline share: the octets with a meaning, the commands, and which of
- * them have escapes, colons in values, or a body. */
+/* What the three parts of the baseline share: the octets with a meaning, the octets of a character, the
+ * commands, and which of them have escapes, colons in values, or a body. */
 #ifndef RULES_H
 #define RULES_H
 
@@ -25,6 +25,39 @@ static inline bool has_escapes(unsigned command)
 static inline bool has_colons(unsigned command)
 {
     return command == STOMP_COMMAND_CONNECT || command == STOMP_COMMAND_CONNECTED;
+}
+
+/* How many octets follow the first of a UTF-8 character; 0 where it is a character by itself, or begins none. */
+static inline size_t octets_after(uint8_t first)
+{
+    if (first < 0xc2 || first > 0xf4)
+        return 0;
+    return first < 0xe0 ? 1 : first < 0xf0 ? 2 : 3;
+}
+
+static inline bool is_tail(uint8_t x)
+{
+    return (x & 0xc0) == 0x80;
+}
+
+/* Whether the octet may be the second of a character: none is longer than it has to be, a surrogate, or
+ * beyond U+10FFFF. */
+static inline bool is_second(uint8_t first, uint8_t x)
+{
+    if (!is_tail(x))
+        return false;
+    switch (first) {
+    case 0xe0:
+        return x >= 0xa0;
+    case 0xed:
+        return x < 0xa0;
+    case 0xf0:
+        return x >= 0x90;
+    case 0xf4:
+        return x < 0x90;
+    default:
+        return true;
+    }
 }
 
 /* The longest body of a command. */

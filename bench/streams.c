@@ -167,6 +167,36 @@ static void put_single_escapes(struct maker *m)
     put_octet(m, 0);
 }
 
+/* A character of two octets, or one of three: no surrogate, and none that fewer octets have. */
+static void put_character(struct maker *m)
+{
+    if (between(m, 0, 1)) {
+        size_t number = between(m, 0x80, 0x7ff);
+        put_octet(m, (uint8_t)(0xc0 | number >> 6));
+        put_octet(m, (uint8_t)(0x80 | (number & 0x3f)));
+    } else {
+        size_t number = between(m, 0x800, 0xcfff);
+        put_octet(m, (uint8_t)(0xe0 | number >> 12));
+        put_octet(m, (uint8_t)(0x80 | (number >> 6 & 0x3f)));
+        put_octet(m, (uint8_t)(0x80 | (number & 0x3f)));
+    }
+}
+
+/* Ten lines whose values are characters of two and three octets, and nothing else. */
+static void put_characters(struct maker *m)
+{
+    put_command(m);
+    for (size_t i = 0; i < 10; i++) {
+        put_plain(m, between(m, 5, 25));
+        put_octet(m, ':');
+        for (size_t left = between(m, 5, 50); left > 0; left--)
+            put_character(m);
+        put_octet(m, '\n');
+    }
+    put_octet(m, '\n');
+    put_octet(m, 0);
+}
+
 /* A large body of any octets. */
 static void put_large_body(struct maker *m)
 {
@@ -218,4 +248,5 @@ void make_streams(struct stream streams[STREAMS])
     make_stream(&streams[4], "5 text bodies", put_text_body, 5);
     make_stream(&streams[5], "6 short headers", put_short_headers, 6);
     make_stream(&streams[6], "7 single escapes", put_single_escapes, 7);
+    make_stream(&streams[7], "8 characters", put_characters, 8);
 }

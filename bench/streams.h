@@ -5,7 +5,7 @@
 #include <stddef.h>
 #include <stdint.h>
 
-enum { STREAMS = 7 };
+enum { STREAMS = 8 };
 
 struct stream {
     const char *name;

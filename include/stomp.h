@@ -61,19 +61,22 @@ enum stomp_kind {
 };
 
 /* The numbers of stomp_parse: what the octet at the offset does. Where several fit one octet,
- * the first of 1, 2, 10, 3, 8, 9, 4, 5, 6, 7 that fits is given. */
+ * the first of 1, 2, 11, 10, 3, 8, 9, 4, 5, 6, 7 that fits is given. */
 enum stomp_parse_refusal {
     STOMP_INVALID_COMMAND = 1,        /* leaves no command, and begins no heart-beat */
     STOMP_INVALID_LINE_END = 2,       /* follows 13 and is not 10 */
     STOMP_INVALID_EMPTY_NAME = 3,     /* is a colon with an empty name: the header line begins with it */
-    STOMP_INVALID_LINE_LENGTH = 4,    /* makes the line longer than STOMP_MAX_LINE */
+    STOMP_INVALID_LINE_LENGTH = 4,    /* makes the line longer than STOMP_MAX_LINE, with the rest of a character
+                                         or an escape and the colon that it still needs */
     STOMP_INVALID_LINE_COUNT = 5,     /* begins a line too many */
     STOMP_INVALID_CONTENT_LENGTH = 6, /* spoils the first content-length: no digit, or too large */
     STOMP_INVALID_BODY_END = 7,       /* stands where only octet 0 can */
     STOMP_INVALID_SECOND_COLON = 8,   /* is a second colon in a header line; not in CONNECT and CONNECTED,
                                          where later colons belong to the value */
     STOMP_INVALID_NO_COLON = 9,       /* ends a header line, or begins its end, before the colon */
-    STOMP_INVALID_ESCAPE = 10         /* follows a backslash and makes no escape with it */
+    STOMP_INVALID_ESCAPE = 10,        /* follows a backslash and makes no escape with it */
+    STOMP_INVALID_UTF8 = 11           /* is one that no UTF-8 character (RFC 3629) has there, in a name or a
+                                         value; bodies are not asked */
 };
 
 /* The numbers of stomp_feed itself, in the order in which they are given; else it gives those of
@@ -105,9 +108,9 @@ enum stomp_encode_refusal {
     STOMP_ENCODE_COMMAND = 50,        /* unknown command */
     STOMP_ENCODE_MALFORMED = 51,      /* the block is not a row of whole records */
     STOMP_ENCODE_LINE_COUNT = 52,     /* more than STOMP_MAX_LINES lines, an added one counted */
-    STOMP_ENCODE_ENTRY = 53,          /* an empty name, a raw line over STOMP_MAX_LINE, or in CONNECT and
-                                         CONNECTED octet 10 or 13, or a colon in the name; the index says
-                                         which entry */
+    STOMP_ENCODE_ENTRY = 53,          /* an empty name, a name or a value that is not UTF-8, a raw line over
+                                         STOMP_MAX_LINE, or in CONNECT and CONNECTED octet 10 or 13, or a
+                                         colon in the name; the index says which entry */
     STOMP_ENCODE_BODY = 54,           /* a body is not allowed, or longer than STOMP_MAX_BODY */
     STOMP_ENCODE_CONTENT_LENGTH = 55, /* the first content-length is not the body's length in digits */
     STOMP_ENCODE_SHORT_TARGET = 56    /* the target is shorter than the encoded frame */
@@ -143,7 +146,7 @@ enum stomp_plan_refusal {
  *
  * The answer is 0 where they are incomplete, 1 + 4*length for a heart-beat,
  * 2 + 4*(length + 2^16*(command + 2^4*(headers + 2^6*(body + 2^16*body_len)))) for a frame,
- * 3 + 4*(code + 2^8*offset) where they are invalid, with a number from 1 to 10. */
+ * 3 + 4*(code + 2^8*offset) where they are invalid, with a number from 1 to 11. */
 uint64_t stomp_parse(const uint8_t *octets, size_t len);
 
 /* Parses a stream as it arrives, piece by piece; a piece may be empty. `state` is the stream parser,
@@ -262,7 +265,7 @@ static inline size_t stomp_parse_body_length(uint64_t answer)
     return stomp_parse_kind(answer) == STOMP_FRAME ? (size_t)(answer >> 44) : 0;
 }
 
-/* The number of the refusal, from 1 to 10; 0 where it was not refused. */
+/* The number of the refusal, from 1 to 11; 0 where it was not refused. */
 static inline unsigned stomp_parse_code(uint64_t answer)
 {
     return stomp_parse_kind(answer) == STOMP_INVALID ? (unsigned)(answer >> 2 & 0xff) : 0;
