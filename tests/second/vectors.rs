@@ -58,6 +58,9 @@ fn all() -> Vec<Vector> {
         specification(),
         spoiled_lines(),
         connect_colons(),
+        characters(),
+        broken_characters(),
+        characters_at_limits(),
     ]
     .concat()
 }
@@ -373,5 +376,104 @@ fn connect_colons() -> Vec<Vector> {
         ("connect-later-length-colon", connect(later)),
         ("connected-colon", b"CONNECTED\nsession:a:b\n\n\0".to_vec()),
         ("stomp-second-colon", b"STOMP\npasscode:a:b\n\n\0".to_vec()),
+    ]
+}
+
+/// Document 02, C-17: characters of two, three and four octets, in names and values, also beside escapes; the
+/// first and the last of each length; U+FEFF, U+FFFE and octet 0; a body that is not UTF-8; cut by the end.
+fn characters() -> Vec<Vector> {
+    let edges: &[u8] =
+        b"\xc2\x80\xdf\xbf:\xe0\xa0\x80\xef\xbf\xbf\n\xf0\x90\x80\x80:\xf4\x8f\xbf\xbf";
+    let escapes: &[u8] = b"\\c\xc3\xa9\\n:\xf0\x9f\x98\x80\\\\\xe2\x82\xac\\r";
+    vec![
+        ("character-2", ack("id:\u{e9}".as_bytes())),
+        ("character-3", ack("\u{20ac}:1".as_bytes())),
+        ("character-4", ack("id:a\u{1f600}b".as_bytes())),
+        ("characters-first-last", ack(edges)),
+        ("characters-escapes", ack(escapes)),
+        (
+            "characters-connect",
+            connect(b"\\\xc3\xa9:\\\xc3\xa9:\xe2\x82\xac"),
+        ),
+        (
+            "characters-beside-surrogates",
+            ack(b"id:\xed\x9f\xbf\xee\x80\x80"),
+        ),
+        (
+            "characters-feff-fffe-0",
+            ack(b"\xef\xbb\xbf:\xef\xbf\xbe\0"),
+        ),
+        (
+            "characters-in-body",
+            b"SEND\n\n\xff\xc3\x80\0SEND\ncontent-length:2\n\n\xc3\0\0".to_vec(),
+        ),
+        ("more-character-2", b"ACK\nid:\xc3".to_vec()),
+        ("more-character-3", b"ACK\n\xe2\x82".to_vec()),
+        ("more-character-4", b"ACK\nid:\xf0\x9f\x98".to_vec()),
+    ]
+}
+
+/// What is no character: 11, and where another number fits the octet too.
+fn broken_characters() -> Vec<Vector> {
+    let rows: [(&'static str, &[u8]); 24] = [
+        ("11-ff", b"id:\xff"),
+        ("11-tail", b"\x80:"),
+        ("11-c1", b"id:\xc1\xbf"),
+        ("11-f5", b"id:\xf5\x80\x80\x80"),
+        ("11-overlong-3", b"id:\xe0\x9f\xbf"),
+        ("11-overlong-4", b"id:\xf0\x8f\xbf\xbf"),
+        ("11-surrogate", b"id:\xed\xa0\x80"),
+        ("11-beyond", b"id:\xf4\x90\x80\x80"),
+        ("11-second", b"id:\xe2a"),
+        ("11-third", b"id:\xe2\x82\xff"),
+        ("11-fourth", b"id:\xf0\x9f\x98\xc3"),
+        ("11-colon-in-name", b"i\xc3:"),
+        ("11-colon-in-value", b"id:\xc3:"),
+        ("11-10-in-name", b"i\xc3"),
+        ("11-10-in-value", b"id:\xe2\x82"),
+        ("11-13-in-value", b"id:\xe2\x82\r"),
+        ("11-backslash-in-value", b"id:\xc3\\n"),
+        ("11-after-backslash", b"id:\\\xff"),
+        ("10-character-after-backslash", b"id:\\\xc3\xa9"),
+        ("2-ff-after-13", b"id:a\r\xff"),
+        ("11-in-length", b"content-length:\xff"),
+        ("6-character-in-length", b"content-length:\xc3\xa9"),
+        ("7-ff-for-nul", b"\n\xff"),
+        ("11-later-length", b"content-length:0\ncontent-length:\xff"),
+    ];
+    let mut all: Vec<Vector> = rows.iter().map(|&(name, line)| (name, ack(line))).collect();
+    all.push(("1-ff-in-command", b"AC\xff".to_vec()));
+    all
+}
+
+/// Characters at the 512th octet of a line, and as a 33rd line.
+fn characters_at_limits() -> Vec<Vector> {
+    let value = line_of(MAX_LINE);
+    let name = run(b'n', MAX_LINE);
+    let tail = |line: &[u8], count: usize, end: &[u8]| ack(&join(&[&line[..count], end]));
+    let all_lines = ack_with_lines(MAX_LINES);
+    vec![
+        ("value-511-character", tail(&value, 510, b"\xc3\xa9")),
+        ("value-512-character", tail(&value, 511, b"\xc3\xa9")),
+        ("value-510-character-3", tail(&value, 509, b"\xe2\x82\xac")),
+        ("value-511-character-3", tail(&value, 510, b"\xe2\x82\xac")),
+        (
+            "value-509-character-4",
+            tail(&value, 508, b"\xf0\x9f\x98\x80"),
+        ),
+        (
+            "value-510-character-4",
+            tail(&value, 509, b"\xf0\x9f\x98\x80"),
+        ),
+        ("name-510-character", tail(&name, 509, b"\xc3\xa9:")),
+        ("name-511-character", tail(&name, 510, b"\xc3\xa9:")),
+        ("value-513-ff", tail(&value, 512, b"\xff")),
+        ("value-513-tail", tail(&value, 512, b"\x80")),
+        ("value-513-character", tail(&value, 512, b"\xc3\xa9")),
+        ("name-512-ff", tail(&name, 511, b"\xff")),
+        ("length-512-character", join(&[&digits(496, b""), b"\xc3"])),
+        ("length-511-character", join(&[&digits(495, b""), b"\xc3"])),
+        ("33rd-ff", join(&[&all_lines, b"\xff"])),
+        ("33rd-character", join(&[&all_lines, b"\xc3\xa9:"])),
     ]
 }

@@ -1,5 +1,5 @@
-//! The fixed calls of the encoder: document 01's P6, one for each refusal and its edge, and C-16's line
-//! without the mark and with it.
+//! The fixed calls of the encoder: document 01's P6, one for each refusal and its edge, C-16's line without
+//! the mark and with it, and C-17's characters.
 
 use crate::block::{self, Entry};
 use crate::encode_calls::{Call, COUNTED};
@@ -24,6 +24,8 @@ fn all() -> Vec<Call> {
         bodies(),
         lines(),
         other_options(),
+        characters(),
+        broken_characters(),
     ]
     .concat()
 }
@@ -147,4 +149,39 @@ fn other_options() -> Vec<Call> {
             ..plain(SEND, &p6(), b"ok", 44)
         })
         .to_vec()
+}
+
+/// Characters of two, three and four octets, beside octets that are escaped and where there are no escapes;
+/// a line of 512 octets that ends in one; a body that is not UTF-8.
+fn characters() -> Vec<Call> {
+    let entry = Entry::new("n\u{e9}:".as_bytes(), "\u{20ac}\n\u{1f600}\\".as_bytes());
+    let raw = Entry::new("n\u{e9}\\".as_bytes(), "\u{20ac}:\u{1f600}".as_bytes());
+    let longest = Entry::new(b"n", &[&[b'v'; 508][..], b"\xc3\xa9"].concat());
+    vec![
+        plain(SEND, &block::write(&[entry]), b"\xff\xc3", 44),
+        plain(CONNECT, &block::write(&[raw]), b"", 44),
+        plain(ACK, &block::write(&[longest]), b"", 520),
+    ]
+}
+
+/// What is not UTF-8: a cut character in a value, octet 255 in the second name, a character half in the name
+/// and half in the value, one that is longer than it has to be, a surrogate; more than 32 lines come before
+/// that, and a body that is not allowed after it.
+fn broken_characters() -> Vec<Call> {
+    let with = |name: &[u8], value: &[u8]| block::write(&[destination(), Entry::new(name, value)]);
+    let many = [vec![Entry::new(b"a", b"\xc3"); 33]].concat();
+    vec![
+        plain(
+            SEND,
+            &block::write(&[Entry::new(b"run", b"\xe2\x82")]),
+            b"",
+            44,
+        ),
+        plain(SEND, &with(b"\xff", b"1"), b"", 44),
+        plain(SEND, &with(b"a\xc3", b"\xa9b"), b"", 44),
+        plain(CONNECT, &with(b"a", b"\xc0\xaf"), b"", 44),
+        plain(SEND, &with(b"a", b"\xed\xa0\x80"), b"", 44),
+        plain(SEND, &block::write(&many), b"", 44),
+        plain(ACK, &with(b"a", b"\x80"), b"ok", 44),
+    ]
 }

@@ -1,7 +1,10 @@
 //! The fixed calls of the stream parser: items in pieces, refusals and what comes after them, short
 //! buffers, and records that no call leaves.
 
-use crate::feed::record::{Record, CHARACTER, CODE, HELD, LENGTH, PHASE, REFUSED, ZEROS};
+use crate::feed::record::{
+    Record, CHARACTER, CODE, COMMAND, HELD, IN_CHARACTER_OF_NAME, IN_CHARACTER_OF_VALUE, LENGTH,
+    PHASE, REFUSED, ZEROS,
+};
 use crate::feed::LEAST_BUFFER;
 use crate::feed_calls::{Call, BUFFER};
 
@@ -20,6 +23,9 @@ pub fn all() -> Vec<Call> {
         short_buffers(),
         longest(),
         other_records(),
+        characters(),
+        broken_characters(),
+        other_characters(),
     ]
     .concat()
 }
@@ -168,5 +174,75 @@ fn other_records() -> Vec<Call> {
         Call::Record([0; LENGTH]),
         feed(b"\n"),
     ]);
+    calls
+}
+
+/// Characters of two, three and four octets in name and value, one octet at a time, with a piece of no octets
+/// inside one; and cut between pieces.
+fn characters() -> Vec<Call> {
+    let frame = b"ACK\n\xc3\xa9\\c\xe2\x82\xac:\xf0\x9f\x98\x80\\\\\n\n\0";
+    let mut pieces: Vec<&[u8]> = frame.chunks(1).collect();
+    pieces.insert(10, b"");
+    pieces.extend([
+        &b"CONNECT\na\\\xc3"[..],
+        b"\xa9:\xe2",
+        b"",
+        b"\x82\xac\xf0\x9f",
+        b"\x98\x80\n\n\0",
+    ]);
+    fed(&pieces)
+}
+
+/// Octets that no character has there: in the piece of the first octet and in one of their own; after a
+/// backslash; a colon and line ends in a character; then again, and a parser made fresh.
+fn broken_characters() -> Vec<Call> {
+    let rows: [&[&[u8]]; 9] = [
+        &[b"ACK\nid:\xff"],
+        &[b"ACK\nid:\xe2\x82", b"", b"a"],
+        &[b"ACK\nid:\xed", b"\xa0\x80"],
+        &[b"ACK\nid:\\", b"\x80"],
+        &[b"ACK\nid:\\", b"\xc3"],
+        &[b"ACK\ni\xc3", b":"],
+        &[b"ACK\nid:\xf0\x9f\x98", b"\r\n"],
+        &[b"SEND\ncontent-length:", b"\xff"],
+        &[b"SEND\nid:\xf0\x90", b"\x80", b"\n", b"\x80", b""],
+    ];
+    let mut calls: Vec<Call> = rows.iter().flat_map(|row| fed(row)).collect();
+    calls.extend([Call::Record([0; LENGTH]), feed(b"ACK\n\n\0")]);
+    calls
+}
+
+/// 71 for an unfinished character that no call leaves: in the phases inside a character, and outside.
+fn other_characters() -> Vec<Call> {
+    let inside = |phase: u8, command: u8, character: u8| {
+        let mut record: Record = [0; LENGTH];
+        record[PHASE] = phase;
+        record[COMMAND] = command;
+        record[3] = if phase == IN_CHARACTER_OF_NAME { 15 } else { 0 };
+        record[9] = 4;
+        record[HELD + 1] = 12;
+        record[CHARACTER] = character;
+        record
+    };
+    let (name, value) = (IN_CHARACTER_OF_NAME, IN_CHARACTER_OF_VALUE);
+    let records = [
+        inside(name, 12, 0),
+        inside(value, 12, 0),
+        inside(name, 12, 3),
+        inside(value, 12, 91),
+        inside(name, 5, 92),
+        inside(value, 6, 92),
+        inside(name, 12, 193),
+        inside(value, 12, 245),
+        inside(value, 12, 128),
+        inside(name - 1, 12, 92),
+        inside(value - 1, 12, 1),
+        inside(4, 12, 195),
+        inside(12, 12, 2),
+    ];
+    let mut calls = vec![fresh(LEAST_BUFFER)];
+    for record in records {
+        calls.extend([Call::Record(record), feed(b"\xa9")]);
+    }
     calls
 }
