@@ -29,7 +29,7 @@ pub const COMMAND_UNSUBSCRIBE: u32 = 15;
 pub const COUNTED: u32 = 1;
 
 /// The numbers of `parse`: what the octet at the place does. Where several fit one octet, the first of
-/// 1, 2, 10, 3, 8, 9, 4, 5, 6, 7 that fits is given.
+/// 1, 2, 11, 10, 3, 8, 9, 4, 5, 6, 7 that fits is given.
 pub const INVALID_COMMAND: u32 = 1; // leaves no command, and begins no heart-beat
 pub const INVALID_LINE_END: u32 = 2; // follows 13 and is not 10
 pub const INVALID_EMPTY_NAME: u32 = 3; // is a colon with an empty name: the header line begins with it
@@ -40,6 +40,7 @@ pub const INVALID_BODY_END: u32 = 7; // stands where only octet 0 can
 pub const INVALID_SECOND_COLON: u32 = 8; // is a second colon; never in CONNECT and CONNECTED
 pub const INVALID_NO_COLON: u32 = 9; // ends a header line, or begins its end, before the colon
 pub const INVALID_ESCAPE: u32 = 10; // follows a backslash and makes no escape with it
+pub const INVALID_UTF8: u32 = 11; // is one that no UTF-8 character has there, in a name or a value
 
 /// The numbers of `matches`, in the order in which they are given.
 pub const MATCH_NAME: u32 = 80; // the name is malformed
@@ -113,7 +114,7 @@ pub enum Parsed {
     Invalid(Refusal),
 }
 
-/// The number, and the place it speaks of: the offset of an octet for 1 to 10, the index of an entry
+/// The number, and the place it speaks of: the offset of an octet for 1 to 11, the index of an entry
 /// for 53, the index of a pair for 96 to 99, the number of a message for 100, else 0.
 #[derive(Debug, Clone, Copy, PartialEq, Eq)]
 pub struct Refusal {
