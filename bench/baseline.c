@@ -103,28 +103,37 @@ static inline bool read_command(struct scan *s)
     return stop(s, STOMP_INCOMPLETE);
 }
 
-/* Reads the character of several octets that begins here, and owes them from its first one on. */
-static inline bool read_character(struct scan *s, size_t *at, size_t limit)
+/* Says what is wrong with the character of several octets that begins here, or that it is cut. It owes its
+ * octets from the first one on. */
+static bool cut_character(struct scan *s, size_t i, size_t limit)
 {
-    size_t i = *at;
     uint8_t first = s->octets[i];
     size_t last = i + octets_after(first);
     if (last >= limit)
         return invalid(s, STOMP_INVALID_LINE_LENGTH, i);
     i++;
-    if (i == s->length)
-        return stop(s, STOMP_INCOMPLETE);
-    if (!is_second(first, s->octets[i]))
+    if (i < s->length && !is_second(first, s->octets[i]))
         return invalid(s, STOMP_INVALID_UTF8, i);
-    while (i < last) {
+    while (i < s->length && is_tail(s->octets[i]))
         i++;
-        if (i == s->length)
-            return stop(s, STOMP_INCOMPLETE);
-        if (!is_tail(s->octets[i]))
-            return invalid(s, STOMP_INVALID_UTF8, i);
-    }
-    *at = last + 1;
-    return true;
+    return i < s->length ? invalid(s, STOMP_INVALID_UTF8, i) : stop(s, STOMP_INCOMPLETE);
+}
+
+/* Reads the characters of several octets that stand here one after another: where they end, or 0. Apart from
+ * its caller, so that text without them does not hang on it. */
+__attribute__((noinline)) static size_t read_characters(struct scan *s, size_t i, size_t limit)
+{
+    const uint8_t *octets = s->octets;
+    size_t end = s->length < limit ? s->length : limit;
+    do {
+        size_t length = character_at(octets + i, end - i);
+        if (length == 0) {
+            cut_character(s, i, limit);
+            return 0;
+        }
+        i += length;
+    } while (i < end && octets_after(octets[i]) > 0);
+    return i;
 }
 
 /* Reads header text up to an octet that ends it, a line end or, as the kinds say, a raw colon. At `limit`
@@ -142,7 +151,8 @@ static inline bool read_text(struct scan *s, const uint8_t *kinds, size_t limit)
             s->at = i;
             return true;
         } else if (kind == WIDE) {
-            if (!read_character(s, &i, limit))
+            i = read_characters(s, i, limit);
+            if (i == 0)
                 return false;
         } else if (kind == BROKEN) {
             return invalid(s, STOMP_INVALID_UTF8, i);

@@ -67,16 +67,10 @@ static inline size_t escapes_in(const uint8_t *text, size_t length, uint8_t *all
 static bool is_utf8(const uint8_t *text, size_t length)
 {
     for (size_t i = 0; i < length;) {
-        uint8_t first = text[i++];
-        if (first < 0x80)
-            continue;
-        size_t after = octets_after(first);
-        if (after == 0 || length - i < after || !is_second(first, text[i]))
+        size_t octets = text[i] < 0x80 ? 1 : character_at(text + i, length - i);
+        if (octets == 0)
             return false;
-        size_t end = i + after;
-        for (i++; i < end; i++)
-            if (!is_tail(text[i]))
-                return false;
+        i += octets;
     }
     return true;
 }

@@ -60,6 +60,20 @@ static inline bool is_second(uint8_t first, uint8_t x)
     }
 }
 
+/* How many octets the character of several has that begins here, if it is whole within the length; else 0. */
+static inline size_t character_at(const uint8_t *x, size_t length)
+{
+    if (x[0] < 0xc2 || x[0] > 0xf4 || length < 2 || !is_second(x[0], x[1]))
+        return 0;
+    if (x[0] < 0xe0)
+        return 2;
+    if (length < 3 || !is_tail(x[2]))
+        return 0;
+    if (x[0] < 0xf0)
+        return 3;
+    return length < 4 || !is_tail(x[3]) ? 0 : 4;
+}
+
 /* The longest body of a command. */
 static inline size_t most_body(unsigned command)
 {
