@@ -1,8 +1,8 @@
 /* Writes inputs of fuzz.c made of streams: seeds DIRECTORY STREAM.. Each stream is fed in pieces, in some
  * ways. For each item one input that parses; for each frame also ones that decode it, encode what it
  * holds, with the option and without, and find its first two names and one that it does not have. They
- * are read with the baseline. A block is there as it is and as the text that fuzz.c makes it of. Then some
- * names and patterns to match, and plans. */
+ * are read with the baseline. A block is there as it is and as the text that fuzz.c makes it of. Then entries
+ * that are not UTF-8, and some names and patterns to match, and plans. */
 #include <stdio.h>
 #include <stdlib.h>
 #include <string.h>
@@ -112,6 +112,30 @@ static void write_frame(const uint8_t *frame, uint64_t parsed)
     write_find("none", 4, block, used);
 }
 
+/* Entries that no frame has: a cut character, one that is half in the name and half in the value, a tail, a
+ * surrogate. */
+static void write_broken(void)
+{
+    static const char *const entries[][2] = {
+        {"a", "b\xc3"}, {"a\xc3", "\xa9z"}, {"\x80", ""}, {"a", "\xed\xa0\x80"}
+    };
+    for (size_t i = 0; i < sizeof entries / sizeof *entries; i++) {
+        uint8_t block[40] = "HD";
+        size_t name = strlen(entries[i][0]);
+        size_t value = strlen(entries[i][1]);
+        block[3] = (uint8_t)name;
+        block[5] = (uint8_t)value;
+        memcpy(block + HEAD, entries[i][0], name);
+        memcpy(block + HEAD + name, entries[i][1], value);
+        begin(ENCODE);
+        put_number(0, 4);
+        put_number(STOMP_COMMAND_SEND, 4);
+        put_number(STOMP_MAX_FRAME, 2);
+        put_number(0, 2);
+        finish_with(block, HEAD + name + value);
+    }
+}
+
 /* The stream in pieces: one octet each, some of none, and longer ones. */
 static void write_feeds(const uint8_t *stream, size_t size)
 {
@@ -215,6 +239,7 @@ int main(int argc, char **argv)
                 write_frame(stream + at, parsed);
         }
     }
+    write_broken();
     write_matches();
     write_plans();
     printf("%lu seeds\n", count);

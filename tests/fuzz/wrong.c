@@ -14,12 +14,17 @@ uint64_t right_match(const uint8_t *name, size_t name_len, const uint8_t *patter
 uint64_t right_check_plan(const uint8_t *messages, size_t messages_len, const uint8_t *subscriptions,
                           size_t subscriptions_len, const uint8_t *plan, size_t plan_len);
 
-/* 1: reads the octet behind its slice. */
+/* 1: reads the octet behind its slice; 21: tells an octet that no character has after a backslash as a wrong
+ * escape. */
 uint64_t stomp_parse(const uint8_t *octets, size_t len)
 {
     if (WRONG == 1)
         (void)*(const volatile uint8_t *)(octets + len);
-    return right_parse(octets, len);
+    uint64_t answer = right_parse(octets, len);
+    size_t offset = stomp_parse_offset(answer);
+    if (WRONG == 21 && stomp_parse_code(answer) == STOMP_INVALID_UTF8 && offset > 0 && octets[offset - 1] == '\\')
+        answer -= 4 * (STOMP_INVALID_UTF8 - STOMP_INVALID_ESCAPE);
+    return answer;
 }
 
 /* 2: writes the octet before the block; 3: the one behind it; 4: the one behind the records. */
@@ -66,7 +71,8 @@ uint64_t stomp_encode_with(uint32_t options, uint32_t command, const uint8_t *bl
 }
 
 /* 8: takes the octet that is refused; 9: goes on after a refusal; 10: writes an octet behind what it takes;
- * 11: forgets what it has read where a piece is empty; 12: changes a state that it refuses. */
+ * 11: forgets what it has read where a piece is empty; 12: changes a state that it refuses; 22: takes a piece's
+ * end for an octet of the character that it cuts. */
 uint64_t stomp_feed(uint8_t *state, size_t state_len, uint8_t *buffer, size_t buffer_len, const uint8_t *piece,
                     size_t piece_len)
 {
@@ -81,6 +87,8 @@ uint64_t stomp_feed(uint8_t *state, size_t state_len, uint8_t *buffer, size_t bu
     if (WRONG == 11 && piece_len == 0 && stomp_feed_kind(answer) == STOMP_INCOMPLETE)
         for (size_t i = 0; i < state_len; i++)
             state[i] = 0;
+    if (WRONG == 22 && stomp_feed_kind(answer) == STOMP_INCOMPLETE && state[14] == 2)
+        state[14] = 1;
     if (WRONG == 12 && stomp_feed_code(answer) == STOMP_FEED_INVALID_STATE)
         state[0]++;
     return answer;
