@@ -12,7 +12,10 @@ use crate::feed_calls::BUFFER;
 use crate::item::{header_line, parse, Answer, Command};
 use crate::listing;
 use crate::random::Random;
+use crate::session::opening::ONLY_1_2;
+use crate::session::record::make;
 use crate::streams::characters::{any_character, broken, character, of_either_kind};
+use crate::topic;
 use std::collections::HashSet;
 use std::ops::RangeInclusive;
 
@@ -468,4 +471,34 @@ fn decoded_text_is_utf8_exactly_if_the_raw_text_is() {
         }
     }
     assert!(right > 10_000 && wrong > 10_000, "{} {}", right, wrong);
+}
+
+/// Ids, labels, names of ports and patterns are not asked: the calls that take them take any octets.
+#[test]
+fn ids_labels_and_patterns_are_not_asked() {
+    let (_, mut record) = make(0, 0, ONLY_1_2);
+    let mut frame = |command: u32, entries: &[(&[u8], &[u8])]| {
+        let entries: Vec<Entry> = entries
+            .iter()
+            .map(|(name, value)| Entry::new(name, value))
+            .collect();
+        let block = block::write(&entries);
+        assert!(record.frame(command, &block, 0).is_ok());
+        record.clone()
+    };
+    frame(5, &[(b"accept-version", b"1.2"), (b"host", b"\xff")]);
+    frame(3, &[(b"transaction", b"\xc3")]);
+    let mut subscribed = frame(
+        14,
+        &[
+            (b"id", b"\x80"),
+            (b"destination", b"\xed\xa0\x80"),
+            (b"ack", b"client"),
+        ],
+    );
+    assert!(subscribed.deliver(b"\x80", b"\xe2\x82").is_ok());
+    let block = block::write(&[Entry::new(b"id", b"\xe2\x82")]);
+    assert!(subscribed.frame(2, &block, 0).is_ok());
+    assert_eq!(topic::answer(b"a.\xff", b"*.\xff").packed(), 1);
+    assert_eq!(topic::answer(b"\xc3.b", b"\xa9.b").packed(), 0);
 }
