@@ -1,7 +1,7 @@
 -- Characters of UTF-8, and the numbers that the code has for them: laws. Assumes nothing.
 --     utf8-exact                    the test is true of exactly the octets that are UTF-8
 --     wide-on, wide-off             a character of more than one octet at the front, or none
-use mathlib.Core.Path.{_≡_, refl, sym, _∙_, ap, subst}
+use mathlib.Core.Path.{_≡_, refl, sym, _∙_, ap, ap₂, subst}
 use mathlib.Core.Bool.{Bool, true, false, cond, _&&_, _||_, not}
 use mathlib.Core.List.{List, [], _∷_, _++_, append-assoc, append-nil}
 use Prim.Native.Nat.{ℕ, suc, _+_, _-_, _≤_, _<_}
@@ -9,7 +9,7 @@ use native.Mathlib.Nat.{add-zero}
 use native.Mathlib.Omega.{arith}
 use native.Mathlib.Numerals.{add-one}
 use lib.ListN.{length, take, drop, getD, length-append, length-drop, drop-of-length-le, take-append-drop}
-use lib.Seq.{drop-cons, drop-drop, take-append-seam, take-add, length-take-le, getD-drop}
+use lib.Seq.{drop-cons, drop-drop, take-append-seam, drop-append-seam, take-add, length-take-le, getD-drop}
 use lib.Dec.{eqb, leb, ltb}
 use borrow.Author.Tests.{eqb-true, eqb-false, ne-eqb, leb-true, le-leb, ltb-true, ltb-false, lt-ltb, le-ltb, lt-leb}
 use Rattle.headers.specs.Rows.{every}
@@ -571,3 +571,28 @@ pub text-then : (s : Style) (f : Field) (l : List ℕ) (i a b : ℕ) → Text s 
 text-then s f l i a b t u =
     subst (Text s f) (sym (take-add a b (drop i l)))
     (text-append t (subst (λ z. Text s f (take b z)) (sym (drop-drop a i l)) u))
+
+-- ---- no other number of octets is such a stretch
+
+wide-long : {u : List ℕ} (z : List ℕ) → Wide u → length u ≡ missing (getD (u ++ z) 0 0) + 1
+wide-long z (led-by {x = x} {y = y} {t = t} e h k) = omega (arith, e)
+
+wide-some : {u : List ℕ} (z : List ℕ) → Wide u → wide-front (u ++ z) ≡ 0 → ⊥
+unfolding wide-front
+wide-some {u} z w e = omega (arith, sym (ap (λ t. cond t (missing (getD (u ++ z) 0 0) + 1) 0) (wide-found z w)) ∙ e)
+
+wides-same : {a b : List ℕ} (r s : List ℕ) → Wides a → Wides b → a ++ r ≡ b ++ s → wide-front r ≡ 0 → wide-front s ≡ 0 → length a ≡ length b
+wides-same r s no-wide no-wide e p q = refl
+wides-same r s no-wide (one-wide {u = v} {xs = bs} w ws) e p q = absurd (wide-some (bs ++ s) w (ap wide-front (sym (e ∙ append-assoc v bs s)) ∙ p))
+wides-same r s (one-wide {u = u} {xs = cs} w ws) no-wide e p q = absurd (wide-some (cs ++ r) w (ap wide-front (sym (append-assoc u cs r) ∙ e) ∙ q))
+wides-same r s (one-wide {u = u} {xs = cs} w ws) (one-wide {u = v} {xs = bs} w′ ws′) e p q =
+    let both : u ++ (cs ++ r) ≡ v ++ (bs ++ s) = sym (append-assoc u cs r) ∙ e ∙ append-assoc v bs s in
+    let long : length u ≡ length v = wide-long (cs ++ r) w ∙ ap (λ z. missing (getD z 0 0) + 1) both ∙ sym (wide-long (bs ++ s) w′) in
+    let rest : cs ++ r ≡ bs ++ s =
+    sym (drop-append-seam u (cs ++ r)) ∙ ap (drop (length u)) both ∙ ap (λ n. drop n (v ++ (bs ++ s))) long ∙ drop-append-seam v (bs ++ s) in
+    length-append u cs ∙ ap₂ (_+_) long (wides-same r s ws ws′ rest p q) ∙ sym (length-append v bs)
+
+pub wide-stretch-once : (xs : List ℕ) (n m : ℕ) → WideStretch xs n → WideStretch xs m → n ≡ m
+wide-stretch-once xs n m a b =
+    let same = wides-same (drop n xs) (drop m xs) (a .row) (b .row) (take-append-drop n xs ∙ sym (take-append-drop m xs)) (a .ends) (b .ends) in
+    sym (length-take-le n xs (a .within)) ∙ same ∙ length-take-le m xs (b .within)
