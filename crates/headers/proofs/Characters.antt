@@ -1,5 +1,6 @@
 -- Characters of UTF-8, and the numbers that the code has for them: laws. Assumes nothing.
 --     utf8-exact                    the test is true of exactly the octets that are UTF-8
+--     utf8-edges                    the first and last characters of each row of RFC 3629's table, and what is next to them
 --     wide-on, wide-off             a character of more than one octet at the front, or none
 use mathlib.Core.Path.{_≡_, refl, sym, _∙_, ap, ap₂, subst}
 use mathlib.Core.Bool.{Bool, true, false, cond, _&&_, _||_, not}
@@ -12,7 +13,7 @@ use lib.ListN.{length, take, drop, getD, length-append, length-drop, drop-of-len
 use lib.Seq.{drop-cons, drop-drop, take-append-seam, drop-append-seam, take-add, length-take-le, getD-drop}
 use lib.Dec.{eqb, leb, ltb}
 use borrow.Author.Tests.{eqb-true, eqb-false, ne-eqb, leb-true, le-leb, ltb-true, ltb-false, lt-ltb, le-ltb, lt-leb}
-use Rattle.headers.specs.Rows.{every}
+use Rattle.headers.specs.Rows.{any, every}
 use Rattle.headers.specs.Text.{stops, opens, escape-table, is-letter, starts, starts-with, reads, missing, tail, second, ascii, Character, itself, escape, wide, Text, none, more, Wide, led-by, Utf8, utf8-none, utf8-ascii, utf8-wide, Part, fresh, back, led, tails, owes, left, of-utf8, of-escape, Into, into, bad, stop, utf8-reads, then-reads, ended, reads-whole, is-text-from, is-utf8-from, is-utf8}
 use Rattle.headers.specs.Escapes.{meaning, encode, writable, means, character-means}
 use Rattle.headers.specs.Characters.{part-number, utf8-part, text-part, is-begun, into-number, is-wide, wide-front, front-character, Wides, no-wide, one-wide, WideStretch}
@@ -88,6 +89,46 @@ passes-utf8 xs h =
 -- The test is true of exactly the octets that are UTF-8.
 pub utf8-exact : (xs : List ℕ) → (Utf8 xs → is-utf8 xs ≡ true) × (is-utf8 xs ≡ true → Utf8 xs)
 utf8-exact xs = (utf8-passes, passes-utf8 xs)
+
+-- ---- the table of RFC 3629, section 4
+
+-- by its rows, the first and the last character of each
+abbrev edge-characters : List (List ℕ)
+edge-characters =
+    (0 ∷ []) ∷ (127 ∷ []) ∷
+    (194 ∷ 128 ∷ []) ∷ (223 ∷ 191 ∷ []) ∷
+    (224 ∷ 160 ∷ 128 ∷ []) ∷ (224 ∷ 191 ∷ 191 ∷ []) ∷
+    (225 ∷ 128 ∷ 128 ∷ []) ∷ (236 ∷ 191 ∷ 191 ∷ []) ∷
+    (237 ∷ 128 ∷ 128 ∷ []) ∷ (237 ∷ 159 ∷ 191 ∷ []) ∷
+    (238 ∷ 128 ∷ 128 ∷ []) ∷ (239 ∷ 191 ∷ 191 ∷ []) ∷
+    (240 ∷ 144 ∷ 128 ∷ 128 ∷ []) ∷ (240 ∷ 191 ∷ 191 ∷ 191 ∷ []) ∷
+    (241 ∷ 128 ∷ 128 ∷ 128 ∷ []) ∷ (243 ∷ 191 ∷ 191 ∷ 191 ∷ []) ∷
+    (244 ∷ 128 ∷ 128 ∷ 128 ∷ []) ∷ (244 ∷ 143 ∷ 191 ∷ 191 ∷ []) ∷
+    []
+
+-- what is next to them: before the first lead octet and after the last, before the first second octet and after the last of each
+-- row, before the first tail and after the last; then characters that are cut, and one with an octet too many
+abbrev edge-octets : List (List ℕ)
+edge-octets =
+    (128 ∷ []) ∷ (191 ∷ []) ∷ (192 ∷ 128 ∷ []) ∷ (193 ∷ 191 ∷ []) ∷
+    (194 ∷ 127 ∷ []) ∷ (194 ∷ 192 ∷ []) ∷ (223 ∷ 127 ∷ []) ∷ (223 ∷ 192 ∷ []) ∷
+    (224 ∷ 159 ∷ 191 ∷ []) ∷ (224 ∷ 192 ∷ 128 ∷ []) ∷
+    (225 ∷ 127 ∷ 191 ∷ []) ∷ (236 ∷ 192 ∷ 128 ∷ []) ∷
+    (237 ∷ 127 ∷ 191 ∷ []) ∷ (237 ∷ 160 ∷ 128 ∷ []) ∷
+    (238 ∷ 127 ∷ 191 ∷ []) ∷ (239 ∷ 192 ∷ 128 ∷ []) ∷
+    (240 ∷ 143 ∷ 191 ∷ 191 ∷ []) ∷ (240 ∷ 192 ∷ 128 ∷ 128 ∷ []) ∷
+    (241 ∷ 127 ∷ 191 ∷ 191 ∷ []) ∷ (243 ∷ 192 ∷ 128 ∷ 128 ∷ []) ∷
+    (244 ∷ 127 ∷ 191 ∷ 191 ∷ []) ∷ (244 ∷ 144 ∷ 128 ∷ 128 ∷ []) ∷
+    (245 ∷ 128 ∷ 128 ∷ 128 ∷ []) ∷ (255 ∷ []) ∷
+    (225 ∷ 128 ∷ 127 ∷ []) ∷ (225 ∷ 128 ∷ 192 ∷ []) ∷
+    (241 ∷ 128 ∷ 127 ∷ 128 ∷ []) ∷ (241 ∷ 128 ∷ 192 ∷ 128 ∷ []) ∷
+    (241 ∷ 128 ∷ 128 ∷ 127 ∷ []) ∷ (241 ∷ 128 ∷ 128 ∷ 192 ∷ []) ∷
+    (194 ∷ []) ∷ (225 ∷ 128 ∷ []) ∷ (241 ∷ 128 ∷ 128 ∷ []) ∷ (194 ∷ 128 ∷ 128 ∷ []) ∷
+    []
+
+pub utf8-edges : (every is-utf8 edge-characters ≡ true) × (any is-utf8 edge-octets ≡ false)
+unfolding reads-whole
+utf8-edges = (refl, refl)
 
 -- ---- whole characters at the front
 
