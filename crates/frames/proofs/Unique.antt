@@ -32,7 +32,7 @@ first-is : (f : Reason → Bool) (before after : List Reason) (r : Reason) → A
 first-is f [] after r h k = rw k
 first-is f (e ∷ es) after r h k = rw (h .0) (first-is f es after r (h .1) k)
 
--- "at one octet the order is 1, 2, 10, 3, 8, 9, 4 to 7" (document 02, C-11)
+-- "at one octet the order is 1, 2, 10, 3, 8, 9, 4 to 7" (document 02, C-11), 11 "between 2 and 10" (C-17)
 pub order-numbers : map numbered order ≡ 1 ∷ 2 ∷ 11 ∷ 10 ∷ 3 ∷ 8 ∷ 9 ∷ 4 ∷ 5 ∷ 6 ∷ 7 ∷ []
 order-numbers = refl
 
