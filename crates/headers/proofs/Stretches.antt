@@ -12,11 +12,11 @@ use native.Mathlib.Numerals.{add-one, one-add}
 use native.Mathlib.Omega.{arith}
 use lib.Dec.{eqb, ltb, leb}
 use lib.ListN.{length, take, drop, getD, drop-of-length-le, take-append-drop, length-take, length-drop}
-use lib.Seq.{drop-cons, drop-drop, take-all, length-take-le}
+use lib.Seq.{drop-cons, drop-drop, take-all, take-take, length-take-le}
 use borrow.Author.Tests.{not-true, not-false, eqb-true, ltb-true, ltb-false}
 use Rattle.headers.specs.Rows.{every}
 use Rattle.headers.specs.Stretches.{span, plain-in, not-back, Stretch}
-use Rattle.headers.proofs.Rows.{cond-case, and-left, and-right, or-false-right, every-step, every-end, every-drop}
+use Rattle.headers.proofs.Rows.{cond-case, and-left, and-right, or-false-right, every-step, every-end, every-drop, every-left}
 
 -- a part's length
 pub part-long : (l : List ℕ) (i e : ℕ) → i ≤ e → e ≤ length l → length (take (e - i) (drop i l)) ≡ e - i
@@ -164,6 +164,16 @@ module _ (p q : ℕ → Bool) (also : (x : ℕ) → p x ≡ true → q x ≡ tru
       by : (t : Bool) → p x ≡ t → every q (take (span p xs) xs) ≡ true → every q (take (span p (x ∷ xs)) (x ∷ xs)) ≡ true
       by true e r = rw e (ap (λ n. every q (take n (x ∷ xs))) (one-add (span p xs)) ∙ rw (also x e) r)
       by false e r = rw e refl
+
+-- a place up to which the stricter test holds: the front that passes the other goes on from there
+pub span-calm : (p q : ℕ → Bool) → ((x : ℕ) → p x ≡ true → q x ≡ true) → (s : List ℕ) (i r : ℕ) → i ≤ length s → i ≤ r → r ≤ i + span p (drop i s)
+    → (r ≤ length s) × (r + span q (drop r s) ≡ i + span q (drop i s))
+span-calm p q also s i r h ir rs =
+    let m : ℕ = span p (drop i s) in
+    let far : r - i ≤ m = omega arith in
+    let within : r ≤ length s = omega (arith, span-le p (drop i s), length-drop i s) in
+    let front = every-left q (take (r - i) (take m (drop i s))) (drop (r - i) (take m (drop i s))) (ap (every q) (take-append-drop (r - i) (take m (drop i s))) ∙ span-clear p q also (drop i s)) in
+    (within, span-block q s i r ir within (ap (every q) (sym (take-take (r - i) m (drop i s) far)) ∙ front))
 
 -- where it ends: at the end, or at an octet that fails
 pub span-ends : (p : ℕ → Bool) (xs : List ℕ) → (span p xs ≡ length xs) ⊎ (p (getD xs (span p xs) 0) ≡ false)

@@ -20,6 +20,10 @@ span p (x ∷ xs) = cond (p x) (1 + span p xs) 0
 abbrev pub plain-in : Stops → ℕ → Bool
 plain-in s x = not (eqb x 10 || eqb x (s .cr) || eqb x (s .colon) || eqb x (s .back)) && leb x (s .top)
 
+-- octets up to top that are at no place of any text a stop: neither 10 nor 13, a colon or a backslash, nor another below 14
+abbrev pub calm : ℕ → ℕ → Bool
+calm top x = leb 14 x && leb x top && not (eqb x 58) && not (eqb x 92)
+
 -- no backslash
 abbrev pub not-back : ℕ → Bool
 not-back x = not (eqb x 92)

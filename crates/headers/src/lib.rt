@@ -31,6 +31,7 @@ pub use line::write_line;
 pub use octets::copy;
 pub use octets::equal;
 pub use plain::Stops;
+pub use plain::calm_from;
 pub use plain::plain_span;
 pub use plain::stretch;
 pub use record::Known;

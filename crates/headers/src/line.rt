@@ -57,7 +57,7 @@ fn measure(text: &[u8], style: Style, field: Field) -> Measured
         ⌝ }
 {
     let mut n = 0u16;
-    let mut ascii = true;
+    let mut most = 0u8;
     let mut i = 0usize;
     while i < text.len() {
         let x = text[i];
@@ -69,13 +69,13 @@ fn measure(text: &[u8], style: Style, field: Field) -> Measured
             };
         }
         n += encoded_width(style, x);
-        ascii = ascii & (x < 128);
+        most = if most < x { x } else { most };
         i += 1;
     }
     Measured {
         length: n as usize,
         writable: true,
-        ascii,
+        ascii: most < 128,
     }
 }
 

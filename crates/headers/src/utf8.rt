@@ -1,6 +1,8 @@
 // Characters of UTF-8 (RFC 3629): one octet after another, whole ones at a place, and a test for text.
 ghost use mathlib.Core.Path.{_≡_};
-ghost use Prim.Native.Nat.{_-_, _<_};
+ghost use mathlib.Core.Bool.{true};
+ghost use mathlib.Core.Logic.{_⊎_};
+ghost use Prim.Native.Nat.{_-_, _<_, _≤_};
 ghost use lib.ListN.{length, drop};
 ghost use Rattle.headers.specs.Text.{missing, tail, second, owes, utf8-reads, is-utf8};
 ghost use Rattle.headers.specs.Characters.{utf8-part, into-number, wide-front, front-character, WideStretch};
@@ -122,13 +124,50 @@ fn wide_at(s: &[u8], i: usize) -> usize
     if is_tail(s[l]) { 4 } else { 0 }
 }
 
+// Whether the octets begin with a character of two octets or are one of three: without branches, which would often be mispredicted.
+fn is_short(x: u8, y: u8, z: u8) -> bool
+    ensures { λ r. ⌜ (r ≡ true → (second x y ≡ true) × (((x < 224) × (missing x ≡ 1)) ⊎ ((224 ≤ x) × (missing x ≡ 2) × (tail z ≡ true)))) ⌝ }
+{
+    let low: u8 = if x == 224 { 160 } else { 128 };
+    let high: u8 = if x == 237 { 159 } else { 191 };
+    (194 <= x) & (x <= 239) & (low <= y) & (y <= high) & ((x <= 223) | is_tail(z))
+}
+
+// How many octets the character at i has, where it has two or three and three octets are there; otherwise 0.
+fn short_at(s: &[u8], i: usize) -> usize
+    requires { ⌜ i < length (now s) ⌝ }
+    ensures { λ r. ⌜ (r ≡ 0) ⊎ (r ≡ wide-front (drop i (now (s .entry)))) ⌝ }
+{
+    if s.len() - i < 3 {
+        return 0;
+    }
+    let j = i + 1;
+    let k = i + 2;
+    if !is_short(s[i], s[j], s[k]) {
+        return 0;
+    }
+    if s[i] < 224 { 2 } else { 3 }
+}
+
+// How many octets the character of more than one octet at i has; 0 where none is there whole.
+fn next_wide(s: &[u8], i: usize) -> usize
+    requires { ⌜ i < length (now s) ⌝ }
+    ensures { λ r. ⌜ r ≡ wide-front (drop i (now (s .entry))) ⌝ }
+{
+    let k = short_at(s, i);
+    if k != 0 {
+        return k;
+    }
+    wide_at(s, i)
+}
+
 // How many octets at the front of s are whole characters of more than one octet, one after another.
 pub fn wide_span(s: &[u8]) -> usize
     ensures { λ r. ⌜ WideStretch (now (s .entry)) r ⌝ }
 {
     let mut i = 0usize;
     while i < s.len() {
-        let k = wide_at(s, i);
+        let k = next_wide(s, i);
         if k == 0 {
             return i;
         }
@@ -145,7 +184,7 @@ fn character_at(s: &[u8], i: usize) -> usize
     if s[i] < 128 {
         return 1;
     }
-    wide_at(s, i)
+    next_wide(s, i)
 }
 
 // Whether the octets are UTF-8.

@@ -1,26 +1,41 @@
 -- `line::measure` meets its contract: what is left of the tests, and what is left to encode.
 use borrow.Author.Needs.{needs}
 use mathlib.Core.Path.{_≡_, refl, sym, _∙_}
-use mathlib.Core.Bool.{_&&_}
-use Prim.Native.Nat.{_≤_, _-_}
+use mathlib.Core.Bool.{Bool, true, false, _&&_}
+use mathlib.Core.Logic.{_⊎_, inl, inr, ⊎-elim}
+use Prim.Native.Nat.{ℕ, _≤_, _<_, _-_}
 use native.Mathlib.Omega.{arith}
 use lib.ListN.{length, drop}
-use borrow.Author.Tests.{not-true, not-false}
+use lib.Dec.{ltb}
+use borrow.Author.Tests.{not-true, not-false, lt-ltb, le-ltb, ltb-true, ltb-false}
 use Rattle.headers.specs.Rows.{every}
 use Rattle.headers.specs.Text.{ascii}
 use Rattle.headers.specs.Escapes.{writable}
-use Rattle.headers.proofs.Rows.{every-step, every-end, never}
+use Rattle.headers.proofs.Rows.{every-step, every-end, never, and-no}
 use Rattle.headers.proofs.Stretches.{every-more, every-done}
 use Rattle.headers.proofs.Coding.{Counted, count-none, count-more, count-all}
 use Rattle.headers.proofs.line.measure.Statement.{statement}
 use Rattle.headers.proofs.line.measure.Tie as tie
 
+-- the larger of two octets is below 128 where both are
+most-ascii : (m x k : ℕ) → ((m < x) × (k ≡ x)) ⊎ ((x ≤ m) × (k ≡ m)) → ltb k 128 ≡ ltb m 128 && ltb x 128
+most-ascii m x k (inl (h, e)) = by (ltb x 128) refl
+  where
+    by : (t : Bool) → ltb x 128 ≡ t → ltb k 128 ≡ ltb m 128 && ltb x 128
+    by true q = let b = ltb-true x 128 q in rw (q, lt-ltb k 128 (omega arith), lt-ltb m 128 (omega arith))
+    by false q = let b = ltb-false x 128 q in rw (q, le-ltb k 128 (omega arith)) (sym (and-no (ltb m 128)))
+most-ascii m x k (inr (h, e)) = by (ltb m 128) refl
+  where
+    by : (t : Bool) → ltb m 128 ≡ t → ltb k 128 ≡ ltb m 128 && ltb x 128
+    by true q = let b = ltb-true m 128 q in rw (q, lt-ltb k 128 (omega arith), lt-ltb x 128 (omega arith))
+    by false q = let b = ltb-false m 128 q in rw (q, le-ltb k 128 (omega arith))
+
 abbrev Inv-loop : tie.InvT-loop
-Inv-loop text style field n₀ low₀ i₀ n low i =
-    (i ≤ length text) × (every (writable style field) text ≡ every (writable style field) (drop i text)) × Counted style text i n × (low && every ascii (drop i text) ≡ every ascii text)
+Inv-loop text style field n₀ most₀ i₀ n most i =
+    (i ≤ length text) × (every (writable style field) text ≡ every (writable style field) (drop i text)) × Counted style text i n × (ltb most 128 && every ascii (drop i text) ≡ every ascii text)
 
 abbrev μ-loop : tie.MeasureT-loop
-μ-loop text style field n₀ low₀ i₀ n low i = length text - i
+μ-loop text style field n₀ most₀ i₀ n most i = length text - i
 
 loop-holds : tie.Need-loop-holds Inv-loop μ-loop
 loop-holds c = let a = c .before .args in
@@ -54,20 +69,21 @@ loop-less : tie.Need-loop-less Inv-loop μ-loop
 loop-less c = search needs
 
 loop-again : tie.Need-loop-again Inv-loop μ-loop
-loop-again c = let l = c .before .before .before .before .before .loop in
-    let a = c .before .before .before .before .before .before .before .args in
-    let on = sym (c .before .before .can-write .ensures) ∙ not-false _ (c .before .if1 .left) in
-    let t = c .before .before .before .before .loop-test .taken in
-    (omega arith, l .inv .1 ∙ every-step _ _ _ t ∙ simp on, count-more (a .style) (a .text .now) (l .i) (l .n) _ t (c .encoded-width .ensures) (l .inv .2), every-more ascii (a .text .now) (l .i) (l .ascii) t ∙ l .inv .3)
+loop-again c = let l = c .before .before .before .before .before .before .loop in
+    let a = c .before .before .before .before .before .before .before .before .args in
+    let on = sym (c .before .before .before .can-write .ensures) ∙ not-false _ (c .before .before .if1 .left) in
+    let t = c .before .before .before .before .before .loop-test .taken in
+    let low = most-ascii (l .most) _ _ (⊎-elim (λ w. inl (w .0 .taken, w .1)) (λ w. inr (w .0 .left, w .1)) (c .if2 .came)) in
+    (omega arith, l .inv .1 ∙ every-step _ _ _ t ∙ simp on, count-more (a .style) (a .text .now) (l .i) (l .n) _ t (c .before .encoded-width .ensures) (l .inv .2), rw low (every-more ascii (a .text .now) (l .i) (ltb (l .most) 128) t ∙ l .inv .3))
 
-cast-t14 : tie.Need-cast-t14 Inv-loop μ-loop
-cast-t14 c = search needs
+cast-t15 : tie.Need-cast-t15 Inv-loop μ-loop
+cast-t15 c = search needs
 
 returns-2 : tie.Need-returns-2 Inv-loop μ-loop
 returns-2 c = let a = c .before .before .before .args in
     let l = c .before .loop in (
       sym (l .inv .1 ∙ every-end _ _ _ (c .loop-test .left)),
-      λ t. (count-all (a .style) (a .text .now) (l .i) (l .n) (c .loop-test .left) (l .inv .2), sym (every-done ascii (a .text .now) (l .i) (l .ascii) (c .loop-test .left)) ∙ l .inv .3),
+      λ t. (count-all (a .style) (a .text .now) (l .i) (l .n) (c .loop-test .left) (l .inv .2), sym (every-done ascii (a .text .now) (l .i) (ltb (l .most) 128) (c .loop-test .left)) ∙ l .inv .3),
     )
 
 pub measure-spec : {M : Type 1} → statement M
@@ -85,5 +101,5 @@ measure-spec =
     add-i
     loop-less
     loop-again
-    cast-t14
+    cast-t15
     returns-2)

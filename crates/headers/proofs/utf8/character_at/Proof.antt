@@ -13,12 +13,12 @@ returns : tie.Need-returns
 returns c =
     sym (front-ascii (c .before .before .before .args .s .now) (c .before .before .before .args .i) (c .before .before .before .pre) (lt-ltb _ 128 (c .if1 .taken)))
 
-wide-at-requires : tie.Need-wide-at-requires
-wide-at-requires c κs = search needs
+next-wide-requires : tie.Need-next-wide-requires
+next-wide-requires c κs = search needs
 
 returns-2 : tie.Need-returns-2
 returns-2 c =
-    c .wide-at .ensures ∙ sym (front-wide (c .before .before .before .before .args .s .now) (c .before .before .before .before .args .i) (c .before .before .before .before .pre) (le-ltb _ 128 (c .before .if1 .left)))
+    c .next-wide .ensures ∙ sym (front-wide (c .before .before .before .before .args .s .now) (c .before .before .before .before .args .i) (c .before .before .before .before .pre) (le-ltb _ 128 (c .before .if1 .left)))
 
 pub character-at-spec : {M : Type 1} → statement M
-character-at-spec = tie.close (tie.spec shared-slice-read-if1 returns wide-at-requires returns-2)
+character-at-spec = tie.close (tie.spec shared-slice-read-if1 returns next-wide-requires returns-2)

@@ -18,24 +18,24 @@ loop-holds : tie.Need-loop-holds Inv-loop μ-loop
 loop-holds c =
     (omega arith, wides-none (c .before .args .s .now))
 
-wide-at-requires : tie.Need-wide-at-requires Inv-loop μ-loop
-wide-at-requires c κs = search needs
+next-wide-requires : tie.Need-next-wide-requires Inv-loop μ-loop
+next-wide-requires c κs = search needs
 
 returns : tie.Need-returns Inv-loop μ-loop
 returns c =
-    wides-stop (c .before .before .before .before .before .args .s .now) (c .before .before .before .loop .i) (c .before .before .before .loop .inv .0) (c .before .before .before .loop .inv .1) (c .before .wide-at .ensures) (c .if1 .taken)
+    wides-stop (c .before .before .before .before .before .args .s .now) (c .before .before .before .loop .i) (c .before .before .before .loop .inv .0) (c .before .before .before .loop .inv .1) (c .before .next-wide .ensures) (c .if1 .taken)
 
 add-i : tie.Need-add-i Inv-loop μ-loop
 add-i c =
-    omega (arith, wide-here (c .before .before .before .before .before .args .s .now) (c .before .before .before .loop .i) (c .before .wide-at .ensures) (c .if1 .left) .1)
+    omega (arith, wide-here (c .before .before .before .before .before .args .s .now) (c .before .before .before .loop .i) (c .before .next-wide .ensures) (c .if1 .left) .1)
 
 loop-less : tie.Need-loop-less Inv-loop μ-loop
 loop-less c =
-    omega (arith, wide-here (c .before .before .before .before .before .args .s .now) (c .before .before .before .loop .i) (c .before .wide-at .ensures) (c .if1 .left) .1, wide-here (c .before .before .before .before .before .args .s .now) (c .before .before .before .loop .i) (c .before .wide-at .ensures) (c .if1 .left) .2)
+    omega (arith, wide-here (c .before .before .before .before .before .args .s .now) (c .before .before .before .loop .i) (c .before .next-wide .ensures) (c .if1 .left) .1, wide-here (c .before .before .before .before .before .args .s .now) (c .before .before .before .loop .i) (c .before .next-wide .ensures) (c .if1 .left) .2)
 
 loop-again : tie.Need-loop-again Inv-loop μ-loop
 loop-again c =
-    ((wide-here (c .before .before .before .before .before .args .s .now) (c .before .before .before .loop .i) (c .before .wide-at .ensures) (c .if1 .left)) .1, wides-more (c .before .before .before .before .before .args .s .now) (c .before .before .before .loop .i) (c .before .wide-at .ensures) (c .if1 .left) (c .before .before .before .loop .inv .1))
+    ((wide-here (c .before .before .before .before .before .args .s .now) (c .before .before .before .loop .i) (c .before .next-wide .ensures) (c .if1 .left)) .1, wides-more (c .before .before .before .before .before .args .s .now) (c .before .before .before .loop .i) (c .before .next-wide .ensures) (c .if1 .left) (c .before .before .before .loop .inv .1))
 
 returns-2 : tie.Need-returns-2 Inv-loop μ-loop
 returns-2 c =
@@ -48,7 +48,7 @@ wide-span-spec =
     Inv-loop
     μ-loop
     loop-holds
-    wide-at-requires
+    next-wide-requires
     returns
     add-i
     loop-less
