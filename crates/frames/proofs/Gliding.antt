@@ -10,7 +10,7 @@ use native.Mathlib.Omega.{arith}
 use lib.Dec.{eqb, leb}
 use lib.ListN.{length, getD, take, drop, take-append-drop, length-take, length-drop}
 use lib.Seq.{drop-append-le, drop-drop, take-take, length-take-le}
-use borrow.Author.Tests.{le-leb, leb-true, lt-ltb, not-true, eqb-true}
+use borrow.Author.Tests.{le-leb, leb-true, lt-ltb, not-true, eqb-true, ne-eqb}
 use Rattle.headers.specs.Rows.{every}
 use Rattle.headers.specs.Text.{divides, ascii, Part, fresh, back, led, tails, owes, into, reads, plain, stops, opens, is-letter, itself, escape, Text, none, more}
 use Rattle.headers.specs.Characters.{part-number, text-part}
@@ -24,7 +24,7 @@ use Rattle.headers.proofs.Characters.{Goes, goes-text, text-then}
 use Rattle.headers.proofs.Rows.{cond-case, and-left, and-right, and-no, and-yes, or-false-left, or-false-right}
 use Rattle.frames.specs.declared.state.Scan.{Scan}
 use Rattle.headers.specs.declared.plain.Stops.{Stops}
-use Rattle.headers.specs.Stretches.{span, plain-in}
+use Rattle.headers.specs.Stretches.{span, plain-in, calm}
 use Rattle.frames.specs.Scanning.{style-of, most-of, value-phase, on-value-by, on-value, on-name, on-body, on-counted, scan-step, scan, len-max, Valid, text-stops, not-zero, skip, Ahead}
 use Rattle.frames.proofs.Validity.{most-small}
 
@@ -91,6 +91,29 @@ plain-octet s f x k =
       simp (or-false-left (eqb x 10) (eqb x 13) h₂, or-false-right (eqb x 10) (eqb x 13) h₂, c, b),
       lt-ltb x 128 (omega (arith, leb-true x 127 (and-right (not (eqb x 10 || eqb x 13 || eqb x (cond (divides s f) 58 10) || eqb x (cond (s .escapes) 92 10))) (leb x 127) k))),
     )
+
+-- calm octets below 128 are plain in any text: what its stops are
+pub calm-plain : (s : Style) (f : Field) {t : Stops} → t ≡ text-stops s f → (t .cr ≡ 13) × (t .top ≡ 127) × ((x : ℕ) → calm 127 x ≡ true → plain-in t x ≡ true)
+calm-plain s f e = rw e (refl, refl, λ x h. calm-in s f x h)
+  where
+    either : (b : Bool) (x n : ℕ) → 14 ≤ x → eqb x n ≡ false → eqb x (cond b n 10) ≡ false
+    either true x n l h = h
+    either false x n l h = ne-eqb x 10 (λ z. absurd (omega arith))
+
+    calm-in : (s : Style) (f : Field) (x : ℕ) → calm 127 x ≡ true → plain-in (text-stops s f) x ≡ true
+    calm-in s f x k =
+        let d = and-left (leb 14 x && leb x 127 && not (eqb x 58)) (not (eqb x 92)) k in
+        let b = and-left (leb 14 x && leb x 127) (not (eqb x 58)) d in
+        let low = leb-true 14 x (and-left (leb 14 x) (leb x 127) b) in
+        let n58 = not-true (eqb x 58) (and-right (leb 14 x && leb x 127) (not (eqb x 58)) d) in
+        let n92 = not-true (eqb x 92) (and-right (leb 14 x && leb x 127 && not (eqb x 58)) (not (eqb x 92)) k) in
+        rw (
+          ne-eqb x 10 (λ z. absurd (omega arith)),
+          ne-eqb x 13 (λ z. absurd (omega arith)),
+          either (divides s f) x 58 low n58,
+          either (s .escapes) x 92 low n92,
+          and-right (leb 14 x) (leb x 127) b,
+        )
 
 pub reads-plain : (s : Style) (f : Field) (x : ℕ) → plain-in (text-stops s f) x ≡ true → reads s f fresh x ≡ into fresh
 reads-plain s f x k =

@@ -1,17 +1,16 @@
 // Plain stretches: how many octets header text or a body takes as they stand.
 ghost use mathlib.Core.Path.{_≡_};
-ghost use mathlib.Core.Bool.{_&&_};
-ghost use Prim.Native.Nat.{_+_, _≤_, _<_};
+ghost use mathlib.Core.Bool.{true, _&&_};
+ghost use Prim.Native.Nat.{ℕ, _+_, _≤_, _<_};
 ghost use lib.ListN.{length, take, drop};
 ghost use Rattle.headers.specs.Rows.{every};
-ghost use Rattle.headers.specs.Stretches.{span};
+ghost use Rattle.headers.specs.Stretches.{span, plain-in, calm};
 ghost use Rattle.headers.specs.Text.{Text};
 ghost use Rattle.frames.specs.Scanning.{Valid, Ahead, text-stops, not-zero, skip};
 ghost use Rattle.headers.specs.declared.text.Field.the-variants.{Name, Value};
 use crate::state::Scan;
 use headers::Stops;
 use headers::Style;
-use headers::plain_span;
 
 // The octets that end a stretch of a name.
 pub(crate) fn name_stops(style: Style) -> Stops
@@ -209,6 +208,34 @@ fn beyond_plain(s: &[u8], style: Style) -> usize
     }
 }
 
+// Whether text that has these stops takes the octet as it is.
+fn is_plain(stops: Stops, x: u8) -> bool
+    requires { ⌜ (stops .cr ≡ 13) × (stops .top ≡ 127) ⌝ }
+    ensures { λ r. ⌜ r ≡ plain-in stops x ⌝ }
+{
+    !((x == 10) | (x == 13) | (x == stops.colon) | (x == stops.back)) & (x <= 127)
+}
+
+// How many octets at the front of s text takes as they stand, where its stops leave calm octets below 128: by blocks up to an octet that
+// may be a stop, then that one by itself.
+pub(crate) fn text_span(s: &[u8], stops: Stops) -> usize
+    requires { ⌜ (stops .cr ≡ 13) × (stops .top ≡ 127) × ((x : ℕ) → calm 127 x ≡ true → plain-in stops x ≡ true) ⌝ }
+    ensures { λ r. ⌜ r ≡ span (plain-in stops) (now (s .entry)) ⌝ }
+{
+    let mut i = 0usize;
+    while i < s.len() {
+        i = headers::calm_from(s, i, 127);
+        if s.len() <= i {
+            return i;
+        }
+        if !is_plain(stops, s[i]) {
+            return i;
+        }
+        i += 1;
+    }
+    i
+}
+
 // How many octets of s from i on a value takes, whole characters among them.
 pub(crate) fn value_span(s: &[u8], i: usize, st: Scan) -> usize
     requires { ⌜ (i ≤ length (now s)) × Valid st × (st .phase ≡ 7) ⌝ }
@@ -217,14 +244,14 @@ pub(crate) fn value_span(s: &[u8], i: usize, st: Scan) -> usize
     let style = crate::word::style_of(st.command);
     let stops = value_stops(style);
     let e = upto(i, crate::limits::LINE - st.len, s.len());
-    let mut j = i + plain_span(&s[i..e], stops);
+    let mut j = i + text_span(&s[i..e], stops);
     while j < e {
         let k = beyond_plain(&s[j..e], style);
         if k == 0 {
             return j - i;
         }
         let f = j + k;
-        j = f + plain_span(&s[f..e], stops);
+        j = f + text_span(&s[f..e], stops);
     }
     j - i
 }

@@ -74,7 +74,7 @@ fn pass_name(s: &[u8], i: usize, st: Scan) -> Scan
 {
     let e = crate::ahead::upto(i, limits::NAME - st.len, s.len());
     let stops = crate::ahead::name_stops(crate::word::style_of(st.command));
-    let k = headers::plain_span(&s[i..e], stops);
+    let k = crate::ahead::text_span(&s[i..e], stops);
     crate::ahead::skip(st, k)
 }
 

@@ -7,7 +7,7 @@ use lib.ListN.{length, take, drop}
 use Rattle.headers.specs.Text.{Text}
 use Rattle.headers.specs.declared.text.Field.the-variants.{Value as in-value}
 use Rattle.headers.proofs.Stretches.{span-part, part-long}
-use Rattle.frames.proofs.Gliding.{line-short, span-text, text-on, ahead-text}
+use Rattle.frames.proofs.Gliding.{line-short, span-text, text-on, ahead-text, calm-plain}
 use Rattle.frames.proofs.ahead.value_span.Statement.{statement}
 use Rattle.frames.proofs.ahead.value_span.Tie as tie
 
@@ -30,27 +30,27 @@ sub-upto c =
 upto-requires : tie.Need-upto-requires Inv-loop μ-loop
 upto-requires c κs = search needs
 
-sub-plain-span : tie.Need-sub-plain-span Inv-loop μ-loop
-sub-plain-span c = search needs
+sub-text-span : tie.Need-sub-text-span Inv-loop μ-loop
+sub-text-span c = search needs
 
-part-plain-span-start : tie.Need-part-plain-span-start Inv-loop μ-loop
-part-plain-span-start c = search needs
+part-text-span-start : tie.Need-part-text-span-start Inv-loop μ-loop
+part-text-span-start c = search needs
 
-part-plain-span-end : tie.Need-part-plain-span-end Inv-loop μ-loop
-part-plain-span-end c = search needs
+part-text-span-end : tie.Need-part-text-span-end Inv-loop μ-loop
+part-text-span-end c = search needs
 
-plain-span-requires : tie.Need-plain-span-requires Inv-loop μ-loop
-plain-span-requires c κs = search needs
+text-span-requires : tie.Need-text-span-requires Inv-loop μ-loop
+text-span-requires c κs = calm-plain (c .before .before .before .before .style-of .result) in-value (c .before .before .before .value-stops .ensures)
 
 -- the first stretch ends where it may
-first-part : (c : tie.After-plain-span Inv-loop μ-loop) → c .before .before .before .before .before .before .before .args .i + c .plain-span .result ≤ c .before .before .upto .result
-first-part c = span-part _ _ _ _ _ (omega arith) (omega arith) (c .plain-span .ensures)
+first-part : (c : tie.After-text-span Inv-loop μ-loop) → c .before .before .before .before .before .before .before .args .i + c .text-span .result ≤ c .before .before .upto .result
+first-part c = span-part _ _ _ _ _ (omega arith) (omega arith) (c .text-span .ensures)
 
 -- and so do the characters after it, and the next stretch
-next-part : (c : tie.After-plain-span2 Inv-loop μ-loop) → (c .before .before .before .beyond-plain .result ≤ (c .before .before .before .before .before .before .before .before .before .upto .result) - (c .before .before .before .before .before .before .loop .j)) × ((c .before .before .before .before .before .before .loop .j) + c .before .before .before .beyond-plain .result + c .plain-span2 .result ≤ (c .before .before .before .before .before .before .before .before .before .upto .result))
+next-part : (c : tie.After-text-span2 Inv-loop μ-loop) → (c .before .before .before .beyond-plain .result ≤ (c .before .before .before .before .before .before .before .before .before .upto .result) - (c .before .before .before .before .before .before .loop .j)) × ((c .before .before .before .before .before .before .loop .j) + c .before .before .before .beyond-plain .result + c .text-span2 .result ≤ (c .before .before .before .before .before .before .before .before .before .upto .result))
 next-part c =
     let k : c .before .before .before .beyond-plain .result ≤ (c .before .before .before .before .before .before .before .before .before .upto .result) - (c .before .before .before .before .before .before .loop .j) = omega (arith, c .before .before .before .beyond-plain .ensures .0, part-long (c .before .before .before .before .before .before .before .before .before .before .before .before .before .before .args .s .now) (c .before .before .before .before .before .before .loop .j) (c .before .before .before .before .before .before .before .before .before .upto .result) (c .before .before .before .before .before .before .loop .inv .1) (c .before .before .before .before .before .before .loop .inv .2)) in
-    (k, span-part _ _ _ _ _ (omega (arith, k, c .before .before .before .before .before .before .loop .inv .1)) (omega (arith, c .before .before .before .before .before .before .loop .inv .2)) (c .plain-span2 .ensures))
+    (k, span-part _ _ _ _ _ (omega (arith, k, c .before .before .before .before .before .before .loop .inv .1)) (omega (arith, c .before .before .before .before .before .before .loop .inv .2)) (c .text-span2 .ensures))
 
 add-j : tie.Need-add-j Inv-loop μ-loop
 add-j c =
@@ -58,13 +58,13 @@ add-j c =
 
 loop-holds : tie.Need-loop-holds Inv-loop μ-loop
 loop-holds c =
-    let k = c .plain-span .result in
+    let k = c .text-span .result in
     let same : k ≡ c .before .before .before .before .before .before .before .args .i + k - c .before .before .before .before .before .before .before .args .i = omega arith in (
       omega arith,
       first-part c,
       omega arith,
       subst (λ n. Text (c .before .before .before .before .before .style-of .result) in-value (take n (drop (c .before .before .before .before .before .before .before .args .i) (c .before .before .before .before .before .before .before .args .s .now)))) same
-          (span-text (c .before .before .before .before .before .style-of .result) in-value (c .before .before .before .before .value-stops .ensures) (c .before .before .before .before .before .before .before .args .s .now) (c .before .before .before .before .before .before .before .args .i) (c .before .before .upto .result) k (c .plain-span .ensures)),
+          (span-text (c .before .before .before .before .before .style-of .result) in-value (c .before .before .before .before .value-stops .ensures) (c .before .before .before .before .before .before .before .args .s .now) (c .before .before .before .before .before .before .before .args .i) (c .before .before .upto .result) k (c .text-span .ensures)),
     )
 
 sub-beyond-plain : tie.Need-sub-beyond-plain Inv-loop μ-loop
@@ -93,23 +93,23 @@ add-f c =
     let k : c .before .beyond-plain .result ≤ (c .before .before .before .before .before .before .before .upto .result) - (c .before .before .before .before .loop .j) = omega (arith, c .before .beyond-plain .ensures .0, part-long (c .before .before .before .before .before .before .before .before .before .before .before .before .args .s .now) (c .before .before .before .before .loop .j) (c .before .before .before .before .before .before .before .upto .result) (c .before .before .before .before .loop .inv .1) (c .before .before .before .before .loop .inv .2)) in
     omega (arith, k, c .before .before .before .before .loop .inv .1, c .before .before .before .before .loop .inv .2)
 
-sub-plain-span-2 : tie.Need-sub-plain-span-2 Inv-loop μ-loop
-sub-plain-span-2 c =
+sub-text-span-2 : tie.Need-sub-text-span-2 Inv-loop μ-loop
+sub-text-span-2 c =
     let k : c .before .beyond-plain .result ≤ (c .before .before .before .before .before .before .before .upto .result) - (c .before .before .before .before .loop .j) = omega (arith, c .before .beyond-plain .ensures .0, part-long (c .before .before .before .before .before .before .before .before .before .before .before .before .args .s .now) (c .before .before .before .before .loop .j) (c .before .before .before .before .before .before .before .upto .result) (c .before .before .before .before .loop .inv .1) (c .before .before .before .before .loop .inv .2)) in
     omega (arith, k, c .before .before .before .before .loop .inv .1, c .before .before .before .before .loop .inv .2)
 
-part-plain-span-start-2 : tie.Need-part-plain-span-start-2 Inv-loop μ-loop
-part-plain-span-start-2 c =
+part-text-span-start-2 : tie.Need-part-text-span-start-2 Inv-loop μ-loop
+part-text-span-start-2 c =
     let k : c .before .beyond-plain .result ≤ (c .before .before .before .before .before .before .before .upto .result) - (c .before .before .before .before .loop .j) = omega (arith, c .before .beyond-plain .ensures .0, part-long (c .before .before .before .before .before .before .before .before .before .before .before .before .args .s .now) (c .before .before .before .before .loop .j) (c .before .before .before .before .before .before .before .upto .result) (c .before .before .before .before .loop .inv .1) (c .before .before .before .before .loop .inv .2)) in
     omega (arith, k, c .before .before .before .before .loop .inv .1, c .before .before .before .before .loop .inv .2)
 
-part-plain-span-end-2 : tie.Need-part-plain-span-end-2 Inv-loop μ-loop
-part-plain-span-end-2 c =
+part-text-span-end-2 : tie.Need-part-text-span-end-2 Inv-loop μ-loop
+part-text-span-end-2 c =
     let k : c .before .beyond-plain .result ≤ (c .before .before .before .before .before .before .before .upto .result) - (c .before .before .before .before .loop .j) = omega (arith, c .before .beyond-plain .ensures .0, part-long (c .before .before .before .before .before .before .before .before .before .before .before .before .args .s .now) (c .before .before .before .before .loop .j) (c .before .before .before .before .before .before .before .upto .result) (c .before .before .before .before .loop .inv .1) (c .before .before .before .before .loop .inv .2)) in
     omega (arith, k, c .before .before .before .before .loop .inv .1, c .before .before .before .before .loop .inv .2)
 
-plain-span-requires-2 : tie.Need-plain-span-requires-2 Inv-loop μ-loop
-plain-span-requires-2 c κs = search needs
+text-span-requires-2 : tie.Need-text-span-requires-2 Inv-loop μ-loop
+text-span-requires-2 c κs = calm-plain (c .before .before .before .before .before .before .before .before .before .before .before .style-of .result) in-value (c .before .before .before .before .before .before .before .before .before .before .value-stops .ensures)
 
 add-j-2 : tie.Need-add-j-2 Inv-loop μ-loop
 add-j-2 c =
@@ -125,8 +125,8 @@ loop-again c =
       omega (arith, l .0),
       next-part c .1,
       l .2,
-      text-on (c .before .before .before .before .before .before .before .before .before .before .before .before .style-of .result) in-value (c .before .before .before .before .before .before .before .before .before .before .before .value-stops .ensures) (c .before .before .before .before .before .before .before .before .before .before .before .before .before .before .args .s .now) (c .before .before .before .before .before .before .before .before .before .before .before .before .before .before .args .i) (c .before .before .before .before .before .before .loop .j) (c .before .before .before .before .before .before .before .before .before .upto .result) (c .before .before .before .beyond-plain .result) (c .plain-span2 .result)
-          (l .0) (next-part c .0) (l .3) (c .before .before .before .beyond-plain .ensures .1) (c .plain-span2 .ensures),
+      text-on (c .before .before .before .before .before .before .before .before .before .before .before .before .style-of .result) in-value (c .before .before .before .before .before .before .before .before .before .before .before .value-stops .ensures) (c .before .before .before .before .before .before .before .before .before .before .before .before .before .before .args .s .now) (c .before .before .before .before .before .before .before .before .before .before .before .before .before .before .args .i) (c .before .before .before .before .before .before .loop .j) (c .before .before .before .before .before .before .before .before .before .upto .result) (c .before .before .before .beyond-plain .result) (c .text-span2 .result)
+          (l .0) (next-part c .0) (l .3) (c .before .before .before .beyond-plain .ensures .1) (c .text-span2 .ensures),
     )
 
 sub-result-2 : tie.Need-sub-result-2 Inv-loop μ-loop
@@ -148,10 +148,10 @@ value-span-spec =
     value-stops-requires
     sub-upto
     upto-requires
-    sub-plain-span
-    part-plain-span-start
-    part-plain-span-end
-    plain-span-requires
+    sub-text-span
+    part-text-span-start
+    part-text-span-end
+    text-span-requires
     add-j
     loop-holds
     sub-beyond-plain
@@ -161,10 +161,10 @@ value-span-spec =
     sub-result
     returns
     add-f
-    sub-plain-span-2
-    part-plain-span-start-2
-    part-plain-span-end-2
-    plain-span-requires-2
+    sub-text-span-2
+    part-text-span-start-2
+    part-text-span-end-2
+    text-span-requires-2
     add-j-2
     loop-less
     loop-again
