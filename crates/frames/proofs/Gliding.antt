@@ -202,7 +202,7 @@ module _ (st : Scan) (v : Valid st) where
       ahead-by (λ x. true) (st .size) st (glides-counted ph) l i e (e - i) ie el fits
       (sym (span-any (take (e - i) (drop i l)) ∙ part-long l i e ie el))
 
--- ---- Text of a value at a go: each octet leads on, inside its characters too
+-- ---- Text of a value at once: each octet leads on, inside its characters too
 
 -- the state k octets on, in a character that is read as far as p
 abbrev value-at : Scan → ℕ → Part → Scan

@@ -34,7 +34,7 @@ raw-start s f = raw-fresh none
 pub raw-text : {s : Style} {f : Field} {raw : List ℕ} → Raw s f raw fresh → Text s f raw
 raw-text r = rw (r .whole, r .part, append-nil) (r .text)
 
--- an octet that may stand behind the first
+-- an octet that may follow the first
 abbrev fill : ℕ → ℕ
 fill x = cond (eqb x 224) 160 (cond (eqb x 240) 144 128)
 
@@ -137,7 +137,7 @@ owes-left n = cond-case (λ p. owes p ≡ n) (eqb n 0) (λ t. sym (eqb-true n 0 
 left-some : (n : ℕ) → 0 < n → left n ≡ tails n
 left-some n h = rw (ne-eqb n 0 (omega arith))
 
--- the octets behind the second, with n still to come after them
+-- the octets after the second, with n still to come after them
 tails-feeds : (s : Style) (f : Field) (t : List ℕ) (n : ℕ) → every tail t ≡ true → Feeds s f (left (length t + n)) t (left n)
 tails-feeds s f [] n h = rw zero-add
 tails-feeds s f (x ∷ t) n h =

@@ -41,7 +41,7 @@ pub enum LineWritten {
     TooShort,
 }
 
-// What short text comes to: whether each octet of it can be written; if so, how long it is encoded, and whether every octet is below 128.
+// What is known of short text: whether each octet of it can be written; if so, how long it is encoded, and whether every octet is below 128.
 pub(crate) struct Measured {
     pub length: usize,
     pub writable: bool,

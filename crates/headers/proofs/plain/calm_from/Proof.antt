@@ -1,11 +1,10 @@
 -- `plain::calm_from` meets its contract: the place is within the span of calm octets.
-use Prim.Native.Nat.{ℕ, _≤_, _<_, _-_, _+_, _*_}
+use Prim.Native.Nat.{ℕ, _-_, _+_}
 use native.Mathlib.Omega.{arith}
-use lib.ListN.{length}
 use mathlib.Core.Path.{_≡_}
 use mathlib.Core.Bool.{Bool}
 use borrow.Author.Needs.{needs}
-use mathlib.Core.Path.{ap, _∙_, sym}
+use mathlib.Core.Path.{ap, _∙_}
 use lib.ListN.{drop}
 use Rattle.headers.specs.Stretches.{span, calm}
 use Rattle.headers.proofs.Stretches.{span-part, block-stop, block-more}

@@ -1,8 +1,5 @@
 -- `plain::plain_span` meets its contract.
-use Prim.Native.Nat.{ℕ, _≤_, _<_, _-_, _+_, _*_}
-use native.Mathlib.Omega.{arith}
-use lib.ListN.{length}
-use mathlib.Core.Path.{_≡_}
+use Prim.Native.Nat.{_-_}
 use borrow.Author.Needs.{needs}
 use Rattle.headers.proofs.plain.plain_span.Statement.{statement}
 use Rattle.headers.proofs.plain.plain_span.Tie as tie
