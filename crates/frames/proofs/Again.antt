@@ -17,13 +17,13 @@ use native.Mathlib.Omega.{arith}
 use lib.ListN.{length, take, drop, getD}
 use lib.Seq.{take-append-seam}
 use lib.Dec.{ltb}
-use Rattle.headers.specs.Rows.{every, any, is-octet}
+use Rattle.headers.specs.Rows.{every, is-octet}
 use Rattle.headers.specs.Block.{Entry, image}
 use Rattle.headers.specs.Answers.{Answer, accepted, refused, left-in}
 use Rattle.frames.specs.Grammar.{Version, number, word, style, lines-max, Head, head, end}
 use Rattle.frames.specs.Replies.{Complete}
 use Rattle.frames.specs.Parsing.{parsed}
-use Rattle.frames.specs.Decoding.{decode-answer, too-long, head-entries, Decodes}
+use Rattle.frames.specs.Decoding.{decode-answer, head-entries, Decodes}
 use Rattle.frames.specs.Encoding.{Call, adds-length, written-entries, written-lines, encode-answer, encode-image}
 use Rattle.frames.proofs.Exact.{exact}
 use Rattle.frames.proofs.Readings.{OneFrame, one-frame}
@@ -35,12 +35,11 @@ use Rattle.frames.proofs.Unique.{body-back}
 -- the length that decoding answers is that of the records
 decode-length : (room m : ℕ) (es : List Entry) → decode-answer room (some es) ≡ accepted (m ∷ []) → m ≡ length (image es)
 unfolding decode-answer
-decode-length room m es e = by (ltb room (length (image es))) (any too-long es) e
+decode-length room m es e = by (ltb room (length (image es))) e
   where
-    by : (t u : Bool) → cond t (refused 21) (cond u (refused 23) (accepted (length (image es) ∷ []))) ≡ accepted (m ∷ []) → m ≡ length (image es)
-    by true u e = let z : _≡_ {A = ℕ} 0 1 = cc in absurd (omega arith)
-    by false true e = let z : _≡_ {A = ℕ} 0 1 = cc in absurd (omega arith)
-    by false false e = cc
+    by : (t : Bool) → cond t (refused 21) (accepted (length (image es) ∷ [])) ≡ accepted (m ∷ []) → m ≡ length (image es)
+    by true e = let z : _≡_ {A = ℕ} 0 1 = cc in absurd (omega arith)
+    by false e = cc
 
 module _ (ver : Version) {xs before after : List ℕ} {c n s l m : ℕ} (o : every is-octet xs ≡ true) (p : parsed ver xs ≡ Complete 2 (length xs) c n s l) (d : Decodes ver xs before (accepted (m ∷ [])) after) where
   -- the call with what parse and decode gave, counted or not

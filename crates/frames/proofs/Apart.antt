@@ -43,10 +43,10 @@ fed-once = once fed-says fed fed-back
 abbrev decoded : Answer → Decoded
 decoded (accepted []) = Decoded.NotFrame
 decoded (accepted (n ∷ more)) = Decoded.Length n
-decoded (refused k) = cond (eqb k 20) Decoded.NotFrame (cond (eqb k 21) Decoded.TooShort Decoded.TooLong)
+decoded (refused k) = cond (eqb k 20) Decoded.NotFrame Decoded.TooShort
 
 pub decoded-once : (r s : Decoded) → decoded-says r ≡ decoded-says s → r ≡ s
-decoded-once = once decoded-says decoded (elim [ Decoded.Length n ↦ refl | Decoded.NotFrame ↦ refl | Decoded.TooShort ↦ refl | Decoded.TooLong ↦ refl ])
+decoded-once = once decoded-says decoded (elim [ Decoded.Length n ↦ refl | Decoded.NotFrame ↦ refl | Decoded.TooShort ↦ refl ])
 
 abbrev encoded : Encoding → Encoded
 encoded (image-length n) = Encoded.Length n

@@ -19,16 +19,16 @@ use lib.Seq.{take-take, drop-drop, getD-drop, getD-take, length-take-le}
 use lib.Dec.{eqb, leb, ltb}
 use borrow.Author.Tests.{not-true, not-false, eqb-true, leb-true, leb-false, ltb-true, ltb-false, lt-ltb, le-ltb, eq-eqb, ne-eqb}
 use borrow.Rule.Slice.PartMut.{midOf, putMid}
-use Rattle.headers.specs.Rows.{any, every}
+use Rattle.headers.specs.Rows.{every, All}
 use Rattle.headers.specs.Escapes.{decode}
-use Rattle.headers.specs.Block.{Entry, image}
+use Rattle.headers.specs.Block.{Entry, image, Short}
 use Rattle.headers.specs.Lines.{decoded-entry}
 use Rattle.headers.specs.Answers.{Answer, accepted, refused, left-in, written-record, decoded-answer, record-says}
 use Rattle.headers.specs.declared.record.RecordWritten.{RecordWritten}
 use Rattle.headers.specs.declared.text.Style.{Style}
 use Rattle.headers.proofs.Rows.{and-left, and-right, and-no, and-yes, or-false-left, or-false-right}
 use Rattle.headers.proofs.Put.{put-length, put-more, put-kept}
-use Rattle.headers.proofs.Settling.{refusal, acceptance, decoded-yes}
+use Rattle.headers.proofs.Settling.{refusal, acceptance, short-is, decoded-yes}
 use Rattle.headers.proofs.Answers.{record-once}
 use Rattle.headers.proofs.Coding.{decode-short}
 use Rattle.headers.proofs.Blocks.{length-image}
@@ -37,12 +37,12 @@ use Rattle.frames.specs.declared.parse.Item.{Item}
 use Rattle.frames.specs.declared.parse.Parsed.{Parsed}
 use Rattle.frames.specs.Grammar.{Version, v1-2, frame}
 use Rattle.frames.specs.Layout.{stop-span, end-width, behind-end, front-name, behind-colon, front-value, at-end, behind-line, front-lines, behind-word}
-use Rattle.frames.specs.Decoding.{line-entries, too-long, decode-answer, head-entries, Decodes}
+use Rattle.frames.specs.Decoding.{line-entries, decode-answer, head-entries, Decodes}
 use Rattle.frames.specs.Answers.{parsed-says}
 use Rattle.headers.specs.Stretches.{span, plain-in, not-back, Stretch}
 use Rattle.frames.specs.Scanning.{style-of}
 use Rattle.headers.proofs.Stretches.{span-le, span-rest, span-inside, span-clear, span-ends, span-stop, span-end}
-use Rattle.frames.proofs.Heads.{frame-lines, block-long, none-too-long}
+use Rattle.frames.proofs.Heads.{frame-lines, head-short, block-long}
 use Rattle.frames.proofs.Readings.{Other, OneFrame, NoFrame}
 
 -- ---- Places
@@ -204,7 +204,6 @@ module _ (style : Style) (xs : List ℕ) (n : ℕ) where
   -- the line at a place, of which name and value have a and b octets decoded, and the lines behind it
   pub record Adds (i at next a b : ℕ) : Type 0 where
     pub octets : length (image (entries-left i at)) ≡ 6 + a + b + length (image (entries-left (i + 1) next))
-    pub over : any too-long (entries-left i at) ≡ ltb 512 (a + 1 + b) || any too-long (entries-left (i + 1) next)
     pub few : at + a + b ≤ next
 
   -- its record, of k octets, is written behind the first used of d, which makes e of it
@@ -218,7 +217,7 @@ module _ (style : Style) (xs : List ℕ) (n : ℕ) where
   pub record Asked (i at next : ℕ) (d after : List ℕ) (used : ℕ) (r : RecordWritten) : Type 0 where
     pub accepts : (k : ℕ) × (r ≡ RecordWritten.Length k)
     pub writes : (k : ℕ) → r ≡ RecordWritten.Length k → Written i at next d (putMid used (length d - used) d after) used k
-    pub rest-ok : any too-long (entries-left (i + 1) next) ≡ false
+    pub rest-short : All Short (entries-left (i + 1) next)
 
   module _ (i at : ℕ) (l : LineAt) (more : i < n) (p : Parted xs at l) where
     -- name and value of the next line, raw, and its record
@@ -242,28 +241,25 @@ module _ (style : Style) (xs : List ℕ) (n : ℕ) where
     adds a b name-long value-long =
         record {
           octets = omega (arith, ap (λ es. length (image es)) left-next, length-image (decoded-entry style raw-name raw-value) (entries-left (i + 1) (l .next)));
-          over =
-              ap (any too-long) left-next
-              ∙ ap₂ (λ x y. ltb 512 (x + 1 + y) || any too-long (entries-left (i + 1) (l .next))) (sym name-long) (sym value-long);
           few =
               omega (arith, decode-short style raw-name, decode-short style raw-value, length-take (l .colon - at) (drop at xs), length-take (l .end - l .value) (drop (l .value) xs), p .0);
         }
 
-    -- where no line that is left is too long, and the part of d that is left has room for all their records
-    module _ (d after : List ℕ) (used : ℕ) (r : RecordWritten) (ok : any too-long (entries-left i at) ≡ false) (fits : used + length (image (entries-left i at)) ≤ length d)
+    -- where every line that is left has a record, and the part of d that is left has room for all their records
+    module _ (d after : List ℕ) (used : ℕ) (r : RecordWritten) (ok : All Short (entries-left i at)) (fits : used + length (image (entries-left i at)) ≤ length d)
         (says : record-says r ≡ decoded-answer style (length (midOf used (length d - used) d)) raw-name raw-value)
         (leaves : after ≡ left-in (decoded-answer style (length (midOf used (length d - used) d)) raw-name raw-value) next-record (midOf used (length d - used) d)) where
       sum : Adds i at (l .next) (length (decode style raw-name)) (length (decode style raw-value))
       sum = adds _ _ refl refl
 
-      apart : ltb 512 (length (decode style raw-name) + 1 + length (decode style raw-value)) || any too-long (entries-left (i + 1) (l .next)) ≡ false
-      apart = sym (sum .over) ∙ ok
+      apart : Short (decoded-entry style raw-name raw-value) × All Short (entries-left (i + 1) (l .next))
+      apart = subst (All Short) left-next ok
 
       accepted-so : decoded-answer style (length (midOf used (length d - used) d)) raw-name raw-value ≡ accepted (length next-record ∷ [])
       accepted-so =
           decoded-yes style (length (midOf used (length d - used) d)) raw-name raw-value
           (omega (arith, sum .octets, length-take (length d - used) (drop used d), length-drop used d))
-          (omega (arith, ltb-false 512 (length (decode style raw-name) + 1 + length (decode style raw-value)) (or-false-left _ _ apart)))
+          (short-is (decoded-entry style raw-name raw-value) (apart .0))
 
       its-length : r ≡ RecordWritten.Length (length next-record)
       its-length = record-once r (RecordWritten.Length (length next-record)) (says ∙ accepted-so)
@@ -296,7 +292,7 @@ module _ (style : Style) (xs : List ℕ) (n : ℕ) where
             }
 
       pub asked : Asked i at (l .next) d after used r
-      asked = record { accepts = (length next-record, its-length); writes = written; rest-ok = or-false-right (ltb 512 (length (decode style raw-name) + 1 + length (decode style raw-value))) _ apart }
+      asked = record { accepts = (length next-record, its-length); writes = written; rest-short = apart .1 }
 
 -- ---- What decode replies
 
@@ -316,13 +312,9 @@ module _ (room : ℕ) where
     unfolding decode-answer
     answer-short h = rw (lt-ltb room (length (image es)) h)
 
-    answer-over : length (image es) ≤ room → any too-long es ≡ true → decode-answer room (some es) ≡ refused 23
+    answer-yes : length (image es) ≤ room → decode-answer room (some es) ≡ accepted (length (image es) ∷ [])
     unfolding decode-answer
-    answer-over h t = rw (le-ltb room (length (image es)) h, t)
-
-    answer-yes : length (image es) ≤ room → any too-long es ≡ false → decode-answer room (some es) ≡ accepted (length (image es) ∷ [])
-    unfolding decode-answer
-    answer-yes h t = rw (le-ltb room (length (image es)) h, t)
+    answer-yes h = rw (le-ltb room (length (image es)) h)
 
 pub decodes-none : (ver : Version) {xs : List ℕ} (before : List ℕ) → NoFrame ver xs → Decodes ver xs before (refused 20) before
 decodes-none ver before f =
@@ -330,12 +322,10 @@ decodes-none ver before f =
     record { tree = f .tree; reading = f .reading; answered = answered; written = written }
 
 -- the replies to a frame whose entries are es, which were measured
-pub record Settled (xs before : List ℕ) (es : List Entry) (total : ℕ) (long : Bool) : Type 0 where
+pub record Settled (xs before : List ℕ) (es : List Entry) (total : ℕ) : Type 0 where
   pub room : total ≤ length before → length (image es) ≤ length before
-  pub ok : long ≡ false → any too-long es ≡ false
   pub short : length before < total → Decodes v1-2 xs before (refused 21) before
-  pub over : total ≤ length before → long ≡ true → Decodes v1-2 xs before (refused 23) before
-  pub whole : total ≤ length before → long ≡ false → (after : List ℕ) → after ≡ image es ++ drop (length (image es)) before → Decodes v1-2 xs before (accepted (total ∷ [])) after
+  pub whole : total ≤ length before → (after : List ℕ) → after ≡ image es ++ drop (length (image es)) before → Decodes v1-2 xs before (accepted (total ∷ [])) after
 
 module _ {xs : List ℕ} {c n s l : ℕ} (f : OneFrame v1-2 xs c n s l) where
   pub few-lines : n ≤ 32
@@ -352,6 +342,10 @@ module _ {xs : List ℕ} {c n s l : ℕ} (f : OneFrame v1-2 xs c n s l) where
         ∙ ap (line-entries style) (frame-lines (f .h) (f .e) (f .b) v1-2 (f .valid))
         ∙ ap (λ z. line-entries z (f .h .entries)) (style-is ∙ ap style-of (f .command-is))
 
+    -- no line of a frame is longer decoded than raw, so each has a record
+    pub each-short : All Short es
+    each-short = subst (All Short) (sym entries-are) (head-short v1-2 (f .h) (f .valid .0 .0))
+
     module _ (before : List ℕ) where
       decodes : (A : Answer) (after : List ℕ) → (A ≡ decode-answer (length before) (some es)) × (after ≡ left-in (decode-answer (length before) (some es)) (image es) before)
           → Decodes v1-2 xs before A after
@@ -359,19 +353,14 @@ module _ {xs : List ℕ} {c n s l : ℕ} (f : OneFrame v1-2 xs c n s l) where
           let (answered, written) = rw entries-are at h in
           record { tree = some (frame (f .h) (f .e) (f .b)); reading = (f .valid, f .whole); answered = answered; written = written }
 
-      -- a block of 16,544 octets has room for any, and no line is too long
-      pub ample : 16544 ≤ length before → (length (image es) ≤ length before) × (any too-long es ≡ false)
-      ample h =
-          let ok = f .valid .0 .0 in
-          (omega (arith, ap (λ z. length (image z)) entries-are, block-long v1-2 (f .h) ok), ap (any too-long) entries-are ∙ none-too-long v1-2 (f .h) ok)
+      -- a block of 16,544 octets has room for any
+      pub ample : 16544 ≤ length before → length (image es) ≤ length before
+      ample h = omega (arith, ap (λ z. length (image z)) entries-are, block-long v1-2 (f .h) (f .valid .0 .0))
 
-      pub settled : (total : ℕ) (long : Bool) → total ≡ length (image es) → long ≡ any too-long es → Settled xs before es total long
-      settled total long total-is long-is =
+      pub settled : (total : ℕ) → total ≡ length (image es) → Settled xs before es total
+      settled total total-is =
           record {
             room = λ h. omega arith;
-            ok = λ t. sym long-is ∙ t;
             short = λ h. decodes _ before (refusal _ 21 _ before (answer-short (length before) es (omega arith)));
-            over = λ h t. decodes _ before (refusal _ 23 _ before (answer-over (length before) es (omega arith) (sym long-is ∙ t)));
-            whole = λ h t after w.
-                rw total-is (decodes _ after (acceptance _ _ _ before after (answer-yes (length before) es (omega arith) (sym long-is ∙ t)) w));
+            whole = λ h after w. rw total-is (decodes _ after (acceptance _ _ _ before after (answer-yes (length before) es (omega arith)) w));
           }

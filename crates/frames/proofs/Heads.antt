@@ -1,6 +1,7 @@
 -- The parts of a head, read off its octets, are those of the parse tree. Assumes nothing.
 --     front-lines-of, behind-word-of, frame-lines    the lines that are read off a frame
---     head-short, block-long, none-too-long          its entries, decoded, have records, and how long these are
+--     decoded-no-longer                              its lines, decoded, are no longer than raw
+--     head-short, block-long                         its entries, decoded, have records, and how long these are
 --     decoded-finds                                  looking a name up among the records
 use mathlib.Core.Path.{_≡_, refl, sym, _∙_, ap, ap₂}
 use mathlib.Core.Bool.{Bool, true, false, _&&_, _||_, not}
@@ -11,8 +12,8 @@ use lib.ListN.{length, getD, length-map, take, drop}
 use lib.Seq.{take-append-seam, drop-append-seam, drop-append-add}
 use Rattle.headers.proofs.Reading.{missing-high, missing-top, second-high, second-top, tail-high, tail-top}
 use lib.Dec.{eqb}
-use borrow.Author.Tests.{ltb-true, ltb-false, le-leb, ne-eqb, le-ltb, not-true}
-use Rattle.headers.specs.Rows.{every, any, All}
+use borrow.Author.Tests.{ltb-true, ltb-false, le-leb, ne-eqb, not-true}
+use Rattle.headers.specs.Rows.{every, All}
 use Rattle.headers.specs.Text.{divides, stops, opens, escape-table, missing, tail, second, ascii, Character, itself, escape, wide, Text, none, more}
 use Rattle.headers.specs.Block.{Entry, image, Short}
 use Rattle.headers.specs.Lines.{line-max, line-length}
@@ -27,7 +28,7 @@ use Rattle.headers.proofs.Finding.{Finds, find-finds}
 use Rattle.frames.specs.Grammar.{Version, Command, word, style, end, Line, line, lines, LineOk, Head, HeadOk, frame, octets, Valid}
 use Rattle.headers.specs.Stretches.{span, plain-in}
 use Rattle.frames.specs.Layout.{stop-span, behind-end, front-name, behind-colon, front-value, at-end, behind-line, front-line, front-lines, behind-word}
-use Rattle.frames.specs.Decoding.{line-entry, line-entries, too-long, head-entries}
+use Rattle.frames.specs.Decoding.{line-entry, line-entries, NoLonger, head-entries}
 use Rattle.frames.proofs.Commands.{each-test}
 
 -- ---- How far a test holds from the front
@@ -158,9 +159,15 @@ abbrev Fits : Entry → Type 0
 Fits e = line-length e ≤ line-max
 
 -- a decoded line is no longer than its raw one
-lines-fit : (s : Style) (ls : List Line) → All (LineOk s) ls → All Fits (line-entries s ls)
+lines-no-longer : (s : Style) (ls : List Line) → All (LineOk s) ls → All (NoLonger s) ls
+lines-no-longer s [] h = tt
+lines-no-longer s (l ∷ ls) (ok, oks) =
+    let short : line-length (line-entry s l) ≤ length (l .name) + 1 + length (l .value) = omega (arith, decode-short s (l .name), decode-short s (l .value)) in
+    ((short, omega (arith, short, ok .fits)), lines-no-longer s ls oks)
+
+lines-fit : (s : Style) (ls : List Line) → All (NoLonger s) ls → All Fits (line-entries s ls)
 lines-fit s [] h = tt
-lines-fit s (l ∷ ls) (ok, oks) = (omega (arith, decode-short s (l .name), decode-short s (l .value), ok .fits), lines-fit s ls oks)
+lines-fit s (l ∷ ls) (no-longer, rest) = (no-longer .1, lines-fit s ls rest)
 
 fit-short : (es : List Entry) → All Fits es → All Short es
 fit-short [] h = tt
@@ -171,13 +178,17 @@ fit-image : (es : List Entry) → All Fits es → length (image es) ≤ 517 * le
 fit-image [] h = omega arith
 fit-image (e ∷ es) (fit, fits) = omega (arith, length-image e es, fit-image es fits)
 
-fit-none : (es : List Entry) → All Fits es → any too-long es ≡ false
-fit-none [] h = refl
-fit-none (e ∷ es) (fit, fits) = rw (le-ltb line-max (line-length e) fit) (fit-none es fits)
+-- C-22: of every line of a valid parse tree, whatever the version, the decoded name, colon and value have at most as many octets as the
+-- raw ones, so at most 512. A heart-beat has no line.
+head-no-longer : (ver : Version) (h : Head) → HeadOk ver h → All (NoLonger (style ver (h .command))) (h .entries)
+head-no-longer ver h ok = lines-no-longer (style ver (h .command)) (h .entries) (ok .each)
+
+pub decoded-no-longer : (ver : Version) (h : Head) (e : Bool) (b : List ℕ) → Valid ver (frame h e b) → All (NoLonger (style ver (h .command))) (h .entries)
+decoded-no-longer ver h e b v = head-no-longer ver h (v .0 .0)
 
 module _ (ver : Version) (h : Head) (ok : HeadOk ver h) where
   head-fits : All Fits (head-entries ver h)
-  head-fits = lines-fit _ (h .entries) (ok .each)
+  head-fits = lines-fit (style ver (h .command)) (h .entries) (head-no-longer ver h ok)
 
   pub head-short : All Short (head-entries ver h)
   head-short = fit-short (head-entries ver h) head-fits
@@ -185,10 +196,6 @@ module _ (ver : Version) (h : Head) (ok : HeadOk ver h) where
   -- the longest block has 16,544 octets
   pub block-long : length (image (head-entries ver h)) ≤ 16544
   block-long = omega (arith, fit-image (head-entries ver h) head-fits, length-map (h .entries) (line-entry (style ver (h .command))), ok .few)
-
-  -- so no frame gets 23
-  pub none-too-long : any too-long (head-entries ver h) ≡ false
-  none-too-long = fit-none (head-entries ver h) head-fits
 
   -- looking a name up gives the first entry of that name of the tree, decoded, or says none
   pub decoded-finds : (name : List ℕ) → Finds (image (head-entries ver h)) name (head-entries ver h) (find-answer (image (head-entries ver h)) name)

@@ -1,30 +1,25 @@
 // Decoding: the entries of a frame, as a header block.
 ghost use mathlib.Core.Path.{_≡_};
-ghost use mathlib.Core.Bool.{false};
-ghost use Prim.Native.Nat.{_+_, _≤_};
-ghost use lib.Dec.{ltb};
+ghost use Prim.Native.Nat.{_≤_};
 ghost use lib.ListN.{length, drop};
-ghost use Rattle.headers.specs.Rows.{any};
+ghost use Rattle.headers.specs.Rows.{All};
 ghost use Rattle.headers.specs.Stretches.{Stretch};
-ghost use Rattle.headers.specs.Block.{image};
-ghost use Rattle.headers.specs.Lines.{line-max};
+ghost use Rattle.headers.specs.Block.{image, Short};
 ghost use Rattle.headers.specs.Answers.{left-in, Puts, written-record, decoded-answer, record-says};
 ghost use Rattle.frames.specs.Grammar.{v1-2};
 ghost use Rattle.frames.specs.Layout.{front-lines};
-ghost use Rattle.frames.specs.Decoding.{line-entries, too-long, Decodes};
+ghost use Rattle.frames.specs.Decoding.{line-entries, Decodes};
 ghost use Rattle.frames.specs.Answers.{decoded-says};
 use crate::parse::Parsed;
 use headers::Known;
 use headers::RecordWritten;
 use headers::Style;
 
-// What decoding gives: the length used; or that it is not exactly one frame (20), that the block is too short (21), or that a
-// decoded line would be longer than 512 (23).
+// What decoding gives: the length used; or that it is not exactly one frame (20), or that the block is too short (21).
 pub enum Decoded {
     Length(usize),
     NotFrame,
     TooShort,
-    TooLong,
 }
 
 // The numbers of its refusals.
@@ -32,36 +27,14 @@ impl Decoded {
     pub const NOT_FRAME: u64 = 20;
 
     pub const TOO_SHORT: u64 = 21;
-
-    pub const TOO_LONG: u64 = 23;
 }
 
-// What the records of header lines come to: their octets, and whether a decoded line is too long.
-pub(crate) struct Measured {
-    pub total: usize,
-    pub long: bool,
-}
-
-// Whether a line with a name and a value of so many octets is longer than 512.
-fn is_long(name: usize, value: usize) -> bool
-    ensures { λ r. ⌜ r ≡ ltb line-max (name + 1 + value) ⌝ }
-{
-    if crate::limits::NAME < name {
-        return true;
-    }
-    crate::limits::NAME - name < value
-}
-
-// The records of the n header lines from a place of s on.
-fn measure(s: &[u8], from: usize, n: usize, style: Style) -> Measured
+// How many octets the records of the n header lines from a place of s on have.
+fn measure(s: &[u8], from: usize, n: usize, style: Style) -> usize
     requires { ⌜ (from ≤ length (now s)) × (n ≤ 32) ⌝ }
-    ensures { λ r. ⌜
-        (r .total ≡ length (image (line-entries style (front-lines n (drop from (now (s .entry)))))))
-        × (r .long ≡ any too-long (line-entries style (front-lines n (drop from (now (s .entry))))))
-        ⌝ }
+    ensures { λ r. ⌜ r ≡ length (image (line-entries style (front-lines n (drop from (now (s .entry)))))) ⌝ }
 {
     let mut total = 0usize;
-    let mut long = false;
     let mut at = from;
     let mut i = 0usize;
     while i < n {
@@ -72,11 +45,10 @@ fn measure(s: &[u8], from: usize, n: usize, style: Style) -> Measured
         let a = headers::decoded_length(&s[at..colon], style);
         let b = headers::decoded_length(&s[value..end], style);
         total = total + 6 + a + b;
-        long = long | is_long(a, b);
         at = l.next;
         i += 1;
     }
-    Measured { total, long }
+    total
 }
 
 // The record of a line at the front of d, as write_decoded puts it: the stretch without a backslash at the front of each text is known.
@@ -102,7 +74,7 @@ fn put_records(s: &[u8], from: usize, n: usize, style: Style, block: &mut [u8]) 
     requires { ⌜
         (from ≤ length (now s))
         × (length (image (line-entries style (front-lines n (drop from (now s))))) ≤ length (now block))
-        × (any too-long (line-entries style (front-lines n (drop from (now s)))) ≡ false)
+        × All Short (line-entries style (front-lines n (drop from (now s))))
         ⌝ }
     ensures { λ r. ⌜
         Puts (image (line-entries style (front-lines n (drop from (now (s .entry)))))) r (now (block .entry)) (now (block .exit))
@@ -151,12 +123,8 @@ pub fn decode(frame: &[u8], block: &mut [u8]) -> Decoded
     if crate::limits::BLOCK <= block.len() {
         return Decoded::Length(put_records(frame, from, item.headers, style, block));
     }
-    let m = measure(frame, from, item.headers, style);
-    if block.len() < m.total {
+    if block.len() < measure(frame, from, item.headers, style) {
         return Decoded::TooShort;
-    }
-    if m.long {
-        return Decoded::TooLong;
     }
     Decoded::Length(put_records(frame, from, item.headers, style, block))
 }

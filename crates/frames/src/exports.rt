@@ -87,7 +87,6 @@ pub extern "C" fn stomp_decode(frame: &[u8], block: &mut [u8]) -> u64
         Decoded::Length(n) => n as u64,
         Decoded::NotFrame => REFUSED * Decoded::NOT_FRAME,
         Decoded::TooShort => REFUSED * Decoded::TOO_SHORT,
-        Decoded::TooLong => REFUSED * Decoded::TOO_LONG,
     }
 }
 

@@ -72,7 +72,7 @@ fn raw_again(text: &[u8], value: &[u8]) {
     say(b" ");
     yes_or_no(headers::is_raw(text, Style { escapes: true }, Field::Value));
     let mut block = [0u8; 600];
-    headers::write_record(&mut block, b"x", text, Style { escapes: true });
+    headers::write_decoded(&mut block, b"x", text, Style { escapes: true });
     compare(&block, value);
 }
 

@@ -10,13 +10,14 @@ use crate::show::yes_or_no;
 use headers::DecimalRead;
 use headers::DecimalWritten;
 use headers::EntryAt;
+use headers::Field;
 use headers::Found;
 use headers::LineLength;
 use headers::LineWritten;
 use headers::RecordWritten;
 use headers::Style;
 
-// Writes a record into room octets of sevens, and shows the answer, the octets written and the next one behind them.
+// Writes a record of raw text into room octets of sevens, and shows the answer, the octets written and the next one behind them.
 pub(crate) fn record(label: &[u8], name: &[u8], value: &[u8], escapes: bool, room: usize) {
     say(label);
     let mut d = [7u8; 600];
@@ -26,12 +27,30 @@ pub(crate) fn record(label: &[u8], name: &[u8], value: &[u8], escapes: bool, roo
 }
 
 fn record_in(d: &mut [u8], name: &[u8], value: &[u8], escapes: bool) {
-    match headers::write_record(d, name, value, Style { escapes }) {
-        RecordWritten::Length(n) => written(d, n),
-        RecordWritten::NotText => refused(d, 20),
-        RecordWritten::TooShort => refused(d, 21),
-        RecordWritten::TooLong => refused(d, 23),
+    let style = Style { escapes };
+    if !headers::is_raw(name, style, Field::Name) {
+        say(b"not raw text\n");
+        return;
     }
+    if !headers::is_raw(value, style, Field::Value) {
+        say(b"not raw text\n");
+        return;
+    }
+    match headers::write_decoded(d, name, value, style) {
+        RecordWritten::Length(n) => written(d, n),
+        RecordWritten::TooShort => refused(d, 21),
+    }
+}
+
+// Writes a record where there is room for any, and shows the answer and the first octets of the buffer.
+pub(crate) fn long_record(label: &[u8], name: &[u8], value: &[u8]) {
+    say(label);
+    let mut d = [7u8; 65600];
+    match headers::write_decoded(&mut d, name, value, Style { escapes: true }) {
+        RecordWritten::Length(n) => number(n as u64),
+        RecordWritten::TooShort => number(21),
+    }
+    front(&d, 8);
 }
 
 // Writes a line into room octets of sevens, and shows the same.

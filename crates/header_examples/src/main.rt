@@ -12,6 +12,7 @@ use crate::calls::find;
 use crate::calls::length;
 use crate::calls::length_of;
 use crate::calls::line;
+use crate::calls::long_record;
 use crate::calls::record;
 use crate::calls::shortest;
 use crate::calls::valid;
@@ -25,6 +26,7 @@ fn main() {
     not_raw();
     rooms();
     long_lines();
+    long_texts();
     one_text();
     line_rooms();
     empty_names();
@@ -65,7 +67,7 @@ fn one_pass() {
     record(b"\\\\c, no escapes: ", x, value, false, 600);
 }
 
-// Text that is not raw text, and that this is told before too little room.
+// Text that is not raw text.
 fn not_raw() {
     let id: &[u8] = b"id";
     let cut: &[u8] = b"a\\";
@@ -131,6 +133,18 @@ fn long_lines() {
     length(b"written, 513: ", over, true);
     length(b"colons, 512: ", &[58u8; 255], true);
     length(b"colons, 514: ", &[58u8; 256], true);
+}
+
+// Texts whose length two octets can say, and those of one octet more; what counts is the length of the decoded text.
+fn long_texts() {
+    let x: &[u8] = b"x";
+    let over: &[u8] = &[97u8; 65536];
+    let fits = &over[0..65535];
+    long_record(b"value of 65535: ", x, fits);
+    long_record(b"value of 65536: ", x, over);
+    long_record(b"name of 65535: ", fits, x);
+    long_record(b"name of 65536: ", over, x);
+    long_record(b"value of 32768 escapes: ", x, &[92u8; 65536]);
 }
 
 // Names and values in one text: lines of 512 and of 513, no name, and a name as long as the text or longer.

@@ -1,30 +1,33 @@
 -- Answers settled by checks in order: laws. Assumes nothing.
 --     refusal, acceptance     what a buffer call owes at its end, from the answer alone
 --     kept-..                 a record of which octets are taken as they are
---     decoded-.., record-.., length-.., encoded-.., line-.., decimal-..   which answer the checks of a call settle on
+--     written-..               a record that is written says the lengths of its entry
+--     decoded-.., length-.., encoded-.., line-.., decimal-..   which answer the checks of a call settle on
 use mathlib.Core.Path.{_≡_, refl, sym, ap, ap₂, _∙_}
-use mathlib.Core.Bool.{Bool, true, false, _&&_, _||_, not}
+use mathlib.Core.Bool.{Bool, true, false, cond, _&&_, _||_, not}
+use mathlib.Core.Option.{some}
 use mathlib.Core.List.{List, [], _∷_, _++_}
 use Prim.Native.Nat.{ℕ, zero, suc, _+_, _≤_, _<_, _-_}
 use native.Mathlib.Omega.{arith}
 use lib.ListN.{length, take, drop, length-append, take-append-drop, length-drop, drop-of-length-le}
 use lib.Seq.{take-all}
 use lib.Dec.{eqb, leb, ltb, eqb·suc-zero}
-use borrow.Author.Tests.{leb-true, leb-false, le-leb, lt-leb, lt-ltb, le-ltb}
+use borrow.Author.Tests.{leb-true, leb-false, le-leb, lt-leb, ltb-true, lt-ltb, le-ltb}
 use Rattle.headers.specs.Rows.{empty, every}
-use Rattle.headers.specs.Text.{divides, stops, is-text, is-utf8}
+use Rattle.headers.specs.Text.{divides, stops, is-utf8}
 use Rattle.headers.specs.Escapes.{decode, encode, escaped, writable}
 use Rattle.headers.specs.Numbers.{shortest}
-use Rattle.headers.specs.Block.{Entry, entry-record}
+use Rattle.headers.specs.Block.{Entry, entry-record, Short, is-short, entries}
 use Rattle.headers.specs.Stretches.{not-back, kept, unescaped}
-use Rattle.headers.specs.Lines.{line-max, entry-of, decoded-entry, line-length, are-text, raw-line, written-line, can-stand, can-write}
-use Rattle.headers.specs.Answers.{Answer, accepted, refused, settle, left-in, written-record, decoded-answer, record-answer, writable-answer, length-answer, encoded-answer, line-answer, decimal-answer}
+use Rattle.headers.specs.Lines.{line-max, entry-of, decoded-entry, raw-line, written-line, can-stand, can-write}
+use Rattle.headers.specs.Answers.{Answer, accepted, refused, settle, left-in, written-record, lacks-room, decoded-answer, writable-answer, length-answer, encoded-answer, line-answer, decimal-answer}
 use Rattle.headers.specs.declared.text.Style.{Style}
 use Rattle.headers.specs.declared.text.Field.{Field}
 use Rattle.headers.specs.declared.text.Field.the-variants.{Name, Value}
 use Rattle.headers.proofs.Rows.{and-left, and-right, and-no, refuted, every-right, every-append, every-also}
 use Rattle.headers.proofs.Coding.{kept-clear, decode-off, encode-long, encode-append}
 use Rattle.headers.proofs.Blocks.{length-record}
+use Rattle.headers.proofs.LaidOut.{entries-record}
 
 -- refused: the buffer is as before
 pub refusal : (A : Answer) (k : ℕ) (R d : List ℕ) → A ≡ refused k → (refused k ≡ A) × (d ≡ left-in A R d)
@@ -214,9 +217,9 @@ module _ (s : Style) (k : ℕ) (xs : List ℕ) where
 
   pub divided-can : empty (take k xs) ≡ false → every (writable s Value) xs ≡ true → every (writable s Name) (take k xs) ≡ true
       → is-utf8 (take k xs) && is-utf8 (drop k xs) ≡ true → length (encode s xs) ≤ 511 → can-write s (divided k xs) ≡ true
-  divided-can some h n u fits =
+  divided-can named h n u fits =
       let whole : every (writable s Value) (take k xs ++ drop k xs) ≡ true = rw take-append-drop h in
-      can s (divided k xs) some
+      can s (divided k xs) named
       (rw (n, and-left (is-utf8 (take k xs)) (is-utf8 (drop k xs)) u) refl)
       (rw (every-right (writable s Value) (take k xs) (drop k xs) whole, and-right (is-utf8 (take k xs)) (is-utf8 (drop k xs)) u) refl)
       (omega (arith, divided-long))
@@ -234,35 +237,24 @@ module _ (s : Style) (i j : ℕ) (name value : List ℕ) (n : every not-back (ta
   pub kept-answer : (room : ℕ) → decoded-answer unescaped room (kept i s name) (kept j s value) ≡ decoded-answer s room name value
   unfolding decoded-answer
   kept-answer room =
-      ap
-      (λ e. settle
-      (record { fails = ltb room (length (entry-record e)); number = 21 } ∷ record { fails = ltb line-max (line-length e); number = 23 } ∷ [])
-      (length (entry-record e) ∷ []))
-      kept-entry
+      ap (λ e. settle (record { fails = lacks-room room e; number = 21 } ∷ []) (length (entry-record e) ∷ [])) kept-entry
 
 module _ (s : Style) (name value : List ℕ) where
   pub record-long : length (written-record s name value) ≡ 6 + length (decode s name) + length (decode s value)
   record-long = length-record (decoded-entry s name value)
 
-  pub no-text-name : is-text s Name name ≡ false → are-text s name value ≡ false
-  no-text-name h = rw h
+-- an entry whose lengths a record can say
+pub short-is : (e : Entry) → Short e → is-short e ≡ true
+short-is e h = rw (lt-ltb (length (e .name)) 65536 (h .name-fits), lt-ltb (length (e .value)) 65536 (h .value-fits)) refl
 
-  pub no-text-value : is-text s Value value ≡ false → are-text s name value ≡ false
-  no-text-value h = simp (h, and-no)
-
-  pub both-text : is-text s Name name ≡ true → is-text s Value value ≡ true → are-text s name value ≡ true
-  both-text h k = rw (h, k)
+pub is-short-short : (e : Entry) → is-short e ≡ true → Short e
+is-short-short e h =
+    record {
+      name-fits = ltb-true (length (e .name)) 65536 (and-left _ _ h);
+      value-fits = ltb-true (length (e .value)) 65536 (and-right (ltb (length (e .name)) 65536) _ h);
+    }
 
 module _ (s : Style) (room : ℕ) (name value : List ℕ) where
-  pub record-no : are-text s name value ≡ false → record-answer s room name value ≡ refused 20
-  unfolding record-answer
-  record-no h = rw h
-
-  -- raw text is refused only as any octets are
-  pub record-as : are-text s name value ≡ true → record-answer s room name value ≡ decoded-answer s room name value
-  unfolding record-answer decoded-answer
-  record-as h = rw h
-
   pub decoded-short : room < 6 + length (decode s name) + length (decode s value) → decoded-answer s room name value ≡ refused 21
   unfolding decoded-answer
   decoded-short h = rw (lt-ltb room (length (written-record s name value)) (omega (arith, record-long s name value)))
@@ -271,14 +263,29 @@ module _ (s : Style) (room : ℕ) (name value : List ℕ) where
     enough : ltb room (length (written-record s name value)) ≡ false
     enough = le-ltb room (length (written-record s name value)) (omega (arith, record-long s name value))
 
-    pub decoded-over : 511 < length (decode s name) + length (decode s value) → decoded-answer s room name value ≡ refused 23
+    pub decoded-over : is-short (decoded-entry s name value) ≡ false → decoded-answer s room name value ≡ refused 21
     unfolding decoded-answer
-    decoded-over h = rw (enough, lt-ltb 512 (line-length (decoded-entry s name value)) (omega arith))
+    decoded-over h = rw (enough, h)
 
-    pub decoded-yes : length (decode s name) + length (decode s value) ≤ 511
-        → decoded-answer s room name value ≡ accepted (length (written-record s name value) ∷ [])
+    pub decoded-yes : is-short (decoded-entry s name value) ≡ true → decoded-answer s room name value ≡ accepted (length (written-record s name value) ∷ [])
     unfolding decoded-answer
-    decoded-yes h = rw (enough, le-ltb 512 (line-length (decoded-entry s name value)) (omega arith))
+    decoded-yes h = rw (enough, h)
+
+  -- what is written has a record: both of its lengths are those that the record says
+  pub written-short : {values : List ℕ} → decoded-answer s room name value ≡ accepted values → Short (decoded-entry s name value)
+  unfolding decoded-answer
+  written-short {values} e = by (ltb room (length (written-record s name value))) (is-short (decoded-entry s name value)) refl e
+    where
+      by : (a b : Bool) → is-short (decoded-entry s name value) ≡ b
+          → cond (a || not b) (refused 21) (accepted (length (written-record s name value) ∷ [])) ≡ accepted values → Short (decoded-entry s name value)
+      by true b h k = let z : _≡_ {A = ℕ} 0 1 = cc in absurd (omega arith)
+      by false false h k = let z : _≡_ {A = ℕ} 0 1 = cc in absurd (omega arith)
+      by false true h k = is-short-short (decoded-entry s name value) h
+
+  -- so it reads back as that one entry
+  pub written-entry : {values : List ℕ} → decoded-answer s room name value ≡ accepted values
+      → entries (written-record s name value) ≡ some (decoded-entry s name value ∷ [])
+  written-entry e = entries-record (decoded-entry s name value) (written-short e)
 
 -- ---- a decimal that has room
 

@@ -6,7 +6,7 @@ use Prim.Native.Nat.{ℕ, _+_}
 use lib.ListN.{length}
 use lib.Dec.{leb}
 use Rattle.headers.specs.Rows.{octets-of, empty, every}
-use Rattle.headers.specs.Text.{is-text, is-utf8}
+use Rattle.headers.specs.Text.{is-utf8}
 use Rattle.headers.specs.Escapes.{decode, encode, writable}
 use Rattle.headers.specs.Block.{Entry}
 use Rattle.headers.specs.declared.text.Style.{Style}
@@ -27,10 +27,6 @@ decoded-entry s n v = entry-of (decode s n) (decode s v)
 -- name, colon and value: the length of a line that is not raw
 abbrev pub line-length : Entry → ℕ
 line-length e = length (e .name) + 1 + length (e .value)
-
--- name and value are raw text
-abbrev pub are-text : Style → List ℕ → List ℕ → Bool
-are-text s n v = is-text s Name n && is-text s Value v
 
 -- the raw line of an entry: name, colon, value, its line end not counted
 abbrev pub raw-line : Style → Entry → List ℕ

@@ -38,7 +38,6 @@ pub use record::Known;
 pub use record::RecordWritten;
 pub use record::write_decoded;
 pub use record::write_known;
-pub use record::write_record;
 pub use text::Field;
 pub use text::Style;
 pub use text::decoded_length;

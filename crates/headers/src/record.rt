@@ -3,26 +3,21 @@ ghost use mathlib.Core.Path.{_≡_};
 ghost use mathlib.Core.List.{_++_};
 ghost use Prim.Native.Nat.{_+_, _≤_};
 ghost use lib.ListN.{length, drop};
-ghost use lib.Dec.{leb};
+ghost use lib.Dec.{leb, ltb};
 ghost use Rattle.headers.specs.Stretches.{kept, unescaped};
-ghost use Rattle.headers.specs.Block.{record-head, entry-record};
+ghost use Rattle.headers.specs.Block.{record-head, entry-record, is-short};
 ghost use Rattle.headers.specs.Lines.{entry-of};
-ghost use Rattle.headers.specs.Answers.{left-in, Puts, written-record, decoded-answer, record-answer, record-says};
+ghost use Rattle.headers.specs.Answers.{left-in, Puts, written-record, decoded-answer, record-says};
 use crate::octets::both_fit;
 use crate::octets::copy;
-use crate::text::Field;
 use crate::text::Style;
 use crate::text::decoded_length;
-use crate::text::is_raw;
 use crate::text::put_decoded;
 
-// What writing a record gives: its length; or that name or value is not raw text (20), that it has no room (21), or that its
-// decoded line is over 512 (23).
+// What writing a record gives: its length; or that it has no room (21).
 pub enum RecordWritten {
     Length(usize),
-    NotText,
     TooShort,
-    TooLong,
 }
 
 // The tag and the two lengths at the front of d.
@@ -109,8 +104,30 @@ fn known_fit(name: &[u8], value: &[u8], known: Known, style: Style, most: usize)
     )
 }
 
+// Whether such a text has a length that two octets can say. It too is measured only where the raw text is longer.
+fn known_short(raw: &[u8], known: usize, style: Style) -> bool
+    ensures { λ r. ⌜ r ≡ ltb (length (kept known style (now (raw .entry)))) 65536 ⌝ }
+{
+    if raw.len() < 65536 {
+        return true;
+    }
+    known_length(raw, known, style) < 65536
+}
+
+// Whether such a name and value have a record.
+fn have_record(name: &[u8], value: &[u8], known: Known, style: Style) -> bool
+    ensures { λ r. ⌜
+        r ≡ is-short (entry-of (kept (known .name) style (now (name .entry))) (kept (known .value) style (now (value .entry))))
+        ⌝ }
+{
+    if !known_short(name, known.name, style) {
+        return false;
+    }
+    known_short(value, known.value, style)
+}
+
 // The record of any octets at the front of d, those that are known to have no backslash as they are, the others decoded; or that it has
-// no room (21) or its line is over 512 (23).
+// no room (21), which a name or a value of more than 65,535 octets never has.
 pub fn write_known(
     d: &mut [u8],
     name: &[u8],
@@ -132,8 +149,8 @@ pub fn write_known(
     if !known_fit(name, value, known, style, d.len() - 6) {
         return RecordWritten::TooShort;
     }
-    if !known_fit(name, value, known, style, crate::line::TEXT_MAX) {
-        return RecordWritten::TooLong;
+    if !have_record(name, value, known, style) {
+        return RecordWritten::TooShort;
     }
     if (name.len() <= known.name) & (value.len() <= known.value) {
         return RecordWritten::Length(put_plain(d, name, value));
@@ -141,7 +158,7 @@ pub fn write_known(
     RecordWritten::Length(put_record(d, name, value, known, style))
 }
 
-// The record of any octets, decoded, at the front of d; or that it has no room (21) or its decoded line is over 512 (23).
+// The record of any octets, decoded, at the front of d; or that it has no room (21).
 pub fn write_decoded(d: &mut [u8], name: &[u8], value: &[u8], style: Style) -> RecordWritten
     ensures { λ r. ⌜
         (record-says r ≡ decoded-answer style (length (now (d .entry))) (now (name .entry)) (now (value .entry)))
@@ -149,20 +166,4 @@ pub fn write_decoded(d: &mut [u8], name: &[u8], value: &[u8], style: Style) -> R
         ⌝ }
 {
     write_known(d, name, value, Known { name: 0, value: 0 }, style)
-}
-
-// The same of raw text, or the first of its refusals.
-pub fn write_record(d: &mut [u8], name: &[u8], value: &[u8], style: Style) -> RecordWritten
-    ensures { λ r. ⌜
-        (record-says r ≡ record-answer style (length (now (d .entry))) (now (name .entry)) (now (value .entry)))
-        × (now (d .exit) ≡ left-in (record-answer style (length (now (d .entry))) (now (name .entry)) (now (value .entry))) (written-record style (now (name .entry)) (now (value .entry))) (now (d .entry)))
-        ⌝ }
-{
-    if !is_raw(name, style, Field::Name) {
-        return RecordWritten::NotText;
-    }
-    if !is_raw(value, style, Field::Value) {
-        return RecordWritten::NotText;
-    }
-    write_decoded(d, name, value, style)
 }

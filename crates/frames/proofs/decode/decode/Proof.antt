@@ -2,18 +2,17 @@
 use Prim.Native.Nat.{ℕ, _≤_}
 use native.Mathlib.Omega.{arith}
 use lib.ListN.{length, drop}
-use mathlib.Core.Path.{_≡_, refl, sym, ap}
-use mathlib.Core.Bool.{Bool, false}
+use mathlib.Core.Path.{_≡_, refl, ap}
 use mathlib.Core.List.{List}
 use mathlib.Core.Logic.{_⊎_, ⊎-elim}
-use Rattle.headers.specs.Rows.{any}
-use Rattle.headers.specs.Block.{Entry, image}
+use Rattle.headers.specs.Rows.{All}
+use Rattle.headers.specs.Block.{Entry, image, Short}
 use Rattle.frames.specs.Grammar.{v1-2}
 use Rattle.frames.specs.Answers.{parsed-says}
 use Rattle.frames.proofs.Readings.{OneFrame, one-frame, not-frame}
-use Rattle.frames.proofs.Decoding.{few-lines, not-complete, decodes-none, Settled, settled, ample}
+use Rattle.frames.proofs.Decoding.{few-lines, not-complete, decodes-none, each-short, Settled, settled, ample}
 use Rattle.frames.specs.Layout.{front-lines}
-use Rattle.frames.specs.Decoding.{line-entries, too-long}
+use Rattle.frames.specs.Decoding.{line-entries}
 use borrow.Author.Needs.{needs}
 use Rattle.frames.proofs.decode.decode.Statement.{statement}
 use Rattle.frames.proofs.decode.decode.Tie as tie
@@ -62,18 +61,21 @@ entries-of c =
     (front-lines (c .before .before .before .before .before .before .before .item .given .0 .0 .headers) (drop (c .first-line .result) (c .before .before .before .before .before .before .before .before .before .before .before .before .args .frame .now)))
 
 -- what is known of them, whatever is measured
-settles : (c : tie.After-first-line) (total : ℕ) (long : Bool) → total ≡ length (image (entries-of c)) → long ≡ any too-long (entries-of c)
-    → let a = c .before .before .before .before .before .before .before .before .before .before .before .before .args in Settled (a .frame .now) (a .block .now) (entries-of c) total long
+settles : (c : tie.After-first-line) (total : ℕ) → total ≡ length (image (entries-of c))
+    → let a = c .before .before .before .before .before .before .before .before .before .before .before .before .args in Settled (a .frame .now) (a .block .now) (entries-of c) total
 settles c = settled (one (c .before .before)) (c .before .style-of .result) (c .first-line .result) (c .before .style-of .ensures) (c .first-line .ensures .1) _
 
+shorts : (c : tie.After-first-line) → All Short (entries-of c)
+shorts c = each-short (one (c .before .before)) (c .before .style-of .result) (c .first-line .result) (c .before .style-of .ensures) (c .first-line .ensures .1)
+
 fits : (c : tie.After-first-line) → let a = c .before .before .before .before .before .before .before .before .before .before .before .before .args in 16544 ≤ length (a .block .now)
-    → (length (image (entries-of c)) ≤ length (a .block .now)) × (any too-long (entries-of c) ≡ false)
+    → length (image (entries-of c)) ≤ length (a .block .now)
 fits c =
     ample (one (c .before .before)) (c .before .style-of .result) (c .first-line .result) (c .before .style-of .ensures) (c .first-line .ensures .1)
     (c .before .before .before .before .before .before .before .before .before .before .before .before .args .block .now)
 
 put-records-requires : tie.Need-put-records-requires
-put-records-requires c κs = let f = fits (c .before .before) (c .before .if3 .taken) in (c .before .before .first-line .ensures .0, f .0, f .1)
+put-records-requires c κs = (c .before .before .first-line .ensures .0, fits (c .before .before) (c .before .if3 .taken), shorts (c .before .before))
 
 same-length : tie.Need-same-length
 same-length c = search needs
@@ -82,8 +84,7 @@ returns-4 : tie.Need-returns-4
 returns-4 c =
     let p = c .before .before in
     let l = p .before .before .before in
-    let f = fits l (p .before .before .if3 .taken) in
-    settles l (p .put-records .result) false (p .put-records .ensures .0) (sym (f .1)) .whole (omega (arith, f .0, p .put-records .ensures .0)) refl _ (p .put-records .ensures .1)
+    settles l (p .put-records .result) (p .put-records .ensures .0) .whole (omega (arith, fits l (p .before .before .if3 .taken), p .put-records .ensures .0)) _ (p .put-records .ensures .1)
 
 measure-requires : tie.Need-measure-requires
 measure-requires c κs = (c .before .first-line .ensures .0, few-lines (one (c .before .before .before)))
@@ -91,30 +92,26 @@ measure-requires c κs = (c .before .first-line .ensures .0, few-lines (one (c .
 -- its entries are measured
 measured : (c : tie.After-measure) → let l = c .before .before in
     let a = l .before .before .before .before .before .before .before .before .before .before .before .before .args in
-    Settled (a .frame .now) (a .block .now) (entries-of l) (c .measure .result .total) (c .measure .result .long)
-measured c = settles (c .before .before) (c .measure .result .total) (c .measure .result .long) (c .measure .ensures .0) (c .measure .ensures .1)
+    Settled (a .frame .now) (a .block .now) (entries-of l) (c .measure .result)
+measured c = settles (c .before .before) (c .measure .result) (c .measure .ensures)
 
 returns-5 : tie.Need-returns-5
-returns-5 c = measured (c .before .before) .short (c .if4 .taken)
-
-returns-6 : tie.Need-returns-6
-returns-6 c = measured (c .before .before .before) .over (c .before .if4 .left) (c .if5 .taken)
+returns-5 c = measured (c .before) .short (c .if4 .taken)
 
 put-records-requires-2 : tie.Need-put-records-requires-2
 put-records-requires-2 c κs =
-    let m = c .before .before .before .before in
-    (m .before .before .first-line .ensures .0, measured m .room (c .before .before .if4 .left), measured m .ok (c .before .if5 .left))
+    let m = c .before .before in
+    (m .before .before .first-line .ensures .0, measured m .room (c .before .if4 .left), shorts (m .before .before))
 
 same-length-2 : tie.Need-same-length-2
 same-length-2 c = search needs
 
-returns-7 : tie.Need-returns-7
-returns-7 c =
+returns-6 : tie.Need-returns-6
+returns-6 c =
     let p = c .before .before in
-    let m = p .before .before .before .before .before in
-    let fits = measured m .room (p .before .before .before .if4 .left) in
-    settles (m .before .before) (p .put-records2 .result) (m .measure .result .long) (p .put-records2 .ensures .0) (m .measure .ensures .1) .whole
-    (omega (arith, fits, p .put-records2 .ensures .0)) (p .before .before .if5 .left) _ (p .put-records2 .ensures .1)
+    let m = p .before .before .before in
+    let fits = measured m .room (p .before .before .if4 .left) in
+    settles (m .before .before) (p .put-records2 .result) (p .put-records2 .ensures .0) .whole (omega (arith, fits, p .put-records2 .ensures .0)) _ (p .put-records2 .ensures .1)
 
 pub decode-spec : {M : Type 1} → statement M
 decode-spec =
@@ -132,7 +129,6 @@ decode-spec =
     returns-4
     measure-requires
     returns-5
-    returns-6
     put-records-requires-2
     same-length-2
-    returns-7)
+    returns-6)

@@ -4,26 +4,22 @@ use borrow.Author.Needs.{needs}
 use Prim.Native.Nat.{_≤_, _-_, _+_, _*_}
 use native.Mathlib.Omega.{arith}
 use lib.ListN.{length, drop}
-use mathlib.Core.Path.{_≡_, sym, _∙_, ap}
-use mathlib.Core.Bool.{_||_, or-assoc}
-use Rattle.headers.specs.Rows.{any}
+use mathlib.Core.Path.{_≡_, ap}
 use Rattle.headers.specs.Block.{image}
-use Rattle.headers.proofs.Rows.{or-no}
 use Rattle.frames.specs.Layout.{front-lines}
-use Rattle.frames.specs.Decoding.{line-entries, too-long}
+use Rattle.frames.specs.Decoding.{line-entries}
 use Rattle.frames.proofs.Decoding.{entries-left, left-all, left-none, Adds, adds}
 use Rattle.frames.proofs.decode.measure.Statement.{statement}
 use Rattle.frames.proofs.decode.measure.Tie as tie
 
 abbrev Inv-loop : tie.InvT-loop
-Inv-loop s from n style total₀ long₀ at₀ i₀ total long at i =
+Inv-loop s from n style total₀ at₀ i₀ total at i =
     (at ≤ length s)
     × (total ≤ 6 * i + at)
     × (total + length (image (entries-left style s n i at)) ≡ length (image (line-entries style (front-lines n (drop from s)))))
-    × (long || any too-long (entries-left style s n i at) ≡ any too-long (line-entries style (front-lines n (drop from s))))
 
 abbrev μ-loop : tie.MeasureT-loop
-μ-loop s from n style total₀ long₀ at₀ i₀ total long at i = n - i
+μ-loop s from n style total₀ at₀ i₀ total at i = n - i
 
 -- what the next line adds
 added : (c : tie.After-decoded-length2 Inv-loop μ-loop) →
@@ -46,7 +42,7 @@ loop-holds : tie.Need-loop-holds Inv-loop μ-loop
 loop-holds c =
     let a = c .before .args in
     let all = left-all (a .style) (a .s .now) (a .n) (a .from) in
-    (c .before .pre .0, omega arith, omega (arith, ap (λ es. length (image es)) all), ap (any too-long) all)
+    (c .before .pre .0, omega arith, omega (arith, ap (λ es. length (image es)) all))
 
 line-at-requires : tie.Need-line-at-requires Inv-loop μ-loop
 line-at-requires c κs = search needs
@@ -84,9 +80,6 @@ add-total-2 c = omega (arith, small c)
 add-total-3 : tie.Need-add-total-3 Inv-loop μ-loop
 add-total-3 c = omega (arith, small c)
 
-is-long-requires : tie.Need-is-long-requires Inv-loop μ-loop
-is-long-requires c κs = search needs
-
 add-i : tie.Need-add-i Inv-loop μ-loop
 add-i c = search needs
 
@@ -95,25 +88,17 @@ loop-less c = search needs
 
 loop-again : tie.Need-loop-again Inv-loop μ-loop
 loop-again c =
-    let l = c .before .before .before .before .before in
+    let l = c .before .before .before .before in
     let h = l .before .before .loop in
-    let a = l .before .before .before .before .args in
-    let sum = added (c .before) in (
-      l .line-at .ensures .0 .4,
-      omega (arith, sum .few, h .inv .1),
-      omega (arith, sum .octets, h .inv .2),
-      ap (λ t. (h .long || t) || any too-long (entries-left (a .style) (a .s .now) (a .n) (h .i + 1) (l .line-at .result .next))) (c .is-long .ensures)
-          ∙ or-assoc (h .long) _ _
-          ∙ ap (h .long ||_) (sym (sum .over))
-          ∙ h .inv .3,
-    )
+    let sum = added c in
+    (l .line-at .ensures .0 .4, omega (arith, sum .few, h .inv .1), omega (arith, sum .octets, h .inv .2))
 
 returns : tie.Need-returns Inv-loop μ-loop
 returns c =
     let h = c .before .loop in
     let a = c .before .before .before .args in
     let none = left-none (a .style) (a .s .now) (a .n) (h .i) (h .at) (c .loop-test .left) in
-    (omega (arith, ap (λ es. length (image es)) none, h .inv .2), sym (or-no (h .long)) ∙ ap (λ es. h .long || any too-long es) (sym none) ∙ h .inv .3)
+    omega (arith, ap (λ es. length (image es)) none, h .inv .2)
 
 pub measure-spec : {M : Type 1} → statement M
 measure-spec =
@@ -134,7 +119,6 @@ measure-spec =
     add-total
     add-total-2
     add-total-3
-    is-long-requires
     add-i
     loop-less
     loop-again

@@ -4,15 +4,13 @@ use Prim.Native.Nat.{ℕ, _≤_, _-_, _+_}
 use native.Mathlib.Omega.{arith}
 use lib.ListN.{length, take, drop}
 use mathlib.Core.Path.{_≡_, refl, sym, subst, _∙_, ap}
-use mathlib.Core.Bool.{false}
 use mathlib.Core.List.{_++_}
-use mathlib.Core.Logic.{_⊎_, ⊎-elim}
-use Rattle.headers.specs.Rows.{any}
+use Rattle.headers.specs.Rows.{All}
 use Rattle.headers.specs.Stretches.{Stretch}
-use Rattle.headers.specs.Block.{image}
+use Rattle.headers.specs.Block.{image, Short}
 use Rattle.headers.proofs.Put.{put-whole-done}
 use Rattle.frames.specs.Layout.{front-lines}
-use Rattle.frames.specs.Decoding.{line-entries, too-long}
+use Rattle.frames.specs.Decoding.{line-entries}
 use Rattle.frames.proofs.Decoding.{entries-left, left-all, left-none, Asked, asked}
 use Rattle.frames.proofs.decode.put_records.Statement.{statement}
 use Rattle.frames.proofs.decode.put_records.Tie as tie
@@ -22,7 +20,7 @@ Inv-loop s from n style block₀ used₀ at₀ i₀ block used at i =
     (length block ≡ length block₀)
     × (at ≤ length s)
     × (used + length (image (entries-left style s n i at)) ≡ length (image (line-entries style (front-lines n (drop from s)))))
-    × (any too-long (entries-left style s n i at) ≡ false)
+    × All Short (entries-left style s n i at)
     × (take used block ++ image (entries-left style s n i at) ≡ image (line-entries style (front-lines n (drop from s))))
     × (drop used block ≡ drop used block₀)
 
@@ -34,7 +32,7 @@ loop-holds c =
     let s = c .before .before in
     let a = s .args in
     let all = left-all (a .style) (a .s .now) (a .n) (a .from) in
-    (refl, s .pre .0, omega (arith, ap (λ es. length (image es)) all), ap (any too-long) all ∙ s .pre .2, ap image all, refl)
+    (refl, s .pre .0, omega (arith, ap (λ es. length (image es)) all), subst (All Short) (sym all) (s .pre .2), ap image all, refl)
 
 line-at-requires : tie.Need-line-at-requires Inv-loop μ-loop
 line-at-requires c κs = search needs
@@ -89,11 +87,15 @@ turn c =
     asked (a .style) (a .s .now) (a .n) (h .i) (h .at) (l .line-at .result) (l .before .loop-test .taken) (l .line-at .ensures) (h .block) (c .write-line-record .last .0) (h .used) (c .write-line-record .result)
     (h .inv .3) (omega (arith, h .inv, s .pre .1)) (c .write-line-record .ensures .0) (c .write-line-record .ensures .1)
 
-refuted : (c : tie.At-match-keys2 Inv-loop μ-loop) → ⊥
+enum-told : tie.Need-enum-told Inv-loop μ-loop
+enum-told c = search needs
+
+refuted : (c : tie.After-enum-told Inv-loop μ-loop) → ⊥
 refuted c =
-    let is = turn (c .before .before .before) .accepts .1 in
-    let other : (_≡_ {A = ℕ} 0 1) ⊎ ((_≡_ {A = ℕ} 0 2) ⊎ (_≡_ {A = ℕ} 0 3)) = rw is at (c .match .keys2) in
-    ⊎-elim (λ e. omega (arith, e)) (⊎-elim (λ e. omega (arith, e)) (λ e. omega (arith, e))) other
+    let (k, is) = turn (c .before .before .before .before) .accepts in
+    let told = c .enum-told .given .1 in
+    let z : _≡_ {A = ℕ} 0 1 = cc in
+    omega arith
 
 same-length : tie.Need-same-length Inv-loop μ-loop
 same-length c = absurd (refuted c)
@@ -120,7 +122,7 @@ loop-again c =
     let l = w .before .before .before .before in
     let h = l .before .before .loop in
     let t = turn w .writes _ (c .before .k .given .1) in
-    (t .same-long ∙ h .inv .0, l .line-at .ensures .0 .4, omega (arith, t .fewer, h .inv .2), turn w .rest-ok, t .further _ (h .inv .4), t .kept _ (h .inv .5))
+    (t .same-long ∙ h .inv .0, l .line-at .ensures .0 .4, omega (arith, t .fewer, h .inv .2), turn w .rest-short, t .further _ (h .inv .4), t .kept _ (h .inv .5))
 
 same-length-2 : tie.Need-same-length-2 Inv-loop μ-loop
 same-length-2 c = search needs
@@ -151,6 +153,7 @@ put-records-spec =
     part-write-line-record-end-3
     write-line-record-requires
     enum-known-k
+    enum-told
     same-length
     returns
     add-used

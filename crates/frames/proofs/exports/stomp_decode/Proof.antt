@@ -34,12 +34,6 @@ enum-told-2 c = search needs
 mul-result-2 : tie.Need-mul-result-2
 mul-result-2 c = search needs
 
-enum-told-3 : tie.Need-enum-told-3
-enum-told-3 c = search needs
-
-mul-result-3 : tie.Need-mul-result-3
-mul-result-3 c = search needs
-
 same-length : tie.Need-same-length
 same-length c = search needs
 
@@ -60,12 +54,6 @@ same-length-3 c = search needs
 returns-3 : tie.Need-returns-3
 returns-3 c = (told (c .before .before .before .before) _ (c .enum-told2 .given .1), refl)
 
-same-length-4 : tie.Need-same-length-4
-same-length-4 c = search needs
-
-returns-4 : tie.Need-returns-4
-returns-4 c = (told (c .before .before .before .before) _ (c .enum-told3 .given .1), refl)
-
 pub stomp-decode-spec : {M : Type 1} → statement M
 stomp-decode-spec =
     tie.close
@@ -76,13 +64,9 @@ stomp-decode-spec =
     mul-result
     enum-told-2
     mul-result-2
-    enum-told-3
-    mul-result-3
     same-length
     returns
     same-length-2
     returns-2
     same-length-3
-    returns-3
-    same-length-4
-    returns-4)
+    returns-3)

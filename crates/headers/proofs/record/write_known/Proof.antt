@@ -1,6 +1,7 @@
 -- `record::write_known` meets its contract: each refusal is the first check that fails.
 use borrow.Author.Needs.{needs}
 use mathlib.Core.Path.{_≡_, refl, sym, ap, ap₂, _∙_}
+use mathlib.Core.Bool.{true}
 use mathlib.Core.List.{List, _++_}
 use native.Mathlib.Omega.{arith}
 use Prim.Native.Nat.{ℕ, _+_, _≤_}
@@ -8,8 +9,8 @@ use lib.ListN.{length, drop}
 use lib.Dec.{leb}
 use borrow.Author.Tests.{not-true, not-false, leb-true, leb-false}
 use Rattle.headers.specs.Escapes.{decode}
-use Rattle.headers.specs.Block.{entry-record}
-use Rattle.headers.specs.Lines.{entry-of}
+use Rattle.headers.specs.Block.{entry-record, is-short}
+use Rattle.headers.specs.Lines.{entry-of, decoded-entry}
 use Rattle.headers.specs.Stretches.{kept, unescaped}
 use Rattle.headers.specs.Answers.{written-record}
 use Rattle.headers.proofs.Rows.{and-left, and-right}
@@ -21,6 +22,9 @@ use Rattle.headers.proofs.record.write_known.Tie as tie
 -- without escapes the decoded text is the text
 itself : (xs : List ℕ) → length (decode unescaped xs) ≡ length xs
 itself xs = ap length (decode-off unescaped refl xs)
+
+itself-short : (name value : List ℕ) → is-short (decoded-entry unescaped name value) ≡ is-short (entry-of name value)
+itself-short name value = ap₂ (λ x y. is-short (entry-of x y)) (decode-off unescaped refl name) (decode-off unescaped refl value)
 
 as-is : (name value : List ℕ) → entry-record (entry-of name value) ≡ written-record unescaped name value
 as-is name value = ap₂ (λ x y. entry-record (entry-of x y)) (sym (decode-off unescaped refl name)) (sym (decode-off unescaped refl value))
@@ -48,8 +52,8 @@ returns-2 c =
     let s = c .before .before .before .before .before .before in
     refusal _ 21 _ _ (decoded-short unescaped (length (s .args .d .now)) (name s) (value s) (omega (arith, itself (name s), itself (value s), leb-false, sym (c .before .known-fit .ensures) ∙ not-true _ (c .if2 .taken))))
 
-known-fit-requires-2 : tie.Need-known-fit-requires-2
-known-fit-requires-2 c κs = search needs
+have-record-requires : tie.Need-have-record-requires
+have-record-requires c κs = search needs
 
 -- where the first test passes, there is room
 abbrev start : tie.Else2 → tie.Start
@@ -64,14 +68,15 @@ roomy c = omega (arith, room c, itself (name (start c)), itself (value (start c)
 returns-3 : tie.Need-returns-3
 returns-3 c =
     let s = c .before .before .before .before .before .before .before .before in
-    refusal _ 23 _ _
-    (decoded-over unescaped (length (s .args .d .now)) (name s) (value s) (roomy (c .before .before)) (omega (arith, itself (name s), itself (value s), leb-false, sym (c .before .known-fit2 .ensures) ∙ not-true _ (c .if3 .taken))))
+    refusal _ 21 _ _
+    (decoded-over unescaped (length (s .args .d .now)) (name s) (value s) (roomy (c .before .before))
+    (itself-short (name s) (value s) ∙ sym (c .before .have-record .ensures) ∙ not-true _ (c .if3 .taken)))
 
--- and where the second does, the line is short
-short : (c : tie.Else3) → let s = start (c .before .before) in length (decode unescaped (name s)) + length (decode unescaped (value s)) ≤ 511
+-- and where the second does, it has a record
+short : (c : tie.Else3) → let s = start (c .before .before) in is-short (decoded-entry unescaped (name s) (value s)) ≡ true
 short c =
     let s = start (c .before .before) in
-    omega (arith, itself (name s), itself (value s), leb-true, sym (c .before .known-fit2 .ensures) ∙ not-false _ (c .if3 .left))
+    itself-short (name s) (value s) ∙ sym (c .before .have-record .ensures) ∙ not-false _ (c .if3 .left)
 
 -- both are known
 name-known : (c : tie.Then4) → let s = start (c .before .before .before .before .before) in name s ≡ s .args .name .now
@@ -119,4 +124,4 @@ returns-5 c =
     (acceptance _ _ _ d _ (decoded-yes unescaped (length d) (name s) (value s) (roomy (e .before .before)) (short e)) (put .1 ∙ ap (λ z. z ++ drop (length z) d) same))
 
 pub write-known-spec : {M : Type 1} → statement M
-write-known-spec = tie.close (tie.spec returns sub-known-fit known-fit-requires returns-2 known-fit-requires-2 returns-3 put-plain-requires same-length returns-4 put-record-requires same-length-2 returns-5)
+write-known-spec = tie.close (tie.spec returns sub-known-fit known-fit-requires returns-2 have-record-requires returns-3 put-plain-requires same-length returns-4 put-record-requires same-length-2 returns-5)
