@@ -214,7 +214,6 @@ static void report(size_t call, const char *name, const unsigned *numbers, size_
 
 void report_buffers(void)
 {
-    /* 23 is never given: a decoded line is not longer than the raw one. */
     static const unsigned of_decode[] = {20, 21};
     static const unsigned of_encode[] = {50, 51, 52, 53, 54, 55, 56};
     report(0, "decode", of_decode, 2);

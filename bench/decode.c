@@ -188,7 +188,6 @@ uint64_t baseline_decode(const uint8_t *frame, size_t length, uint8_t *block, si
     size_t needed = records_length(at, lines, kinds->value);
     if (needed > block_length)
         return (uint64_t)STOMP_DECODE_SHORT_BLOCK << 16;
-    /* A decoded line is never longer than the raw one, so 23 is never given. */
     write_records(at, lines, kinds, block);
     return needed;
 }

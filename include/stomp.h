@@ -89,8 +89,7 @@ enum stomp_feed_refusal {
 /* The numbers of stomp_decode. */
 enum stomp_decode_refusal {
     STOMP_DECODE_NOT_A_FRAME = 20, /* the octets are not exactly one frame */
-    STOMP_DECODE_SHORT_BLOCK = 21, /* the block is shorter than needed */
-    STOMP_DECODE_LONG_LINE = 23    /* a decoded line would be longer than STOMP_MAX_LINE; no frame has one */
+    STOMP_DECODE_SHORT_BLOCK = 21  /* the block is shorter than needed */
 };
 
 /* The number of stomp_find. */
@@ -175,9 +174,9 @@ uint64_t stomp_feed(uint8_t *state, size_t state_len, uint8_t *buffer, size_t bu
  * the octets 72 68, the lengths of name and value in two octets each, high first, then the name and
  * the value, escapes replaced. `frame` must be exactly one frame, as long as stomp_parse says.
  *
- * The answer is the length of the records, or 2^16*code: 20, else 21, else 23. The records stand
- * at the front of the block, and what is behind them stays as it was. Where it is refused nothing
- * is written. `frame` and `block` must not overlap. */
+ * The answer is the length of the records, or 2^16*code: 20, else 21. The records stand at the
+ * front of the block, and what is behind them stays as it was. Where it is refused nothing is
+ * written. `frame` and `block` must not overlap. */
 uint64_t stomp_decode(const uint8_t *frame, size_t frame_len, uint8_t *block, size_t block_len);
 
 /* Finds the first value of a name in a header block. `block_len` is the length in use, as
