@@ -13,6 +13,7 @@ mod replays;
 mod sessions;
 mod writing;
 
+use crate::decode::decode;
 use crate::item::{can_be_finished, first_item, parse, Answer, Command};
 use crate::listing;
 use crate::random::Random;
@@ -322,6 +323,25 @@ fn lines_owe_what_is_missing() {
             assert_eq!(can_be_finished(&row), can_go_on(command, &line), "{line:?}");
         }
     }
+}
+
+/// Name, colon and value of every small line, decoded, have at most as many octets as raw (C-22).
+#[test]
+fn decoded_lines_are_no_longer() {
+    let mut shorter = 0;
+    for small in [&SMALL, &WIDE] {
+        for command in small_commands() {
+            for line in (3..=7).flat_map(|length| lines(small, command, length)) {
+                let row = [command.name(), b"\n", &line, b"\n\0"].concat();
+                let entry = &decode(&row).expect("a frame").entries[0];
+                let end = if line.ends_with(b"\r\n") { 2 } else { 1 };
+                let (raw, decoded) = (line.len() - end, entry.name.len() + 1 + entry.value.len());
+                assert!(decoded <= raw, "{line:?}");
+                shorter += usize::from(decoded < raw);
+            }
+        }
+    }
+    assert!(shorter > 0);
 }
 
 /// The number of an octet that spoils a header line, read octet by octet: whether there was a colon, and
