@@ -336,7 +336,7 @@ fn decoded_lines_are_no_longer() {
                 let entry = &decode(&row).expect("a frame").entries[0];
                 let end = if line.ends_with(b"\r\n") { 2 } else { 1 };
                 let (raw, decoded) = (line.len() - end, entry.name.len() + 1 + entry.value.len());
-                assert!(decoded <= raw, "{line:?}");
+                assert!(decoded <= raw, "{:?}", line);
                 shorter += usize::from(decoded < raw);
             }
         }
