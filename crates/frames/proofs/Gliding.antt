@@ -1,4 +1,4 @@
--- Plain stretches at a go: the states that pass octets unchanged but for their counts.
+-- Plain stretches at once: the states that pass octets unchanged but for their counts.
 -- Assumes nothing.
 use mathlib.Core.Path.{_≡_, refl, sym, _∙_, ap, ap₂, subst}
 use mathlib.Core.Bool.{Bool, true, false, cond, _&&_, _||_, not, and-comm}

@@ -17,7 +17,7 @@ use headers::LineWritten;
 use headers::RecordWritten;
 use headers::Style;
 
-// Writes a record of raw text into room octets of sevens, and shows the answer, the octets written and the next one behind them.
+// Writes a record of raw text into room octets of sevens, and shows the answer, the octets written and the next one after them.
 pub(crate) fn record(label: &[u8], name: &[u8], value: &[u8], escapes: bool, room: usize) {
     say(label);
     let mut d = [7u8; 600];
