@@ -4,11 +4,13 @@
 --     decode-encode, encode-decode   each undoes the other
 --     decode-short                   decoded text is never longer than raw
 --     encode-long, encode-twice      encoded text is never shorter, and at most twice as long
---     encode-append                  two texts are encoded one after the other
+--     encode-append, encode-part     two texts are encoded one after the other
 --     decode-front, decode-stretch   octets without a backslash are decoded as themselves
 --     kept-..                        the same where so many octets are known to have none
 --     decode-off, encode-off         without escapes text is itself
 --     encode-same                    so is text that is as long encoded
+--     encode-bare, encode-tail       so are octets that no escape concerns, also at the end of a text
+--     letter-last                    the last octet that an octet has encoded
 --     encode-text                    what can be written is raw text when encoded
 --     decode-name                    a raw name without escapes, as content-length, is its decoded one, and only it is
 use mathlib.Core.Path.{_≡_, refl, sym, _∙_, ap, ap₂, subst}
@@ -22,15 +24,15 @@ use lib.ListN.{length, take, drop, getD, length-append, length-drop, drop-of-len
 use lib.Seq.{drop-cons, drop-drop, take-all, length-take-le}
 use lib.Dec.{eqb, leb, ltb}
 use borrow.Author.Tests.{eqb-true, ne-eqb, ltb-false, not-true, leb-true, le-leb}
-use Rattle.headers.specs.Rows.{every}
+use Rattle.headers.specs.Rows.{every, any}
 use Rattle.headers.specs.Stretches.{not-back, Stretch, kept}
-use Rattle.headers.specs.Text.{divides, stops, escape-table, is-letter, opens, plain, missing, tail, second, ascii, itself, escape, wide, Text, none, more, Part, fresh, back, led, tails, left, of-utf8, Into, bad, utf8-reads, then-reads, reads-whole, is-text-from, is-text, is-utf8-from, is-utf8}
-use Rattle.headers.specs.Escapes.{meaning, letter-of, means, at-escape, width, octet-at, decode, escaped, encode-octet, encode, writable}
+use Rattle.headers.specs.Text.{Escape, divides, stops, escape-table, is-letter, opens, plain, missing, tail, second, ascii, itself, escape, wide, Text, none, more, Part, fresh, back, led, tails, left, of-utf8, Into, bad, utf8-reads, then-reads, reads-whole, is-text-from, is-text, is-utf8-from, is-utf8}
+use Rattle.headers.specs.Escapes.{other-half, meaning, letter-of, means, at-escape, width, octet-at, decode, escaped, encode-octet, encode, writable}
 use Rattle.headers.specs.Lines.{content-length}
 use Rattle.headers.specs.declared.text.Style.{Style}
 use Rattle.headers.specs.declared.text.Field.{Field}
 use Rattle.headers.specs.declared.text.Field.the-variants.{Name, Value}
-use Rattle.headers.proofs.Rows.{cond-case, and-left, and-right, and-no, refuted, any-key}
+use Rattle.headers.proofs.Rows.{cond-case, and-left, and-right, and-no, and-false, or-false-left, or-false-right, refuted, any-key, every-drop}
 use Rattle.headers.proofs.Reading.{missing-high, second-high, tail-high, letter-ascii, high-text, text-is, is-text-text}
 
 -- ---- the table of escapes: each letter is that of its octet, and each octet that of its letter
@@ -67,6 +69,16 @@ opens-escaped s x h = rw (and-left (s .escapes) (eqb x 92) h, eqb-true x 92 (and
 contrary : (a b : Bool) → (a ≡ true → b ≡ true) → b ≡ false → a ≡ false
 contrary true b h k = let z : _≡_ {A = ℕ} 0 1 = cc (h refl) in absurd (omega arith)
 contrary false b h k = refl
+
+-- an octet that no escape stands for has itself for its letter
+other-none : (key to : Escape → ℕ) (x : ℕ) (es : List Escape) → any (λ e. eqb x (key e)) es ≡ false → other-half key to x es ≡ x
+other-none key to x [] h = refl
+other-none key to x (e ∷ es) h = rw (or-false-left (eqb x (key e)) _ h) (other-none key to x es (or-false-right (eqb x (key e)) _ h))
+
+pub letter-last : (s : Style) (x : ℕ) → s .escapes ≡ true → letter-of s x ≡ cond (escaped s x) (letter-of s x) x
+letter-last s x on =
+    cond-case (λ u. letter-of s x ≡ u) (escaped s x) (λ h. refl)
+    (λ h. other-none (λ e. e .octet) (λ e. e .letter) x (escape-table s) (and-false (s .escapes) _ h on))
 
 -- ---- one step of decoding
 
@@ -374,6 +386,13 @@ unfolding encode
 encode-append s [] ys = refl
 encode-append s (x ∷ xs) ys = rw (encode-append s xs ys) (sym (append-assoc (encode-octet s x) (encode s xs) (encode s ys)))
 
+-- the part from i to e, and what is after it
+pub encode-part : (s : Style) (xs : List ℕ) (i e : ℕ) → i ≤ e → encode s (drop i xs) ≡ encode s (take (e - i) (drop i xs)) ++ encode s (drop e xs)
+encode-part s xs i e h =
+    let on : i + (e - i) ≡ e = omega arith in
+    ap (encode s) (sym (take-append-drop (e - i) (drop i xs))) ∙ encode-append s (take (e - i) (drop i xs)) (drop (e - i) (drop i xs))
+    ∙ ap (λ z. encode s (take (e - i) (drop i xs)) ++ encode s z) (drop-drop (e - i) i xs ∙ ap (λ k. drop k xs) on)
+
 -- octets without a backslash stand for themselves, and what follows them is decoded by itself
 pub decode-front : (s : Style) (xs ys : List ℕ) → every not-back xs ≡ true → decode s (xs ++ ys) ≡ xs ++ decode s ys
 decode-front s [] ys h = refl
@@ -462,11 +481,25 @@ module _ (s : Style) (xs : List ℕ) where
 abbrev pub bare : Style → ℕ → Bool
 bare s x = not (escaped s x)
 
-encode-bare : (s : Style) (xs : List ℕ) → every (bare s) xs ≡ true → encode s xs ≡ xs
+pub encode-bare : (s : Style) (xs : List ℕ) → every (bare s) xs ≡ true → encode s xs ≡ xs
 unfolding encode
 encode-bare s [] h = refl
 encode-bare s (x ∷ xs) h =
     rw (not-true (escaped s x) (and-left (bare s x) _ h)) (ap (x ∷_) (encode-bare s xs (and-right (bare s x) _ h)))
+
+-- a text whose octets from b on are such, where n octets are written of those before i
+pub encode-tail : (s : Style) (xs : List ℕ) (b i n : ℕ) → b ≤ i → i ≤ length xs → every (bare s) (drop b xs) ≡ true
+    → n + length (encode s (drop i xs)) ≡ length (encode s xs) → (encode s xs ≡ encode s (take b xs) ++ drop b xs) × (n ≡ length (encode s (take b xs)) + (i - b))
+encode-tail s xs b i n bi ix h e =
+    let split : encode s xs ≡ encode s (take b xs) ++ drop b xs =
+    ap (encode s) (sym (take-append-drop b xs)) ∙ encode-append s (take b xs) (drop b xs) ∙ ap (encode s (take b xs) ++_) (encode-bare s (drop b xs) h) in
+    let on : b + (i - b) ≡ i = omega arith in
+    let left : drop (i - b) (drop b xs) ≡ drop i xs = drop-drop (i - b) b xs ∙ ap (λ k. drop k xs) on in
+    let rest : encode s (drop i xs) ≡ drop i xs =
+    encode-bare s (drop i xs) (subst (λ z. every (bare s) z ≡ true) left (every-drop (bare s) (i - b) (drop b xs) h)) in
+    let long : length (encode s xs) ≡ length (encode s (take b xs)) + length (drop b xs) =
+    ap length split ∙ length-append (encode s (take b xs)) (drop b xs) in
+    (split, omega (arith, e, long, ap length rest, length-drop i xs, length-drop b xs))
 
 pub decode-name : {s : Style} {f : Field} {raw : List ℕ} (name : List ℕ) → every (bare s) name ≡ true → Text s f raw → decode s raw ≡ name → raw ≡ name
 decode-name {s} name b t e = sym (encode-decode t) ∙ ap (encode s) e ∙ encode-bare s name b

@@ -4,16 +4,18 @@
 --     Upto, upto-..   a copy by blocks, from the first to the last
 --     copied-..       what a copy leaves
 --     partly-copy, partly-copied   a copy as the next of some parts, and as the first
+--     partly-over     a copy as the last of them, over octets that are written already
 use Prim.Native.Nat.{ℕ, _+_, _-_, _≤_, _<_}
 use mathlib.Core.List.{List, _++_, append-assoc}
 use mathlib.Core.Path.{_≡_, refl, ap, sym, subst, _∙_}
 use mathlib.Core.Bool.{true, false, cond}
 use lib.Dec.{leb}
 use lib.ListN.{length, take, drop, length-drop, length-append}
-use lib.Seq.{take-all, paste, paste-zero, take-paste, drop-paste, take-add, take-take, drop-drop, take-append-le, take-append-add, length-take-le, length-paste-head, length-paste}
+use lib.Seq.{take-all, take-at, paste, paste-zero, take-paste, drop-paste, take-add, take-take, drop-drop, take-append-le, take-append-add, length-take-le, length-paste-head, length-paste}
 use native.Mathlib.Omega.{arith}
 use borrow.Author.Tests.{le-leb}
 use Rattle.headers.specs.Rows.{copied}
+use Rattle.headers.specs.Answers.{Puts}
 use Rattle.headers.proofs.Put.{Partly, partly-none}
 
 -- the octets before place i of s are copied; then w of them from place j on, which is not after i
@@ -142,3 +144,20 @@ pub partly-copied : (whole R rest d after : List ℕ) → length whole ≤ lengt
 partly-copied whole R rest d after room parts w =
     let none : 0 + length R ≡ length R = omega arith in
     subst (Partly whole rest d after) none (partly-copy (partly-none whole d room) R rest after (length R) (sym parts) refl w)
+
+-- R copied as the end of whole, from a place that is not after what is written
+pub partly-over : {whole todo d₀ d : List ℕ} {at : ℕ} → Partly whole todo d₀ d at → (P R after : List ℕ) (m : ℕ) → whole ≡ P ++ R → m ≡ length P → m ≤ at
+    → after ≡ paste d m R (length R) → Puts whole (m + length R) d₀ after
+partly-over {whole} {todo} {d₀} {d} {at} so P R after m split e early w =
+    let long : length whole ≡ m + length R = ap length split ∙ length-append P R ∙ ap (_+ length R) (sym e) in
+    let far : m + length R ≡ at + length todo = omega (arith, long, so .long) in
+    let inside : m ≤ length (take at d) = omega (arith, length-take-le at d (omega (arith, so .room, so .as-long, so .long))) in
+    let front : take m d ≡ P =
+    sym (take-take m at d early) ∙ sym (take-append-le m (take at d) todo inside) ∙ ap (take m) (so .parts ∙ split) ∙ take-at P R m (sym e) in
+    let back : drop (m + length R) d ≡ drop (m + length R) d₀ =
+    ap (λ k. drop k d) far ∙ sym (drop-drop (length todo) at d) ∙ ap (drop (length todo)) (so .kept)
+    ∙ drop-drop (length todo) at d₀ ∙ ap (λ k. drop k d₀) (sym far) in
+    let put : after ≡ P ++ R ++ drop (m + length R) d₀ =
+    w ∙ ap (λ z. z ++ take (length R) R ++ drop (m + length R) d) front
+    ∙ ap (λ z. P ++ z ++ drop (m + length R) d) (take-all (length R) R (omega arith)) ∙ ap (λ z. P ++ R ++ z) back in
+    (sym long, put ∙ ap (λ z. z ++ drop (m + length R) d₀) (sym split) ∙ ap (λ k. whole ++ drop k d₀) (sym long))

@@ -70,7 +70,7 @@ fn put_16(d: &mut [u8], at: usize, s: &[u8], i: usize)
     put_octets(d, at + i, &block);
 }
 
-fn put_8(d: &mut [u8], at: usize, s: &[u8], i: usize)
+pub(crate) fn put_8(d: &mut [u8], at: usize, s: &[u8], i: usize)
     requires { ⌜ (i + 8 ≤ length (now s)) × (at + length (now s) ≤ length (now d)) ⌝ }
     ensures { λ _. ⌜ now (d .exit) ≡ paste (now (d .entry)) (at + i) (drop i (now (s .entry))) 8 ⌝ }
 {

@@ -1,13 +1,16 @@
 // Raw header text: tests on it, its decoding and encoding.
 ghost use mathlib.Core.Path.{_≡_};
+ghost use mathlib.Core.Bool.{cond, not};
+ghost use mathlib.Core.List.{_++_};
 ghost use Prim.Native.Nat.{_+_, _≤_, _<_};
-ghost use lib.ListN.{length, drop};
+ghost use lib.ListN.{length, take, drop};
 ghost use Rattle.headers.specs.Rows.{every};
 ghost use Rattle.headers.specs.Text.{divides, stops, opens, is-letter, reads, is-text};
 ghost use Rattle.headers.specs.Characters.{text-part, into-number};
 ghost use Rattle.headers.specs.Escapes.{at-escape, width, octet-at, meaning, letter-of, escaped, writable, decode, encode-octet, encode};
 ghost use Rattle.headers.specs.Answers.{Puts};
 use crate::octets::copy;
+use crate::octets::put_8;
 use crate::plain::stretch;
 use crate::utf8::utf8_next;
 
@@ -187,15 +190,18 @@ pub(crate) fn put_decoded(d: &mut [u8], raw: &[u8], style: Style) -> usize
     }
 }
 
-// How many octets an octet has encoded. By comparisons and in a narrow number, so that a loop takes many octets at a time.
+// The same as is_escaped by plain comparisons, so that a loop takes many octets at a time.
+fn has_escape(style: Style, x: u8) -> bool
+    ensures { λ r. ⌜ r ≡ escaped style x ⌝ }
+{
+    style.escapes & ((x == 13) | ((x == 10) | ((x == 58) | (x == 92))))
+}
+
+// How many octets an octet has encoded, in a narrow number.
 pub(crate) fn encoded_width(style: Style, x: u8) -> u16
     ensures { λ r. ⌜ r ≡ length (encode-octet style x) ⌝ }
 {
-    if style.escapes & ((x == 13) | ((x == 10) | ((x == 58) | (x == 92)))) {
-        2
-    } else {
-        1
-    }
+    if has_escape(style, x) { 2 } else { 1 }
 }
 
 // How many octets the text has encoded: any octets are taken.
@@ -211,22 +217,37 @@ pub fn encoded_length(text: &[u8], style: Style) -> usize
     n
 }
 
-// An octet, encoded, at the front of d; its length encoded.
+// How many octets an octet has encoded before the last: one, the backslash, where it is escaped.
+fn octets_before(style: Style, x: u8) -> usize
+    ensures { λ r. ⌜ r ≡ cond (escaped style x) 1 0 ⌝ }
+{
+    if is_escaped(style, x) { 1 } else { 0 }
+}
+
+// The last octet that an octet has encoded: its letter where it is escaped, or itself.
+fn last_octet(style: Style, x: u8) -> u8
+    ensures { λ r. ⌜ r ≡ cond (escaped style x) (letter-of style x) x ⌝ }
+{
+    if style.escapes {
+        return letter_for(style, x);
+    }
+    x
+}
+
+// An octet, encoded, at the front of d; its length encoded. A backslash is written for any octet, and one that is not escaped is written
+// over it: without a branch, which would often be mispredicted.
 fn put_octet(d: &mut [u8], x: u8, style: Style) -> usize
     requires { ⌜ length (encode-octet style x) ≤ length (now d) ⌝ }
     ensures { λ r. ⌜ Puts (encode-octet style x) r (now (d .entry)) (now (d .exit)) ⌝ }
 {
-    if is_escaped(style, x) {
-        d[0] = 92;
-        d[1] = letter_for(style, x);
-        return 2;
-    }
-    d[0] = x;
-    1
+    let n = octets_before(style, x);
+    d[0] = 92;
+    d[n] = last_octet(style, x);
+    n + 1
 }
 
-// The text, encoded, at the front of d; its length encoded.
-pub(crate) fn put_encoded(d: &mut [u8], text: &[u8], style: Style) -> usize
+// The text, encoded, at the front of d, octet by octet; its length encoded.
+fn put_each(d: &mut [u8], text: &[u8], style: Style) -> usize
     requires { ⌜ length (encode style (now text)) ≤ length (now d) ⌝ }
     ensures { λ r. ⌜ Puts (encode style (now (text .entry))) r (now (d .entry)) (now (d .exit)) ⌝ }
 {
@@ -237,6 +258,68 @@ pub(crate) fn put_encoded(d: &mut [u8], text: &[u8], style: Style) -> usize
         i += 1;
     }
     n
+}
+
+// Whether no octet of the text is escaped: every octet is looked at, so that many are at once.
+fn is_bare(text: &[u8], style: Style) -> bool
+    ensures { λ r. ⌜ r ≡ every (λ x. not (escaped style x)) (now (text .entry)) ⌝ }
+{
+    let mut ok = true;
+    let mut i = 0usize;
+    while i < text.len() {
+        ok = ok & !has_escape(style, text[i]);
+        i += 1;
+    }
+    ok
+}
+
+// A block of a text: moved at once where no octet of it is escaped.
+fn put_block(d: &mut [u8], block: &[u8], style: Style) -> usize
+    requires { ⌜ (length (now block) ≡ 8) × (length (encode style (now block)) ≤ length (now d)) ⌝ }
+    ensures { λ r. ⌜ Puts (encode style (now (block .entry))) r (now (d .entry)) (now (d .exit)) ⌝ }
+{
+    if is_bare(block, style) {
+        put_8(d, 0, block, 0);
+        return 8;
+    }
+    put_each(d, block, style)
+}
+
+// The end of a text, from place i on, where what is before it is encoded in d up to place n; the length of the whole encoded. Where no
+// octet of the last block is escaped, it is moved at once, over octets of it that are written already.
+fn put_end(d: &mut [u8], n: usize, text: &[u8], i: usize, style: Style) -> usize
+    requires { ⌜
+        (i ≤ length (now text)) × (length (now text) < i + 8)
+        × (length (encode style (now text)) ≤ length (now d))
+        × (n + length (encode style (drop i (now text))) ≡ length (encode style (now text)))
+        × (take n (now d) ++ encode style (drop i (now text)) ≡ encode style (now text))
+        ⌝ }
+    ensures { λ r. ⌜ Puts (encode style (now (text .entry))) r (now (d .entry)) (now (d .exit)) ⌝ }
+{
+    if 8 <= text.len() {
+        let last = text.len() - 8;
+        if is_bare(&text[last..], style) {
+            let at = n - (i - last);
+            put_8(d, at, &text[last..], 0);
+            return at + 8;
+        }
+    }
+    n + put_each(&mut d[n..], &text[i..], style)
+}
+
+// The text, encoded, at the front of d; its length encoded. It goes by blocks, of which most have no octet that is escaped.
+pub(crate) fn put_encoded(d: &mut [u8], text: &[u8], style: Style) -> usize
+    requires { ⌜ length (encode style (now text)) ≤ length (now d) ⌝ }
+    ensures { λ r. ⌜ Puts (encode style (now (text .entry))) r (now (d .entry)) (now (d .exit)) ⌝ }
+{
+    let mut n = 0usize;
+    let mut i = 0usize;
+    while 8 <= text.len() - i {
+        let e = i + 8;
+        n += put_block(&mut d[n..], &text[i..e], style);
+        i = e;
+    }
+    put_end(d, n, text, i, style)
 }
 
 // Whether the octet can be written in this field: where there are escapes, every octet that is a stop has one.
