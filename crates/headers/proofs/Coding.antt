@@ -489,7 +489,8 @@ encode-bare s (x ∷ xs) h =
 
 -- a text whose octets from b on are such, where n octets are written of those before i
 pub encode-tail : (s : Style) (xs : List ℕ) (b i n : ℕ) → b ≤ i → i ≤ length xs → every (bare s) (drop b xs) ≡ true
-    → n + length (encode s (drop i xs)) ≡ length (encode s xs) → (encode s xs ≡ encode s (take b xs) ++ drop b xs) × (n ≡ length (encode s (take b xs)) + (i - b))
+    → n + length (encode s (drop i xs)) ≡ length (encode s xs)
+    → (encode s xs ≡ encode s (take b xs) ++ drop b xs) × (n ≡ length (encode s (take b xs)) + (i - b))
 encode-tail s xs b i n bi ix h e =
     let split : encode s xs ≡ encode s (take b xs) ++ drop b xs =
     ap (encode s) (sym (take-append-drop b xs)) ∙ encode-append s (take b xs) (drop b xs) ∙ ap (encode s (take b xs) ++_) (encode-bare s (drop b xs) h) in

@@ -16,7 +16,7 @@ use lib.Seq.{drop-cons, drop-drop, take-all, take-take, length-take-le}
 use borrow.Author.Tests.{not-true, not-false, eqb-true, ltb-true, ltb-false}
 use Rattle.headers.specs.Rows.{every}
 use Rattle.headers.specs.Stretches.{span, plain-in, not-back, Stretch}
-use Rattle.headers.proofs.Rows.{cond-case, and-left, and-right, or-false-right, every-step, every-end, every-drop, every-left}
+use Rattle.headers.proofs.Rows.{cond-case, and-left, and-right, or-false-right, refuted, never, every-step, every-end, every-drop, every-left}
 
 -- a part's length
 pub part-long : (l : List ℕ) (i e : ℕ) → i ≤ e → e ≤ length l → length (take (e - i) (drop i l)) ≡ e - i
@@ -66,6 +66,11 @@ span-tail p s i e ei is h =
     let passed = span-every p (drop i s) [] on in
     omega (arith, passed, ap (span p) (append-nil (drop i s)), length-drop i s)
 
+-- a test of two rows
+every-both : (p : ℕ → Bool) (xs ys : List ℕ) → every p (xs ++ ys) ≡ every p xs && every p ys
+every-both p [] ys = refl
+every-both p (x ∷ xs) ys = ap (λ t. p x && t) (every-both p xs ys) ∙ sym (and-assoc (p x) (every p xs) (every p ys))
+
 -- read off a row at a place
 module _ (p : ℕ → Bool) (s : List ℕ) (i : ℕ) where
   pub every-more : (ok : Bool) → i < length s → (ok && p (getD s i 0)) && every p (drop (i + 1) s) ≡ ok && every p (drop i s)
@@ -73,6 +78,29 @@ module _ (p : ℕ → Bool) (s : List ℕ) (i : ℕ) where
 
   pub every-done : (ok : Bool) → length s ≤ i → ok && every p (drop i s) ≡ ok
   every-done ok h = ap (λ t. ok && t) (every-end p s i h) ∙ and-true ok
+
+  -- a block more
+  pub every-block : (ok : Bool) (e : ℕ) → i ≤ e → (ok && every p (take (e - i) (drop i s))) && every p (drop e s) ≡ ok && every p (drop i s)
+  every-block ok e h =
+      let on : i + (e - i) ≡ e = omega arith in
+      let rest : drop (e - i) (drop i s) ≡ drop e s = drop-drop (e - i) i s ∙ ap (λ k. drop k s) on in
+      and-assoc ok _ _
+      ∙ ap (λ t. ok && t) (ap (λ z. every p (take (e - i) (drop i s)) && every p z) (sym rest)
+      ∙ sym (every-both p (take (e - i) (drop i s)) (drop (e - i) (drop i s))) ∙ ap (every p) (take-append-drop (e - i) (drop i s)))
+
+  -- the last block, of which some octets were tested already
+  pub every-last-block : (ok : Bool) (b : ℕ) → b ≤ i → ok && every p (drop i s) ≡ every p s → ok && every p (drop b s) ≡ every p s
+  every-last-block ok b h w = by (every p s) refl
+    where
+      on : every p (drop b s) ≡ true → every p (drop i s) ≡ true
+      on t =
+          let far : b + (i - b) ≡ i = omega arith in
+          ap (λ k. every p (drop k s)) (sym far) ∙ ap (every p) (sym (drop-drop (i - b) b s)) ∙ every-drop p (i - b) (drop b s) t
+
+      by : (t : Bool) → every p s ≡ t → ok && every p (drop b s) ≡ t
+      by true q = rw (and-left ok _ (w ∙ q), every-drop p b s q)
+      by false q =
+          refuted _ (λ t. never (sym (w ∙ q) ∙ ap (λ o. o && every p (drop i s)) (and-left ok _ t) ∙ on (and-right ok _ t)))
 
   pub span-block : (e : ℕ) → i ≤ e → e ≤ length s → every p (take (e - i) (drop i s)) ≡ true → e + span p (drop e s) ≡ i + span p (drop i s)
   span-block e ie h t =

@@ -1,12 +1,12 @@
 // One raw header line, written from an entry's name and value.
 ghost use mathlib.Core.Path.{_≡_};
-ghost use mathlib.Core.Bool.{true, _&&_};
+ghost use mathlib.Core.Bool.{true, cond, _&&_};
 ghost use Prim.Native.Nat.{_+_, _≤_, _<_};
 ghost use lib.ListN.{length, take, drop};
-ghost use lib.Dec.{leb};
+ghost use lib.Dec.{leb, ltb};
 ghost use Rattle.headers.specs.Rows.{every};
 ghost use Rattle.headers.specs.Text.{ascii, is-utf8};
-ghost use Rattle.headers.specs.Escapes.{writable, encode};
+ghost use Rattle.headers.specs.Escapes.{escaped, writable, encode};
 ghost use Rattle.headers.specs.Stretches.{plain-line};
 ghost use Rattle.headers.specs.Lines.{entry-of, can-stand, written-line};
 ghost use Rattle.headers.specs.declared.text.Field.the-variants.{Name};
@@ -18,6 +18,7 @@ use crate::text::Style;
 use crate::text::can_write;
 use crate::text::encoded_length;
 use crate::text::encoded_width;
+use crate::text::has_escape;
 use crate::text::is_writable;
 use crate::text::put_encoded;
 use crate::utf8::is_utf8;
@@ -48,8 +49,76 @@ pub(crate) struct Measured {
     pub ascii: bool,
 }
 
-// One pass over short text.
-fn measure(text: &[u8], style: Style, field: Field) -> Measured
+// What is known of a block: how many octets of it from a place on are escaped, and an octet that is below 128 where all of it are.
+pub(crate) struct Tally {
+    pub escapes: u8,
+    pub most: u8,
+}
+
+// The larger of two octets.
+fn larger(a: u8, b: u8) -> u8
+    ensures { λ r. ⌜ ltb r 128 ≡ ltb a 128 && ltb b 128 ⌝ }
+{
+    if a < b { b } else { a }
+}
+
+// One where the octet is escaped and is to be counted.
+fn escape_count(style: Style, x: u8, counts: bool) -> u8
+    ensures { λ r. ⌜ r ≡ cond (escaped style x && counts) 1 0 ⌝ }
+{
+    if has_escape(style, x) & counts { 1 } else { 0 }
+}
+
+// One pass over a block, in which octets from a place on are counted: every octet is looked at, so that many are at once.
+fn tally_block(block: &[u8], from: usize, style: Style) -> Tally
+    requires { ⌜ (length (now block) ≡ 32) × (from ≤ 32) ⌝ }
+    ensures { λ r. ⌜
+        (r .escapes + length (drop from (now (block .entry))) ≡ length (encode style (drop from (now (block .entry)))))
+        × (ltb (r .most) 128 ≡ every ascii (now (block .entry)))
+        ⌝ }
+{
+    let mut escapes = 0u8;
+    let mut most = 0u8;
+    let mut i = 0usize;
+    while i < block.len() {
+        escapes += escape_count(style, block[i], from <= i);
+        most = larger(most, block[i]);
+        i += 1;
+    }
+    Tally { escapes, most }
+}
+
+// The same as measure, of text that any octet can be written in and that has a block or more: by blocks. The last ends with the text;
+// those of its octets that the block before it has too are not counted again.
+fn measure_blocks(text: &[u8], style: Style) -> Measured
+    requires { ⌜ (32 ≤ length (now text)) × (length (now text) ≤ 511) ⌝ }
+    ensures { λ r. ⌜
+        (r .writable ≡ true)
+        × (r .length ≡ length (encode style (now (text .entry))))
+        × (r .ascii ≡ every ascii (now (text .entry)))
+        ⌝ }
+{
+    let mut n = text.len();
+    let mut most = 0u8;
+    let mut i = 0usize;
+    while 32 <= text.len() - i {
+        let e = i + 32;
+        let t = tally_block(&text[i..e], 0, style);
+        n += t.escapes as usize;
+        most = larger(most, t.most);
+        i = e;
+    }
+    let last = text.len() - 32;
+    let t = tally_block(&text[last..], i - last, style);
+    Measured {
+        length: n + (t.escapes as usize),
+        writable: true,
+        ascii: larger(most, t.most) < 128,
+    }
+}
+
+// One pass over short text, octet by octet.
+fn measure_each(text: &[u8], style: Style, field: Field) -> Measured
     requires { ⌜ length (now text) ≤ 511 ⌝ }
     ensures { λ r. ⌜
         (r .writable ≡ every (writable style field) (now (text .entry)))
@@ -69,7 +138,7 @@ fn measure(text: &[u8], style: Style, field: Field) -> Measured
             };
         }
         n += encoded_width(style, x);
-        most = if most < x { x } else { most };
+        most = larger(most, x);
         i += 1;
     }
     Measured {
@@ -77,6 +146,20 @@ fn measure(text: &[u8], style: Style, field: Field) -> Measured
         writable: true,
         ascii: most < 128,
     }
+}
+
+// One pass over short text.
+fn measure(text: &[u8], style: Style, field: Field) -> Measured
+    requires { ⌜ length (now text) ≤ 511 ⌝ }
+    ensures { λ r. ⌜
+        (r .writable ≡ every (writable style field) (now (text .entry)))
+        × (r .writable ≡ true → (r .length ≡ length (encode style (now (text .entry)))) × (r .ascii ≡ every ascii (now (text .entry))))
+        ⌝ }
+{
+    if style.escapes & (32 <= text.len()) {
+        return measure_blocks(text, style);
+    }
+    measure_each(text, style, field)
 }
 
 // Whether the text is UTF-8, where it is known whether every octet is below 128.

@@ -191,7 +191,7 @@ pub(crate) fn put_decoded(d: &mut [u8], raw: &[u8], style: Style) -> usize
 }
 
 // The same as is_escaped by plain comparisons, so that a loop takes many octets at a time.
-fn has_escape(style: Style, x: u8) -> bool
+pub(crate) fn has_escape(style: Style, x: u8) -> bool
     ensures { λ r. ⌜ r ≡ escaped style x ⌝ }
 {
     style.escapes & ((x == 13) | ((x == 10) | ((x == 58) | (x == 92))))

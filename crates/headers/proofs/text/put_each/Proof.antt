@@ -35,7 +35,8 @@ put-octet-requires : tie.Need-put-octet-requires Inv-loop μ-loop
 put-octet-requires c κs = let l = c .before .before .before .loop in
     let a = c .before .before .before .before .before .before .args in
     let xs = a .text .now in
-    partly-fits (l .inv .1) (encode-octet (a .style) (getD xs (l .i) 0)) (encode (a .style) (drop (l .i + 1) xs)) (encode-step (a .style) xs (l .i) (c .before .before .loop-test .taken))
+    partly-fits (l .inv .1) (encode-octet (a .style) (getD xs (l .i) 0)) (encode (a .style) (drop (l .i + 1) xs))
+    (encode-step (a .style) xs (l .i) (c .before .before .loop-test .taken))
 
 add-n : tie.Need-add-n Inv-loop μ-loop
 add-n c = let l = c .before .before .before .before .before .before .loop in
@@ -54,8 +55,11 @@ loop-again c = let l = c .before .before .before .before .before .before .loop i
     let a = c .before .before .before .before .before .before .before .before .before .args in
     let p = c .before .before .put-octet in
     let xs = a .text .now in
-    let step = encode-step (a .style) xs (l .i) (c .before .before .before .before .before .loop-test .taken) in
-    (omega arith, partly-put (l .inv .1) (encode-octet (a .style) (getD xs (l .i) 0)) (encode (a .style) (drop (l .i + 1) xs)) step (p .result) (p .last .0) (p .ensures .0) (p .ensures .1))
+    let step = encode-step (a .style) xs (l .i) (c .before .before .before .before .before .loop-test .taken) in (
+      omega arith,
+      partly-put (l .inv .1) (encode-octet (a .style) (getD xs (l .i) 0)) (encode (a .style) (drop (l .i + 1) xs)) step
+          (p .result) (p .last .0) (p .ensures .0) (p .ensures .1),
+    )
 
 same-length : tie.Need-same-length Inv-loop μ-loop
 same-length c = c .before .loop .inv .1 .as-long
