@@ -49,7 +49,7 @@ pub(crate) struct Measured {
     pub ascii: bool,
 }
 
-// What is known of a block: how many octets of it from a place on are escaped, and an octet that is below 128 where all of it are.
+// What is known of a block: how many octets of it from a place on are escaped, and its largest octet.
 pub(crate) struct Tally {
     pub escapes: u8,
     pub most: u8,
@@ -88,8 +88,8 @@ fn tally_block(block: &[u8], from: usize, style: Style) -> Tally
     Tally { escapes, most }
 }
 
-// The same as measure, of text that any octet can be written in and that has a block or more: by blocks. The last ends with the text;
-// those of its octets that the block before it has too are not counted again.
+// One pass over text of a block or more, where any octet can be written: by blocks. The last block ends with the text; those of its
+// octets that the block before it has too are not counted again.
 fn measure_blocks(text: &[u8], style: Style) -> Measured
     requires { ⌜ (32 ≤ length (now text)) × (length (now text) ≤ 511) ⌝ }
     ensures { λ r. ⌜
