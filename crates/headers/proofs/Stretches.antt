@@ -67,7 +67,7 @@ span-tail p s i e ei is h =
     omega (arith, passed, ap (span p) (append-nil (drop i s)), length-drop i s)
 
 -- a test of two rows
-every-both : (p : ℕ → Bool) (xs ys : List ℕ) → every p (xs ++ ys) ≡ every p xs && every p ys
+pub every-both : (p : ℕ → Bool) (xs ys : List ℕ) → every p (xs ++ ys) ≡ every p xs && every p ys
 every-both p [] ys = refl
 every-both p (x ∷ xs) ys = ap (λ t. p x && t) (every-both p xs ys) ∙ sym (and-assoc (p x) (every p xs) (every p ys))
 

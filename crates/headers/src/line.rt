@@ -117,6 +117,25 @@ fn measure_blocks(text: &[u8], style: Style) -> Measured
     }
 }
 
+// The same of text that has no block: as the front of one that is filled with 0, which is not escaped.
+fn measure_short(text: &[u8], style: Style) -> Measured
+    requires { ⌜ length (now text) < 32 ⌝ }
+    ensures { λ r. ⌜
+        (r .writable ≡ true)
+        × (r .length ≡ length (encode style (now (text .entry))))
+        × (r .ascii ≡ every ascii (now (text .entry)))
+        ⌝ }
+{
+    let mut block = [0u8; 32];
+    copy(&mut block, 0, text);
+    let t = tally_block(&block, 0, style);
+    Measured {
+        length: text.len() + (t.escapes as usize),
+        writable: true,
+        ascii: t.most < 128,
+    }
+}
+
 // One pass over short text, octet by octet.
 fn measure_each(text: &[u8], style: Style, field: Field) -> Measured
     requires { ⌜ length (now text) ≤ 511 ⌝ }
@@ -156,10 +175,13 @@ fn measure(text: &[u8], style: Style, field: Field) -> Measured
         × (r .writable ≡ true → (r .length ≡ length (encode style (now (text .entry)))) × (r .ascii ≡ every ascii (now (text .entry))))
         ⌝ }
 {
-    if style.escapes & (32 <= text.len()) {
-        return measure_blocks(text, style);
+    if !style.escapes | (text.len() < 4) {
+        return measure_each(text, style, field);
     }
-    measure_each(text, style, field)
+    if text.len() < 32 {
+        return measure_short(text, style);
+    }
+    measure_blocks(text, style)
 }
 
 // Whether the text is UTF-8, where it is known whether every octet is below 128.
