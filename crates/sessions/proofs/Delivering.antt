@@ -21,9 +21,11 @@ use lib.Dec.{eqb, leb, ltb}
 use borrow.Author.Tests.{eq-eqb, ne-eqb, eqb-true, leb-true, leb-false, ltb-false}
 use Rattle.headers.specs.Rows.{every, any, empty, same, first-of}
 use Rattle.headers.specs.Answers.{accepted, refused, settle}
-use Rattle.sessions.specs.Stores.{ids, padded, laid, live, is-zero, bad-length, first-from}
-use Rattle.sessions.specs.Places.{Fits, search-says, is-at}
-use Rattle.sessions.specs.Compaction.{kept}
+use Rattle.stores.specs.Places.{padded, is-zero}
+use Rattle.stores.specs.Searches.{first-from, search-says, is-at}
+use Rattle.sessions.specs.Stores.{ids, laid, live, bad-length}
+use Rattle.sessions.specs.Places.{Fits}
+use Rattle.stores.specs.Compaction.{kept}
 use Rattle.sessions.specs.Deliveries.{deliveries-max, label-max, auto-mode, client-mode, Pending, paired, pending, places-of, labels-of, labelled, is-pending, mode-of, goes-with, settled, settled-as, settle-label, without, with-pending, with-modes, emptied, subscribe, unsubscribe, record-label, acknowledging, idle-modes, Laid}
 use Rattle.sessions.specs.Accounts.{Delivery}
 use Rattle.sessions.specs.Sessions.{subscriptions-max, id-max, open-phase, in-phase, ids-of, with-deliveries, is-valid, SizedDeliveries}
@@ -31,7 +33,7 @@ use Rattle.sessions.specs.Held.{delivery-of, held-deliveries, nth, nothi
 use Rattle.sessions.specs.Calls.{free-place, place-named, is-no-label, is-auto, deliver-checks, deliver-answer, deliver-session, recorded-by}
 use Rattle.sessions.specs.Steps.{outcome-with, Records, RecordsAt, MayRecord, unrecorded-by, recorded-as, label-checks}
 use Rattle.sessions.specs.Answers.{delivery-says}
-use Rattle.sessions.specs.declared.store.Search.{Search}
+use Rattle.stores.specs.declared.search.Search.{Search}
 use Rattle.sessions.specs.declared.command.Kind.the-variants.{Subscriptions}
 use Rattle.sessions.specs.declared.delivery.Deliveries.{Deliveries}
 use Rattle.sessions.specs.declared.session.Session.{Session}
@@ -39,7 +41,7 @@ use Rattle.sessions.specs.declared.session.Outcome.{Outcome}
 use Rattle.sessions.specs.declared.session.Recording.{Recording}
 use Rattle.sessions.specs.declared.session.PendingAnswer.{PendingAnswer}
 use Rattle.sessions.specs.declared.session.PendingAt.{PendingAt}
-use Rattle.sessions.proofs.Searching.{told-any}
+use Rattle.stores.proofs.Searching.{told-any}
 use Rattle.sessions.proofs.Settling.{first-free}
 use Rattle.sessions.proofs.Stores.{place-padded, lengths-ids, valid-clean}
 use Rattle.sessions.proofs.Pending.{emptied-laid, held-idle, places-ack, holds-laid}

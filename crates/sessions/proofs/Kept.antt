@@ -17,7 +17,8 @@ use Rattle.headers.specs.Block.{Entry, entries, listed}
 use Rattle.headers.specs.Answers.{Answer, accepted, refused, settle}
 use Rattle.headers.proofs.Rows.{cond-case, and-left, and-right, or-false-left, or-false-right, same-eq, or-yes, and-false, empty-zero, empty-eqb, every-replicate}
 use Rattle.frames.specs.Grammar.{ABORT, ACK, BEGIN, COMMIT, DISCONNECT, NACK, SEND, SUBSCRIBE, UNSUBSCRIBE}
-use Rattle.sessions.specs.Stores.{ids, lengths, clean, distinct, valid-store, live, used, use-checks, bad-length, replaced, first-from}
+use Rattle.stores.specs.Searches.{replaced, first-from}
+use Rattle.sessions.specs.Stores.{ids, lengths, clean, distinct, valid-store, live, used, use-checks, bad-length}
 use Rattle.sessions.specs.Values.{HeartBeats}
 use Rattle.sessions.specs.Headers.{value-of, is, opens, naming, mode-named, mode-asked, settles, is-some, naming-of}
 use Rattle.sessions.specs.Deliveries.{individual-mode, auto-mode, label-max, Pending, pending, labelled, is-pending, mode-of, goes-with, with-pending, with-modes, settled-as, settle-label, subscribe, unsubscribe, record-label, acknowledging, valid-deliveries, no-deliveries}
@@ -33,7 +34,7 @@ use Rattle.sessions.specs.declared.command.Naming.{Naming}
 use Rattle.sessions.specs.declared.delivery.Deliveries.{Deliveries}
 use Rattle.sessions.specs.declared.session.Session.{Session}
 use Rattle.sessions.proofs.Checks.{Passes, all-pass, Passed, frame-passed, naming-settles, left-case}
-use Rattle.sessions.proofs.Searching.{found-at, any-first, first-at}
+use Rattle.stores.proofs.Searching.{is-some as finds, found-at, any-first, first-at}
 use Rattle.sessions.proofs.Stores.{lengths-ids, lengths-set, use-some, use-new, use-live, use-room, zeros-ids}
 use Rattle.sessions.proofs.Pending.{Holds, Proper, good, holds-emptied, holds-settled, holds-snoc, holds-unsubscribed, holds-subscribed}
 use Rattle.sessions.proofs.Keeping.{Held, Valid, valid-record, record-valid, subscriptions-fit, held-closed, held-heard, held-opened, held-effect, held-deliver, held-frame, held-heart-beat, held-made, held-deliveries, held-naming, OfSome, Small, of-small}
@@ -63,7 +64,7 @@ some-first : {A : Type 0} (p : A → Bool) (xs : List A) → any p xs ≡ true �
 some-first p xs h = by (first-from p 0 xs) refl
   where
     by : (o : Option ℕ) → first-from p 0 xs ≡ o → (k : ℕ) × (o ≡ some k)
-    by none e = absurd (true≢false (sym h ∙ any-first p 0 xs ∙ ap Rattle.sessions.proofs.Searching.is-some e))
+    by none e = absurd (true≢false (sym h ∙ any-first p 0 xs ∙ ap finds e))
     by (some k) e = (k, refl)
 
 -- ---- a session with the sizes of its arrays, and valid

@@ -1,13 +1,9 @@
 -- The laws of sessions that other crates may cite, by file.
 pub mod Rows
-pub mod Searching
 pub mod Walking
 pub mod Settling
-pub mod Compacting
-pub mod Keying
 pub mod Telling
 pub mod Accounts
-pub mod Filling
 pub mod Stores
 pub mod Values
 pub mod Locating

@@ -12,13 +12,15 @@ use lib.Seq.{take-at, drop-at, length-take-le, getD-set-other}
 use borrow.Author.Tests.{leb-true, le-leb, not-true, eqb-false, ne-eqb}
 use Rattle.headers.specs.Rows.{every, any, empty, same, All}
 use Rattle.headers.proofs.Rows.{and-left, and-right, cond-case, every-replicate, empty-eqb, or-yes, or-false-left, or-false-right}
-use Rattle.sessions.specs.Stores.{ids, laid, lengths, is-zero, distinct, live, valid-store}
+use Rattle.stores.specs.Places.{is-zero}
+use Rattle.sessions.specs.Stores.{ids, laid, lengths, distinct, live, valid-store}
 use Rattle.sessions.specs.Sessions.{SizedDeliveries}
 use Rattle.sessions.specs.Deliveries.{deliveries-max, label-max, auto-mode, individual-mode, Pending, paired, pending, labels-of, places-of, filled, labelled, with-pending, with-modes, without, settled, emptied, unsubscribe, Laid, known-modes, idle-modes, valid-labels, acknowledging, valid-places, valid-modes, valid-pending, valid-deliveries}
 use Rattle.sessions.specs.Places.{Fits}
 use Rattle.sessions.specs.declared.delivery.Deliveries.{Deliveries}
 use Rattle.sessions.proofs.Rows.{same-apart}
-use Rattle.sessions.proofs.Stores.{are-short, ids-laid, length-laid, laid-valid, valid-distinct, valid-clean, valid-short, valid-fits, ids-short, length-ids, lengths-ids, zeros}
+use Rattle.stores.proofs.Filling.{zeros}
+use Rattle.sessions.proofs.Stores.{are-short, ids-laid, length-laid, laid-valid, valid-distinct, valid-clean, valid-short, valid-fits, ids-short, length-ids, lengths-ids}
 
 -- ---- a view laid out
 

@@ -1,7 +1,7 @@
 -- Laws of choices by tests, and of rows that are not the same. Assumes nothing.
 use mathlib.Core.Path.{_≡_, refl, sym, _∙_, ap}
 use mathlib.Core.Logic.{_≢_}
-use mathlib.Core.Bool.{Bool, true, false, cond, _&&_, _||_, not, true≢false}
+use mathlib.Core.Bool.{Bool, true, false, cond, _||_, not, true≢false}
 use mathlib.Core.List.{List, [], _∷_}
 use Prim.Native.Nat.{ℕ}
 use borrow.Author.Tests.{not-true}
@@ -9,10 +9,6 @@ use Rattle.headers.specs.Rows.{empty, same}
 use Rattle.headers.proofs.Rows.{or-false-left, refuted, same-eq, same-self, not-empty}
 
 -- ---- choices of tests
-
-pub and-assoc : (a b c : Bool) → a && (b && c) ≡ (a && b) && c
-and-assoc true b c = refl
-and-assoc false b c = refl
 
 pub or-later : (a b c : Bool) → a || not (b || c) ≡ true → a || not c ≡ true
 or-later true b c h = refl

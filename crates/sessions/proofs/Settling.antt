@@ -13,14 +13,16 @@ use lib.Seq.{take-length}
 use borrow.Author.Tests.{ne-eqb, lt-ltb, le-ltb}
 use Rattle.headers.specs.Rows.{empty, same}
 use Rattle.headers.proofs.Rows.{empty-eqb, empty-zero}
-use Rattle.sessions.specs.Stores.{ids, live, bad-length, first-from}
-use Rattle.sessions.specs.Places.{Fits, search-says, is-at, when-needed, when-freed, when-entered, Settles}
-use Rattle.sessions.specs.declared.store.Search.{Search}
+use Rattle.stores.specs.Searches.{first-from, search-says, is-at}
+use Rattle.sessions.specs.Stores.{ids, live, bad-length}
+use Rattle.sessions.specs.Places.{Fits, when-needed, when-freed, when-entered, Settles}
+use Rattle.stores.specs.declared.search.Search.{Search}
 use Rattle.sessions.specs.declared.store.Settled.{Settled}
 use Rattle.sessions.specs.declared.store.Use.{Use}
 use Rattle.sessions.specs.declared.store.Use.the-variants.{Nothing, Need, Enter, Free}
-use Rattle.sessions.proofs.Searching.{told-any, found-at}
-use Rattle.sessions.proofs.Walking.{Before, Turn, first-place, part-fits, room, length-fits, empty-front}
+use Rattle.stores.proofs.Searching.{told-any, found-at}
+use Rattle.stores.proofs.Walking.{Before, first-place}
+use Rattle.sessions.proofs.Walking.{Turn, part-fits, room, length-fits, empty-front}
 
 -- the first free place, by the lengths
 pub first-free : (w n j : ℕ) (s ls : List ℕ) → Fits w n s ls → first-from empty j (ids w s ls) ≡ first-from (λ l. eqb l 0) j ls

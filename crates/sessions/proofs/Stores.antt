@@ -13,13 +13,17 @@ use Prim.Native.Nat.{ℕ, zero, suc, _+_, _-_, _*_, _≤_, _<_}
 use native.Mathlib.Nat.{zero-add, zero-mul, suc-mul, sub-zero}
 use native.Mathlib.Omega.{arith}
 use lib.ListN.{length, take, drop, getD, replicate, set, length-append, length-replicate, length-drop, take-append-drop, length-map, replicate-append-replicate}
-use lib.Seq.{length-take-le, take-take, take-add, drop-drop, take-at, drop-at}
+use lib.Seq.{length-take-le, take-add, drop-drop, take-at, drop-at}
 use lib.Dec.{eqb, leb, ltb, leb·zero}
-use borrow.Author.Tests.{leb-true, eqb-true, not-true, not-false, ltb-false, le-leb}
+use borrow.Author.Tests.{leb-true, not-true, not-false, ltb-false, le-leb}
 use Rattle.headers.specs.Rows.{empty, every, any, same, All}
 use Rattle.headers.specs.Answers.{accepted, settle}
 use Rattle.headers.proofs.Rows.{cond-case, and-left, and-right, or-false-left, or-false-right, same-eq, not-empty, empty-not, every-replicate}
-use Rattle.sessions.specs.Stores.{ids, padded, laid, lengths, short, is-zero, clean, live, distinct, valid-store, replaced, used, enters, wants-live, use-checks}
+use Rattle.stores.specs.Places.{padded, is-zero}
+use Rattle.stores.specs.Searches.{replaced}
+use Rattle.stores.proofs.Searching.{replaced-length}
+use Rattle.stores.proofs.Filling.{padded-take}
+use Rattle.sessions.specs.Stores.{ids, laid, lengths, short, clean, live, distinct, valid-store, used, enters, wants-live, use-checks}
 use Rattle.sessions.specs.Places.{Fits, put-in}
 use Rattle.sessions.specs.Histories.{by-use}
 use Rattle.sessions.proofs.Rows.{or-later, or-else, or-swap, or-cond, cond-either, nil-apart, empty-apart, apart}
@@ -46,11 +50,6 @@ fits-next {w} {n} {s} {l} {ls} f =
       lens-short = and-right (leb l w) (short w ls) (f .lens-short);
     }
 
--- a row of zeros
-pub zeros : (s : List ℕ) → is-zero s ≡ true → s ≡ replicate (length s) 0
-zeros [] h = refl
-zeros (x ∷ s) h = ap₂ (_∷_) (eqb-true x 0 (and-left (eqb x 0) (is-zero s) h)) (zeros s (and-right (eqb x 0) (is-zero s) h))
-
 nil : (s : List ℕ) → length s ≡ 0 → s ≡ []
 nil [] h = refl
 nil (x ∷ s) h = absurd (omega arith)
@@ -67,15 +66,6 @@ unfolding ids
 lengths-ids w n s [] f = refl
 lengths-ids w n s (l ∷ ls) f =
     ap₂ (_∷_) (length-take-le l s (omega (arith, fits-first f, fits-long f))) (lengths-ids w (length ls) (drop w s) ls (fits-next f))
-
--- the first place
-pub padded-take : (w l : ℕ) (s : List ℕ) → l ≤ w → w ≤ length s → is-zero (drop l (take w s)) ≡ true → padded w (take l s) ≡ take w s
-padded-take w l s h k z =
-    let long : length (take l s) ≡ l = length-take-le l s (omega arith) in
-    let rest : length (drop l (take w s)) ≡ w - l = length-drop l (take w s) ∙ ap (_- l) (length-take-le w s k) in
-    ap (λ m. take l s ++ replicate m 0) (ap (w -_) long ∙ sym rest)
-    ∙ ap₂ (_++_) (sym (take-take l w s h)) (sym (zeros (drop l (take w s)) z))
-    ∙ take-append-drop l (take w s)
 
 pub place-padded : (w n : ℕ) (s ls : List ℕ) → Fits w n s ls → clean w s ls ≡ true → (i : ℕ) → i < length ls → padded w (getD (ids w s ls) i []) ≡ take w (drop (i * w) s)
 unfolding ids clean
@@ -226,11 +216,6 @@ laid-fits w n is h e =
 -- ---- the first that passes a test, replaced
 
 module _ (p : List ℕ → Bool) (y : List ℕ) where
-  pub replaced-length : (xs : List (List ℕ)) → length (replaced p y xs) ≡ length xs
-  unfolding replaced
-  replaced-length [] = refl
-  replaced-length (x ∷ xs) = cond-case (λ (z : List (List ℕ)). length z ≡ suc (length xs)) (p x) (λ e. refl) (λ e. ap suc (replaced-length xs))
-
   pub replaced-short : (w : ℕ) (xs : List (List ℕ)) → leb (length y) w ≡ true → are-short w xs ≡ true → are-short w (replaced p y xs) ≡ true
   unfolding replaced
   replaced-short w [] k h = refl

@@ -15,18 +15,20 @@ use lib.Seq.{length-take-le, drop-drop, set-at}
 use Rattle.headers.specs.Rows.{first-of}
 use Rattle.headers.specs.Answers.{Puts}
 use Rattle.headers.proofs.Rows.{cond-case, and-left, and-right, every-drop, every-replicate, or-yes}
-use Rattle.sessions.specs.Stores.{ids, padded, laid, lengths, is-zero, clean, first-from}
+use Rattle.stores.specs.Places.{padded, is-zero}
+use Rattle.stores.specs.Searches.{first-from}
+use Rattle.sessions.specs.Stores.{ids, laid, lengths, clean}
 use Rattle.sessions.specs.Places.{Fits, put-in}
-use Rattle.sessions.specs.Compaction.{rows, joined, stays-at, kept, kept-octets, Compacts}
+use Rattle.stores.specs.Compaction.{rows, joined, stays-at, kept, kept-octets, kept-in, Compacts}
 use Rattle.sessions.specs.Sessions.{SizedDeliveries}
 use Rattle.sessions.specs.Deliveries.{label-max, Pending, paired, pending, labels-of, places-of, filled, with-pending, labelled, without, settled, Laid}
-use Rattle.sessions.specs.declared.compaction.Range.{Range}
+use Rattle.stores.specs.declared.compaction.Range.{Range}
 use Rattle.sessions.specs.declared.delivery.Deliveries.{Deliveries}
-use Rattle.sessions.proofs.Stores.{fits-first, fits-long, fits-next, padded-take, laid-ids, length-ids, lengths-ids, zeros}
-use Rattle.sessions.proofs.Compacting.{kept-long}
-use Rattle.sessions.proofs.Walking.{drop-one}
-use Rattle.sessions.proofs.Filling.{padded-long}
-use Rattle.sessions.proofs.Searching.{first-at}
+use Rattle.stores.proofs.Filling.{padded-take, zeros, padded-long}
+use Rattle.sessions.proofs.Stores.{fits-first, fits-long, fits-next, laid-ids, length-ids, lengths-ids}
+use Rattle.stores.proofs.Compacting.{kept-long, kept-in-all}
+use Rattle.stores.proofs.Walking.{drop-one}
+use Rattle.stores.proofs.Searching.{first-at}
 use Rattle.sessions.proofs.Pending.{places-paired, labels-paired}
 
 -- ---- rows and what stays of them
@@ -274,22 +276,24 @@ module _ (d : Deliveries) (sized : SizedDeliveries d) (l : Laid d) (n : ℕ) (e 
   places-same : code-places ≡ take (d .count) (d .places)
   places-same = front-part n (d .count) (d .places) e
 
-  pub code-compacts-labels : (out : List ℕ) → length out ≡ 2048 → Compacts 32 code-store code-places out
-  code-compacts-labels out h = rw (store-same, places-same) (compacts-labels d sized l out h)
+  -- what each of the three calls put
+  module _ (g : Range) where
+    kept-labels-in : kept-in g 32 code-store code-places (replicate 2048 0) ≡ kept-octets g 32 0 (take (d .count * 32) (d .labels)) (take (d .count) (d .places))
+    kept-labels-in = rw (store-same, places-same) (kept-in-all g 32 _ _ _ (compacts-labels d sized l (replicate 2048 0) refl))
 
-  pub code-compacts-lens : (out : List ℕ) → length out ≡ 64 → Compacts 1 code-lens code-places out
-  code-compacts-lens out h = rw (lens-same, places-same) (compacts-lens d sized l out h)
+    kept-lens-in : kept-in g 1 code-lens code-places (replicate 64 0) ≡ kept-octets g 1 0 (take (d .count) (d .lens)) (take (d .count) (d .places))
+    kept-lens-in = rw (lens-same, places-same) (kept-in-all g 1 _ _ _ (compacts-lens d sized l (replicate 64 0) refl))
 
-  pub code-compacts-places : (out : List ℕ) → length out ≡ 64 → Compacts 1 code-places code-places out
-  code-compacts-places out h = rw places-same (compacts-places d sized l out h)
+    kept-places-in : kept-in g 1 code-places code-places (replicate 64 0) ≡ kept-octets g 1 0 (take (d .count) (d .places)) (take (d .count) (d .places))
+    kept-places-in = rw places-same (kept-in-all g 1 _ _ _ (compacts-places d sized l (replicate 64 0) refl))
 
-  pub without-at : (g : Range) (a b c : List ℕ) (i j r m : ℕ) → Puts (kept-octets g 32 0 code-store code-places) i (replicate 2048 0) a → Puts (kept-octets g 1 0 code-lens code-places) j (replicate 64 0) b
-      → Puts (kept-octets g 1 0 code-places code-places) r (replicate 64 0) c → (r ≤ 64 → m ≡ r)
+  pub without-at : (g : Range) (a b c : List ℕ) (i j r m : ℕ) → Puts (kept-in g 32 code-store code-places (replicate 2048 0)) i (replicate 2048 0) a
+      → Puts (kept-in g 1 code-lens code-places (replicate 64 0)) j (replicate 64 0) b → Puts (kept-in g 1 code-places code-places (replicate 64 0)) r (replicate 64 0) c → (r ≤ 64 → m ≡ r)
       → record { labels = a; lens = b; places = c; modes = d .modes; count = m } ≡ with-pending d (kept g 0 (places-of (pending d)) (pending d))
   without-at g a b c i j r m pa pb pc em =
       let (x, y, z) = kept-room d sized l g in
-      let q : Puts (kept-octets g 1 0 (take (d .count) (d .places)) (take (d .count) (d .places))) r (replicate 64 0) c = rw places-same at pc in
-      without-laid d sized l g a b c i j r m (rw (store-same, places-same) at pa) (rw (lens-same, places-same) at pb) q x y z (em (omega (arith, q .0, z)))
+      let q : Puts (kept-octets g 1 0 (take (d .count) (d .places)) (take (d .count) (d .places))) r (replicate 64 0) c = rw (kept-places-in g) at pc in
+      without-laid d sized l g a b c i j r m (rw (kept-labels-in g) at pa) (rw (kept-lens-in g) at pb) q x y z (em (omega (arith, q .0, z)))
 
 -- ---- which of them stay
 

@@ -15,16 +15,20 @@ use lib.Seq.{drop-drop, drop-append-le, take-at}
 use borrow.Author.Tests.{eq-eqb}
 use Rattle.headers.specs.Rows.{any, empty, same}
 use Rattle.headers.proofs.Rows.{and-left, and-right, same-eq, refuted, empty-zero, empty-not, or-yes}
-use Rattle.sessions.specs.Stores.{ids, padded, is-zero, clean, live, distinct, first-from}
-use Rattle.sessions.specs.Places.{Fits, Clean, Keyed, again, search-says, is-at}
-use Rattle.sessions.specs.Compaction.{rows}
-use Rattle.sessions.specs.Keys.{key, keys}
-use Rattle.sessions.specs.declared.store.Search.{Search}
+use Rattle.stores.specs.Places.{padded, is-zero}
+use Rattle.stores.specs.Searches.{first-from, search-says, is-at}
+use Rattle.sessions.specs.Stores.{ids, clean, live, distinct}
+use Rattle.sessions.specs.Places.{Fits, Clean, Keyed, again}
+use Rattle.stores.specs.Compaction.{rows}
+use Rattle.stores.specs.Keys.{key, keys}
+use Rattle.stores.specs.declared.search.Search.{Search}
 use Rattle.sessions.proofs.Rows.{or-either}
-use Rattle.sessions.proofs.Searching.{told-any}
-use Rattle.sessions.proofs.Stores.{fits-first, fits-long, fits-next, padded-take}
-use Rattle.sessions.proofs.Keying.{keys-long, keys-turn}
-use Rattle.sessions.proofs.Walking.{Before, Turn, part-drop, part-from, part-fits, next-place, room, length-fits, id-fits, id-at, ids-behind, ids-at, lens-at, behind-fits, drop-one}
+use Rattle.stores.proofs.Searching.{told-any}
+use Rattle.stores.proofs.Filling.{padded-take}
+use Rattle.sessions.proofs.Stores.{fits-first, fits-long, fits-next}
+use Rattle.stores.proofs.Keying.{keys-long, keys-turn}
+use Rattle.stores.proofs.Walking.{Before, part-drop, part-from, drop-one}
+use Rattle.sessions.proofs.Walking.{Turn, part-fits, next-place, room, length-fits, id-fits, id-at, ids-behind, ids-at, lens-at, behind-fits}
 
 -- ---- an id that is there, by the keys
 

@@ -34,7 +34,7 @@ use Rattle.sessions.specs.declared.session.Session.{Session}
 use Rattle.sessions.proofs.Kept.{Kept, SameSubscriptions, first-passes, lens-are, lens-free, enter-place, free-there, other-lens, subscribe-id, unsubscribe-id, deliver-place, deliver-id, deliver-at, deliver-entered, kept-next, kept-made, made-none, made-ids}
 use Rattle.sessions.proofs.Keeping.{held-long, held-short, held-distinct}
 use Rattle.sessions.proofs.Checks.{Passed, frame-passed, naming-settles}
-use Rattle.sessions.proofs.Searching.{found-at}
+use Rattle.stores.proofs.Searching.{found-at}
 use Rattle.sessions.proofs.Stores.{ids-laid, used-short, use-short, use-some, use-new}
 use Rattle.sessions.specs.declared.store.Use.{Use}
 use Rattle.sessions.specs.declared.store.Use.the-variants.{Enter, Free}

@@ -9,12 +9,13 @@ use lib.Dec.{eqb}
 use lib.ListN.{length, take, drop, getD, drop-of-length-le, List·getD-eq-default}
 use Rattle.headers.specs.Rows.{every}
 use Rattle.headers.proofs.Rows.{and-no}
-use Rattle.sessions.specs.Stores.{is-zero, valid-store}
+use Rattle.stores.specs.Places.{is-zero}
+use Rattle.sessions.specs.Stores.{valid-store}
 use Rattle.sessions.specs.Deliveries.{auto-mode, some-lengths, idle-modes, acknowledging, valid-labels, valid-places, valid-deliveries}
 use Rattle.sessions.specs.Sessions.{open-phase, valid-numbers, valid-ids, is-valid}
 use Rattle.sessions.specs.Steps.{valid-parts}
 use Rattle.sessions.specs.declared.session.Session.{Session}
-use Rattle.sessions.proofs.Walking.{drop-one, part-from, part-drop}
+use Rattle.stores.proofs.Walking.{drop-one, part-from, part-drop}
 
 -- ---- tests in turn
 

@@ -10,7 +10,8 @@ use Rattle.headers.specs.Rows.{empty, any, same}
 use Rattle.headers.specs.Block.{Entry, entries, listed}
 use Rattle.headers.specs.Answers.{Answer, accepted, refused, Check, settle, is-block}
 use Rattle.frames.specs.Grammar.{DISCONNECT, SUBSCRIBE, UNSUBSCRIBE}
-use Rattle.sessions.specs.Stores.{live, used, use-checks, bad-length, first-from}
+use Rattle.stores.specs.Searches.{first-from}
+use Rattle.sessions.specs.Stores.{live, used, use-checks, bad-length}
 use Rattle.sessions.specs.Deliveries.{deliveries-max, label-max, auto-mode, mode-of, is-pending, settle-label, subscribe, unsubscribe, record-label}
 use Rattle.sessions.specs.Values.{HeartBeats, versions, heart-beats, heart-beat-max}
 use Rattle.sessions.specs.Opening.{shared-flags, none-shared, may-offer, interval, overdue}

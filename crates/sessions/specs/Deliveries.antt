@@ -8,7 +8,8 @@ use mathlib.Core.Path.{_≡_}
 use lib.ListN.{length, take, drop, getD, set, replicate}
 use lib.Dec.{eqb, leb}
 use Rattle.headers.specs.Rows.{every, any, first-of, same}
-use Rattle.sessions.specs.Stores.{ids, laid, lengths, short, is-zero, clean, valid-store}
+use Rattle.stores.specs.Places.{is-zero}
+use Rattle.sessions.specs.Stores.{ids, laid, lengths, short, clean, valid-store}
 use Rattle.sessions.specs.declared.delivery.Deliveries.{Deliveries}
 
 -- "up to 64 outstanding deliveries, each with a label of 1 to 32 octets"

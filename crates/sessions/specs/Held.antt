@@ -5,7 +5,7 @@ use mathlib.Core.Option.{Option, none, some}
 use mathlib.Core.List.{List, [], _∷_, map}
 use Prim.Native.Nat.{ℕ, zero, suc}
 use lib.ListN.{length, getD, replicate}
-use Rattle.sessions.specs.Stores.{padded}
+use Rattle.stores.specs.Places.{padded}
 use Rattle.sessions.specs.Deliveries.{Pending, pending, mode-of, label-max}
 use Rattle.sessions.specs.Accounts.{Delivery}
 use Rattle.sessions.specs.Sessions.{id-max, ids-of, is-valid}

@@ -1,7 +1,5 @@
 -- The definitions of versions, heart-beats, the clock and a session, by file.
 pub mod Stores
-pub mod Compaction
-pub mod Keys
 pub mod Deliveries
 pub mod Accounts
 pub mod Values

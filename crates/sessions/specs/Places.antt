@@ -1,15 +1,15 @@
 -- What the functions over a store give, in the code's types. Assumes nothing.
 use mathlib.Core.Path.{_≡_}
-use mathlib.Core.Bool.{Bool, true, false, _&&_, not}
-use mathlib.Core.Option.{Option, none, some}
+use mathlib.Core.Bool.{Bool, true, _&&_, not}
 use mathlib.Core.List.{List, [], _++_}
 use Prim.Native.Nat.{ℕ, _+_, _*_, _≤_, _<_}
 use lib.ListN.{length, take, drop, set}
 use Rattle.headers.specs.Answers.{accepted, refused, settle}
 use Rattle.headers.specs.Rows.{empty}
-use Rattle.sessions.specs.Stores.{padded, short, clean, live, used, use-checks}
-use Rattle.sessions.specs.Keys.{key, keys}
-use Rattle.sessions.specs.declared.store.Search.{Search}
+use Rattle.stores.specs.Places.{padded}
+use Rattle.sessions.specs.Stores.{short, clean, live, used, use-checks}
+use Rattle.stores.specs.Keys.{key, keys}
+use Rattle.stores.specs.declared.search.Search.{Search}
 use Rattle.sessions.specs.declared.store.Use.{Use}
 use Rattle.sessions.specs.declared.store.Use.the-variants.{Nothing, Need, Enter, Free}
 use Rattle.sessions.specs.declared.store.Settled.{Settled}
@@ -36,14 +36,6 @@ pub record Keyed (w n : ℕ) (s ls ks : List ℕ) (k : ℕ) (id : List ℕ) : Ty
 -- an id, not an empty one, is among others
 abbrev pub again : List ℕ → List (List ℕ) → Bool
 again id others = not (empty id) && live id others
-
-abbrev pub search-says : Search → Option ℕ
-search-says (Search.At k) = some k
-search-says Search.Nowhere = none
-
-abbrev pub is-at : Search → Bool
-is-at (Search.At k) = true
-is-at Search.Nowhere = false
 
 -- what becomes of an id that must be live, by where it was found
 abbrev pub when-needed : Search → Settled

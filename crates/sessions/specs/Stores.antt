@@ -1,14 +1,15 @@
 -- Ids in a flat store (document 01, "One client's session"): places of w octets one after another, with a length for each. The first
 -- octets of a place, as many as its length says, are its id; a place of length 0 is free. Over any width and any number of places;
 -- nothing here knows of a session. Assumes nothing.
-use mathlib.Core.Bool.{Bool, true, false, cond, _&&_, _||_, not}
-use mathlib.Core.Option.{Option, none, some}
+use mathlib.Core.Bool.{Bool, true, false, _&&_, _||_, not}
 use mathlib.Core.List.{List, [], _∷_, _++_, map}
-use Prim.Native.Nat.{ℕ, suc, _-_}
-use lib.ListN.{length, take, drop, replicate}
-use lib.Dec.{eqb, leb, ltb}
+use Prim.Native.Nat.{ℕ, _-_}
+use lib.ListN.{length, take, drop}
+use lib.Dec.{leb, ltb}
 use Rattle.headers.specs.Rows.{empty, every, any, same}
 use Rattle.headers.specs.Answers.{Check}
+use Rattle.stores.specs.Searches.{replaced}
+use Rattle.stores.specs.Places.{padded, is-zero}
 use Rattle.sessions.specs.declared.store.Use.{Use}
 use Rattle.sessions.specs.declared.store.Use.the-variants.{Nothing, Need, Enter, Free}
 
@@ -18,9 +19,6 @@ ids w s [] = []
 ids w s (l ∷ ls) = take l s ∷ ids w (drop w s) ls
 
 -- The layout of a view: each id and zero octets behind it up to w, and the lengths.
-abbrev pub padded : ℕ → List ℕ → List ℕ
-padded w id = id ++ replicate (w - length id) 0
-
 unfoldable pub laid : ℕ → List (List ℕ) → List ℕ
 laid w [] = []
 laid w (id ∷ more) = padded w id ++ laid w more
@@ -33,9 +31,6 @@ abbrev pub short : ℕ → List ℕ → Bool
 short w ls = every (λ l. leb l w) ls
 
 -- "non-zero unused octets": those of a place behind its id
-abbrev pub is-zero : List ℕ → Bool
-is-zero s = every (λ x. eqb x 0) s
-
 unfoldable pub clean : ℕ → List ℕ → List ℕ → Bool
 clean w s [] = true
 clean w s (l ∷ ls) = is-zero (drop l (take w s)) && clean w (drop w s) ls
@@ -51,16 +46,6 @@ distinct (id ∷ more) = (empty id || not (live id more)) && distinct more
 
 unfoldable pub valid-store : ℕ → List ℕ → List ℕ → Bool
 valid-store w s ls = short w ls && (clean w s ls && distinct (ids w s ls))
-
--- the place of the first that passes the test, counted from k
-unfoldable pub first-from : {A : Type 0} → (A → Bool) → ℕ → List A → Option ℕ
-first-from p k [] = none
-first-from p k (x ∷ xs) = cond (p x) (some k) (first-from p (suc k) xs)
-
--- the first that passes the test, replaced
-unfoldable pub replaced : (List ℕ → Bool) → List ℕ → List (List ℕ) → List (List ℕ)
-replaced p y [] = []
-replaced p y (x ∷ xs) = cond (p x) (y ∷ xs) (x ∷ replaced p y xs)
 
 -- What a call makes of an id: Enter a new one ("A new id takes the first free place"), Free a live one ("free one, to be used
 -- again"), Need it live, or Nothing.

@@ -5,18 +5,17 @@ ghost use mathlib.Core.List.{List, [], _∷_, _++_};
 ghost use mathlib.Core.Option.{some};
 ghost use Prim.Native.Nat.{ℕ, _≤_, _<_};
 ghost use lib.ListN.{length, set};
-ghost use Rattle.sessions.specs.Stores.{first-from};
-ghost use Rattle.sessions.specs.Places.{search-says};
-ghost use Rattle.sessions.specs.Compaction.{kept};
+ghost use Rattle.stores.specs.Searches.{first-from, search-says};
+ghost use Rattle.stores.specs.Compaction.{kept};
 ghost use Rattle.sessions.specs.Sessions.{subscriptions-max};
 ghost use Rattle.sessions.specs.Deliveries.{Pending, pending, labelled, places-of, with-pending, with-modes, unsubscribe, settle-label, no-deliveries};
 ghost use Rattle.sessions.specs.Deliveries.{emptied, known-modes, some-lengths, idle-modes, acknowledging, valid-labels, valid-places};
 ghost use Rattle.sessions.specs.Deliveries.{Laid};
 ghost use Rattle.sessions.specs.Steps.{valid-parts};
 ghost use Rattle.headers.specs.Rows.{every};
-use crate::compaction::Range;
 use crate::session::Session;
-use crate::store::Search;
+use stores::Range;
+use stores::Search;
 
 pub struct Deliveries {
     pub labels: [u8; Deliveries::MAX * Session::ID],
@@ -77,15 +76,9 @@ impl Deliveries {
         let mut kept_labels = [0u8; 2048];
         let mut kept_lens = [0u8; 64];
         let mut kept_places = [0u8; 64];
-        crate::compaction::keep_rows(&mut kept_labels, &labels[0..end], 32, &places[0..n], range);
-        crate::compaction::keep_rows(&mut kept_lens, &lens[0..n], 1, &places[0..n], range);
-        let count = crate::compaction::keep_rows(
-            &mut kept_places,
-            &same[0..n],
-            1,
-            &places[0..n],
-            range,
-        );
+        stores::keep_rows(&mut kept_labels, &labels[0..end], 32, &places[0..n], range);
+        stores::keep_rows(&mut kept_lens, &lens[0..n], 1, &places[0..n], range);
+        let count = stores::keep_rows(&mut kept_places, &same[0..n], 1, &places[0..n], range);
         Deliveries {
             labels: kept_labels,
             lens: kept_lens,
@@ -141,7 +134,7 @@ impl Deliveries {
         let places = self.places;
         let modes = self.modes;
         let of = places[index];
-        let mode = crate::store::octet_at(&modes, wide(of));
+        let mode = stores::octet_at(&modes, wide(of));
         if mode == Deliveries::CLIENT {
             return self.without(Range {
                 from: 0,
@@ -258,10 +251,10 @@ fn are_valid_labels(labels: &[u8], lens: &[u8], n: usize) -> bool
     if !are_some(&lens[0..n]) {
         return false;
     }
-    if !crate::store::is_zero(&labels[end..]) {
+    if !stores::is_zero(&labels[end..]) {
         return false;
     }
-    crate::store::is_zero(&lens[n..])
+    stores::is_zero(&lens[n..])
 }
 
 // Whether the first n deliveries are of subscriptions that acknowledge, and all after them is 0.
@@ -272,7 +265,7 @@ fn are_valid_places(places: &[u8], n: usize, lens: &[u8], modes: &[u8]) -> bool
     if !all_acknowledge(&places[0..n], lens, modes) {
         return false;
     }
-    crate::store::is_zero(&places[n..])
+    stores::is_zero(&places[n..])
 }
 
 // Whether a record of deliveries is valid, by its parts, over the lengths of the subscriptions' ids. The parts are lent, and all at one

@@ -1,6 +1,4 @@
 // Sessions: versions, heart-beats, the clock, and one client's session.
-mod compaction; // rows that stay, moved together
-mod keys; // numbers for places, to tell most of them apart
 mod store; // ids in a flat store
 pub mod delivery; // ack modes and is-pending deliveries
 mod value; // header values: accept-version, heart-beat and ack

@@ -16,7 +16,8 @@ ghost use Rattle.sessions.specs.Calls.{making-answer, made, frame-answer
 ghost use Rattle.sessions.specs.Calls.{timed-out-answer, deliver-answer, deliver-session, free-place, place-named, label-named};
 ghost use Rattle.sessions.specs.Deliveries.{subscribe, unsubscribe, record-label};
 ghost use Rattle.sessions.specs.Held.{held-deliveries, nth, nothing-told, told-of, pending-answer};
-ghost use Rattle.sessions.specs.Places.{Settles, search-says};
+ghost use Rattle.stores.specs.Searches.{search-says};
+ghost use Rattle.sessions.specs.Places.{Settles};
 ghost use Rattle.sessions.specs.Steps.{kept-by, closed-by, accepted-by, count-of, put-of, outcome-with, unrecorded-by, recorded-as};
 ghost use Rattle.sessions.specs.Steps.{GivesUse, GivesOpening, GivesNaming, GivesEntries, GivesMode, GivesDropped, GivesLabel, RecordsAt, MayRecord};
 ghost use Rattle.sessions.specs.Steps.{Untouched};
@@ -27,12 +28,12 @@ use crate::command::Naming;
 use crate::commands;
 use crate::delivery::Deliveries;
 use crate::refusals;
-use crate::store::Search;
 use crate::store::Settled;
 use crate::store::Use;
 use crate::value::HEART_BEAT_MAX;
 use crate::value::HeartBeatsRead;
 use crate::value::ModeRead;
+use stores::Search;
 
 // The record of a session. The phase is 0 fresh, 1 open, 2 closed. The server's offers: it can send heart-beats every so many
 // milliseconds, and wants to hear one every so many. Inbound is the interval from client to server. Versions are flags for 1.0, 1.1
@@ -489,7 +490,7 @@ impl Session {
     {
         let deliveries = self.deliveries;
         let modes = deliveries.modes;
-        if (deliveries.count == 0) & crate::store::is_zero(&modes) {
+        if (deliveries.count == 0) & stores::is_zero(&modes) {
             return named;
         }
         match self.find_subscription(id) {
@@ -633,7 +634,7 @@ impl Session {
         if (label.len() == 0) | (Session::ID < label.len()) {
             return self.unrecorded(refusals::BAD_LABEL);
         }
-        if crate::store::is_found(deliveries.find(label)) {
+        if stores::is_found(deliveries.find(label)) {
             return self.unrecorded(refusals::BAD_LABEL);
         }
         let modes = deliveries.modes;

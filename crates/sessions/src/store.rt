@@ -3,17 +3,13 @@
 ghost use mathlib.Core.Path.{_≡_};
 ghost use Prim.Native.Nat.{_+_, _*_, _≤_, _<_};
 ghost use lib.Dec.{eqb};
-ghost use lib.ListN.{length, take, drop, getD};
+ghost use lib.ListN.{length, take, drop};
 ghost use Rattle.headers.specs.Rows.{same};
-ghost use Rattle.sessions.specs.Stores.{ids, padded, short, is-zero, clean, distinct, valid-store, first-from};
-ghost use Rattle.sessions.specs.Places.{Fits, Clean, Keyed, again, search-says, is-at, when-needed, when-freed, when-entered, stored, put-in, Settles};
+ghost use Rattle.stores.specs.Searches.{first-from, search-says};
+ghost use Rattle.sessions.specs.Stores.{ids, short, clean, distinct, valid-store};
+ghost use Rattle.sessions.specs.Places.{Fits, Clean, Keyed, again, when-needed, when-freed, when-entered, stored, put-in, Settles};
 use crate::refusals;
-
-// Where a search ended: the number of a place.
-pub(crate) enum Search {
-    At(usize),
-    Nowhere,
-}
+use stores::Search;
 
 // What a call makes of an id: nothing; it needs it live; it enters it; it frees it.
 pub(crate) enum Use {
@@ -28,35 +24,6 @@ pub(crate) enum Settled {
     Refused(u32),
     Kept,
     Put(usize),
-}
-
-// Whether each octet is 0. No octet ends the loop, so that it is compiled to look at many at a time.
-pub(crate) fn is_zero(s: &[u8]) -> bool
-    ensures { λ r. ⌜ r ≡ is-zero (now (s .entry)) ⌝ }
-{
-    let mut zero = true;
-    let mut i = 0usize;
-    while i < s.len() {
-        zero = zero & (s[i] == 0);
-        i += 1;
-    }
-    zero
-}
-
-// Whether two ids are the same, in the same way: those of one session are often alike but for their ends.
-fn is_same(a: &[u8], b: &[u8]) -> bool
-    ensures { λ r. ⌜ r ≡ same (now (a .entry)) (now (b .entry)) ⌝ }
-{
-    if a.len() != b.len() {
-        return false;
-    }
-    let mut alike = true;
-    let mut i = 0usize;
-    while i < a.len() {
-        alike = alike & (a[i] == b[i]);
-        i += 1;
-    }
-    alike
 }
 
 fn wide(x: u8) -> usize
@@ -89,7 +56,7 @@ fn is_clean(store: &[u8], lens: &[u8], count: usize, width: usize) -> bool
     while k < count {
         let from = at + wide(lens[k]);
         let next = at + width;
-        if !is_zero(&store[from..next]) {
+        if !stores::is_zero(&store[from..next]) {
             return false;
         }
         at = next;
@@ -107,7 +74,7 @@ pub(crate) fn find(store: &[u8], lens: &[u8], count: usize, width: usize, id: &[
     let mut at = 0usize;
     while k < count {
         let end = at + wide(lens[k]);
-        if is_same(&store[at..end], id) {
+        if stores::is_same(&store[at..end], id) {
             return Search::At(k);
         }
         at = at + width;
@@ -130,15 +97,6 @@ pub(crate) fn find_free(lens: &[u8]) -> Search
     Search::Nowhere
 }
 
-pub(crate) fn is_found(s: Search) -> bool
-    ensures { λ r. ⌜ r ≡ is-at s ⌝ }
-{
-    match s {
-        Search::At(k) => true,
-        Search::Nowhere => false,
-    }
-}
-
 // Whether a store holds an id: the keys of its places first, then, where a key is the same, the ids.
 fn is_repeated(
     keys: &[u32],
@@ -155,8 +113,8 @@ fn is_repeated(
     if id.len() == 0 {
         return false;
     }
-    if crate::keys::has_key(keys, key) {
-        return is_found(find(store, lens, count, width, id));
+    if stores::has_key(keys, key) {
+        return stores::is_found(find(store, lens, count, width, id));
     }
     false
 }
@@ -167,7 +125,7 @@ fn is_distinct(store: &[u8], lens: &[u8], count: usize, width: usize) -> bool
     ensures { λ r. ⌜ r ≡ distinct (ids width (now (store .entry)) (now (lens .entry))) ⌝ }
 {
     let mut keys = [0u32; 64];
-    crate::keys::put_keys(&mut keys, store, lens);
+    stores::put_keys(&mut keys, store, lens);
     let mut k = 0usize;
     let mut at = 0usize;
     while k < count {
@@ -276,33 +234,14 @@ pub(crate) fn stored_length(usage: Use, len: usize) -> usize
     }
 }
 
-// An octet of an id, or 0 behind it.
-pub(crate) fn octet_at(id: &[u8], i: usize) -> u8
-    ensures { λ r. ⌜ r ≡ getD (now (id .entry)) i 0 ⌝ }
-{
-    if i < id.len() { id[i] } else { 0 }
-}
-
-// An id in a place, and 0 behind it.
-fn fill(place: &mut [u8], id: &[u8])
-    requires { ⌜ length (now id) ≤ length (now place) ⌝ }
-    ensures { λ _. ⌜ now (place .exit) ≡ padded (length (now (place .entry))) (now (id .entry)) ⌝ }
-{
-    let mut i = 0usize;
-    while i < place.len() {
-        place[i] = octet_at(id, i);
-        i += 1;
-    }
-}
-
-// The same in a place of a store.
+// An id in a place of a store, and 0 after it.
 pub(crate) fn put(store: &mut [u8], index: usize, width: usize, id: &[u8])
     requires { ⌜ (index * width + width ≤ length (now store)) × (length (now id) ≤ width) ⌝ }
     ensures { λ _. ⌜ now (store .exit) ≡ put-in width (now (store .entry)) index (now (id .entry)) ⌝ }
 {
     let at = index * width;
     let end = at + width;
-    fill(&mut store[at..end], id);
+    stores::fill(&mut store[at..end], id);
 }
 
 // The octets of a place of 32.
@@ -313,6 +252,6 @@ pub(crate) fn row(store: &[u8], index: usize) -> [u8; 32]
     let at = index * 32;
     let end = at + 32;
     let mut out = [0u8; 32];
-    crate::compaction::copy_front(&mut out, &store[at..end]);
+    headers::copy(&mut out, 0, &store[at..end]);
     out
 }

@@ -7,7 +7,7 @@ use native.Mathlib.Omega.{arith}
 use lib.ListN.{length, drop}
 use Rattle.headers.proofs.Rows.{and-yes}
 use Rattle.sessions.specs.Deliveries.{idle-modes}
-use Rattle.sessions.proofs.Rows.{and-assoc}
+use Rattle.stores.proofs.Rows.{and-assoc}
 use Rattle.sessions.proofs.Validating.{idle-step, idle-end}
 use Rattle.sessions.proofs.delivery.are_idle.Statement.{statement}
 use Rattle.sessions.proofs.delivery.are_idle.Tie as tie

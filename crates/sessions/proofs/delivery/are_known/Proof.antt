@@ -7,7 +7,7 @@ use native.Mathlib.Omega.{arith}
 use lib.ListN.{length, drop}
 use Rattle.headers.proofs.Rows.{and-yes, every-step, every-end}
 use Rattle.sessions.specs.Deliveries.{known-modes}
-use Rattle.sessions.proofs.Rows.{and-assoc}
+use Rattle.stores.proofs.Rows.{and-assoc}
 use Rattle.sessions.proofs.delivery.are_known.Statement.{statement}
 use Rattle.sessions.proofs.delivery.are_known.Tie as tie
 

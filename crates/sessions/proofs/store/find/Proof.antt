@@ -5,9 +5,11 @@ use Prim.Native.Nat.{_-_}
 use native.Mathlib.Omega.{arith}
 use lib.ListN.{drop}
 use Rattle.headers.specs.Rows.{same}
-use Rattle.sessions.specs.Stores.{ids, first-from}
-use Rattle.sessions.proofs.Searching.{first-hit, first-miss, first-end}
-use Rattle.sessions.proofs.Walking.{Before, Turn, first-place, next-place, room, id-fits, ids-at, ids-end}
+use Rattle.stores.specs.Searches.{first-from}
+use Rattle.sessions.specs.Stores.{ids}
+use Rattle.stores.proofs.Searching.{first-hit, first-miss, first-end}
+use Rattle.stores.proofs.Walking.{Before, first-place}
+use Rattle.sessions.proofs.Walking.{Turn, next-place, room, id-fits, ids-at, ids-end}
 use Rattle.sessions.proofs.store.find.Statement.{statement}
 use Rattle.sessions.proofs.store.find.Tie as tie
 

@@ -6,9 +6,9 @@ use native.Mathlib.Omega.{arith}
 use lib.Dec.{eqb}
 use lib.ListN.{length, drop, drop-of-length-le}
 use borrow.Author.Tests.{eq-eqb, ne-eqb}
-use Rattle.sessions.specs.Stores.{first-from}
-use Rattle.sessions.proofs.Walking.{drop-one}
-use Rattle.sessions.proofs.Searching.{first-hit, first-miss, first-end}
+use Rattle.stores.specs.Searches.{first-from}
+use Rattle.stores.proofs.Walking.{drop-one}
+use Rattle.stores.proofs.Searching.{first-hit, first-miss, first-end}
 use Rattle.sessions.proofs.store.find_free.Statement.{statement}
 use Rattle.sessions.proofs.store.find_free.Tie as tie
 

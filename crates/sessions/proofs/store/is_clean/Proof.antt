@@ -7,7 +7,8 @@ use native.Mathlib.Omega.{arith}
 use lib.ListN.{drop}
 use borrow.Author.Tests.{not-true, not-false}
 use Rattle.sessions.specs.Stores.{clean}
-use Rattle.sessions.proofs.Walking.{Before, Turn, first-place, next-place, room, length-fits, id-fits, clean-at, clean-end}
+use Rattle.stores.proofs.Walking.{Before, first-place}
+use Rattle.sessions.proofs.Walking.{Turn, next-place, room, length-fits, id-fits, clean-at, clean-end}
 use Rattle.sessions.proofs.store.is_clean.Statement.{statement}
 use Rattle.sessions.proofs.store.is_clean.Tie as tie
 

@@ -2,11 +2,16 @@
 use borrow.Author.Needs.{needs}
 use mathlib.Core.Path.{_≡_, refl, sym, ap, ap₂, _∙_}
 use mathlib.Core.Bool.{true, false}
+use mathlib.Core.List.{_++_}
 use Prim.Native.Nat.{_-_, _*_}
 use native.Mathlib.Omega.{arith}
-use lib.ListN.{drop}
+use lib.ListN.{length, drop, replicate}
+use denote.Ref.{now}
+use Rattle.stores.specs.Keys.{keys, with-keys}
+use Rattle.stores.proofs.Keying.{with-keys-all}
 use Rattle.sessions.specs.Stores.{ids, clean, distinct}
-use Rattle.sessions.proofs.Walking.{Before, Turn, first-place, next-place, room, id-fits, ids-end}
+use Rattle.stores.proofs.Walking.{Before, first-place}
+use Rattle.sessions.proofs.Walking.{Turn, next-place, room, id-fits, ids-end}
 use Rattle.sessions.proofs.Telling.{rest-clean, rest-keyed, distinct-next}
 use Rattle.sessions.proofs.store.is_distinct.Statement.{statement}
 use Rattle.sessions.proofs.store.is_distinct.Tie as tie
@@ -23,13 +28,17 @@ here : (c : tie.After-wide Inv-loop μ-loop)
     → Turn (c .before .before .before .before .before .before .before .before .before .pre .fits) (c .before .before .before .loop .inv .0) (c .wide .result)
 here c = record { more = c .before .before .loop-test .taken; read = c .wide .ensures .0 }
 
+-- there is room for the keys of all places
+all-keys : (c : tie.Start Inv-loop μ-loop) → let a = c .args in with-keys (now (a .store)) (now (a .lens)) (replicate 64 0) ≡ keys (now (a .store)) (now (a .lens)) ++ drop (length (now (a .lens))) (replicate 64 0)
+all-keys c =
+    with-keys-all (now (c .args .store)) (now (c .args .lens)) (replicate 64 0) (c .pre .fits .store-long ∙ ap₂ (_*_) (sym (c .pre .fits .lens-long)) (c .pre .wide))
+    (omega (arith, c .pre .fits .lens-long, c .pre .few))
+
 slice-aggregate-put-keys : tie.Need-slice-aggregate-put-keys Inv-loop μ-loop
 slice-aggregate-put-keys c = search needs
 
 put-keys-requires : tie.Need-put-keys-requires Inv-loop μ-loop
-put-keys-requires c κs =
-    let s = c .before .before .before in
-    (s .pre .fits .store-long ∙ ap₂ (_*_) (sym (s .pre .fits .lens-long)) (s .pre .wide), omega (arith, s .pre .fits .lens-long, s .pre .few))
+put-keys-requires c κs = search needs
 
 loop-holds : tie.Need-loop-holds Inv-loop μ-loop
 loop-holds c = (first-place _ _, c .before .before .before .before .before .pre .clean-yes, refl)
@@ -102,7 +111,7 @@ is-repeated-requires c κs =
     let t = c .before .before .before .before .before in
     let s = t .before .before .before .before .before .before .before .before .before in
     let p = t .before .before .before .before .before .put-keys in
-    rest-keyed (here t) (t .before .before .before .loop .inv .1) (s .pre .wide) (s .pre .few) (p .last .0) _ (p .ensures) _ refl
+    rest-keyed (here t) (t .before .before .before .loop .inv .1) (s .pre .wide) (s .pre .few) (p .last .0) _ (p .ensures ∙ all-keys s) _ refl
 
 returns : tie.Need-returns Inv-loop μ-loop
 returns c =

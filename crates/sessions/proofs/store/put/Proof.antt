@@ -1,7 +1,7 @@
 -- `store::put` meets its contract: the place, filled, comes back into the store.
 use borrow.Author.Needs.{needs}
 use Prim.Native.Nat.{_*_}
-use Rattle.sessions.proofs.Filling.{put-placed}
+use Rattle.stores.proofs.Filling.{put-placed}
 use Rattle.sessions.proofs.store.put.Statement.{statement}
 use Rattle.sessions.proofs.store.put.Tie as tie
 
@@ -29,7 +29,7 @@ same-length c = search needs
 returns : tie.Need-returns
 returns c =
     let s = c .before .before .before .before .before .before in
-    put-placed (s .args .width) (s .args .index * s .args .width) (s .args .store .now) (c .before .before .fill .last .0) (s .args .id .now) (s .pre .0) (c .before .before .fill .ensures)
+    put-placed (s .args .width) (s .args .index * s .args .width) (s .args .store .now) (c .before .before .fill .last .0) (s .args .id .now) (s .pre .0) (s .pre .1) (c .before .before .fill .ensures)
 
 pub put-spec : {M : Type 1} → statement M
 put-spec =

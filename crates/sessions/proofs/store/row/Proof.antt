@@ -1,5 +1,5 @@
 -- `store::row` meets its contract. Assumes nothing.
-use Rattle.sessions.proofs.Keying.{part-copied}
+use Rattle.sessions.proofs.Walking.{part-copied}
 use Prim.Native.Nat.{_*_}
 use borrow.Author.Needs.{needs}
 use Rattle.sessions.proofs.store.row.Statement.{statement}
@@ -11,23 +11,23 @@ mul-at c = search needs
 add-end : tie.Need-add-end
 add-end c = search needs
 
-slice-aggregate-copy-front : tie.Need-slice-aggregate-copy-front
-slice-aggregate-copy-front c = search needs
+slice-aggregate-copy : tie.Need-slice-aggregate-copy
+slice-aggregate-copy c = search needs
 
-sub-copy-front : tie.Need-sub-copy-front
-sub-copy-front c = search needs
+sub-copy : tie.Need-sub-copy
+sub-copy c = search needs
 
-part-copy-front-start : tie.Need-part-copy-front-start
-part-copy-front-start c = search needs
+part-copy-start : tie.Need-part-copy-start
+part-copy-start c = search needs
 
-part-copy-front-end : tie.Need-part-copy-front-end
-part-copy-front-end c = search needs
+part-copy-end : tie.Need-part-copy-end
+part-copy-end c = search needs
 
-copy-front-requires : tie.Need-copy-front-requires
-copy-front-requires c κs = search needs
+copy-requires : tie.Need-copy-requires
+copy-requires c κs = search needs
 
 returns : tie.Need-returns
-returns c = part-copied (c .before .before .before .before .before .args .index * 32) (c .before .before .before .before .before .args .store .now) (c .before .copy-front .last .0) (c .before .before .before .before .before .pre) (c .before .copy-front .ensures)
+returns c = part-copied (c .before .before .before .before .before .args .index * 32) (c .before .before .before .before .before .args .store .now) (c .before .copy .last .0) (c .before .before .before .before .before .pre) (c .before .copy .ensures)
 
 pub row-spec : {M : Type 1} → statement M
 row-spec =
@@ -35,9 +35,9 @@ row-spec =
     (tie.spec
     mul-at
     add-end
-    slice-aggregate-copy-front
-    sub-copy-front
-    part-copy-front-start
-    part-copy-front-end
-    copy-front-requires
+    slice-aggregate-copy
+    sub-copy
+    part-copy-start
+    part-copy-end
+    copy-requires
     returns)

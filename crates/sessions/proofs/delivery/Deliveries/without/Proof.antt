@@ -1,9 +1,7 @@
 -- `delivery::Deliveries::without` meets its contract: the rows that stay are the layout of the deliveries that stay.
-use mathlib.Core.Path.{_≡_}
 use native.Mathlib.Omega.{arith}
-use lib.ListN.{length}
 use Rattle.sessions.specs.Sessions.{SizedDeliveries}
-use Rattle.sessions.proofs.Taking.{code-compacts-labels, code-compacts-lens, code-compacts-places, without-at}
+use Rattle.sessions.proofs.Taking.{without-at}
 use borrow.Author.Needs.{needs}
 use Rattle.sessions.proofs.delivery.Deliveries.without.Statement.{statement}
 use Rattle.sessions.proofs.delivery.Deliveries.without.Tie as tie

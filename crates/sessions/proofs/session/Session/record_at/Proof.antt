@@ -2,7 +2,7 @@
 use Rattle.sessions.specs.Steps.{unrecorded-by}
 use denote.Ref.{now}
 use Rattle.sessions.proofs.Delivering.{at-bad, at-pending, at-full, at-done, may-record, laid-of}
-use Rattle.sessions.proofs.Searching.{told-any}
+use Rattle.stores.proofs.Searching.{told-any}
 use Rattle.sessions.specs.Deliveries.{labelled, pending}
 use mathlib.Core.Path.{_≡_, sym, _∙_}
 use mathlib.Core.Bool.{true}

@@ -10,7 +10,7 @@ use Rattle.sessions.specs.Deliveries.{unsubscribe}
 use Rattle.sessions.specs.Steps.{outcome-with}
 use lib.Dec.{eqb}
 use mathlib.Core.Option.{some}
-use Rattle.sessions.specs.Stores.{is-zero}
+use Rattle.stores.specs.Places.{is-zero}
 use Rattle.sessions.specs.Calls.{place-named}
 use borrow.Author.Needs.{needs}
 use Rattle.sessions.proofs.session.Session.without_deliveries.Statement.{statement}

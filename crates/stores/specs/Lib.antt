@@ -1,0 +1,5 @@
+-- The definitions of flat stores, by file.
+pub mod Searches
+pub mod Places
+pub mod Compaction
+pub mod Keys
