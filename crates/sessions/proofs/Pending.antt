@@ -20,7 +20,8 @@ use Rattle.sessions.specs.Places.{Fits}
 use Rattle.sessions.specs.declared.delivery.Deliveries.{Deliveries}
 use Rattle.sessions.proofs.Rows.{same-apart}
 use Rattle.stores.proofs.Filling.{zeros}
-use Rattle.sessions.proofs.Stores.{are-short, ids-laid, length-laid, laid-valid, valid-distinct, valid-clean, valid-short, valid-fits, ids-short, length-ids, lengths-ids}
+use Rattle.sessions.proofs.Stores.{are-short, ids-laid, length-laid, laid-valid, ids-short, length-ids, lengths-ids}
+use Rattle.sessions.proofs.Stores.{valid-distinct, valid-clean, valid-short, valid-fits}
 
 -- ---- a view laid out
 

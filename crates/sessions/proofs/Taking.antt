@@ -278,7 +278,8 @@ module _ (d : Deliveries) (sized : SizedDeliveries d) (l : Laid d) (n : ℕ) (e 
 
   -- what each of the three calls put
   module _ (g : Range) where
-    kept-labels-in : kept-in g 32 code-store code-places (replicate 2048 0) ≡ kept-octets g 32 0 (take (d .count * 32) (d .labels)) (take (d .count) (d .places))
+    kept-labels-in : kept-in g 32 code-store code-places (replicate 2048 0)
+        ≡ kept-octets g 32 0 (take (d .count * 32) (d .labels)) (take (d .count) (d .places))
     kept-labels-in = rw (store-same, places-same) (kept-in-all g 32 _ _ _ (compacts-labels d sized l (replicate 2048 0) refl))
 
     kept-lens-in : kept-in g 1 code-lens code-places (replicate 64 0) ≡ kept-octets g 1 0 (take (d .count) (d .lens)) (take (d .count) (d .places))
@@ -288,7 +289,8 @@ module _ (d : Deliveries) (sized : SizedDeliveries d) (l : Laid d) (n : ℕ) (e 
     kept-places-in = rw places-same (kept-in-all g 1 _ _ _ (compacts-places d sized l (replicate 64 0) refl))
 
   pub without-at : (g : Range) (a b c : List ℕ) (i j r m : ℕ) → Puts (kept-in g 32 code-store code-places (replicate 2048 0)) i (replicate 2048 0) a
-      → Puts (kept-in g 1 code-lens code-places (replicate 64 0)) j (replicate 64 0) b → Puts (kept-in g 1 code-places code-places (replicate 64 0)) r (replicate 64 0) c → (r ≤ 64 → m ≡ r)
+      → Puts (kept-in g 1 code-lens code-places (replicate 64 0)) j (replicate 64 0) b
+      → Puts (kept-in g 1 code-places code-places (replicate 64 0)) r (replicate 64 0) c → (r ≤ 64 → m ≡ r)
       → record { labels = a; lens = b; places = c; modes = d .modes; count = m } ≡ with-pending d (kept g 0 (places-of (pending d)) (pending d))
   without-at g a b c i j r m pa pb pc em =
       let (x, y, z) = kept-room d sized l g in

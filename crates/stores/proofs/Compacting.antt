@@ -51,9 +51,10 @@ kept-turn g w i at s ps h t is =
     ∙ ap₂ (λ a b. a ++ b) (ap₂ (λ a b. if-kept a (take b (drop at s))) (sym is) e)
     (ap₂ (λ a b. kept-octets g w a b (drop (i + 1) ps)) (sym (add-one i)) (drop-drop w at s))
   where
-    by : (t : Bool)
-        → joined (cond t (take w (drop at s) ∷ kept g (suc i) (drop (i + 1) ps) (rows w (drop w (drop at s)) (drop (i + 1) ps))) (kept g (suc i) (drop (i + 1) ps) (rows w (drop w (drop at s)) (drop (i + 1) ps))))
-        ≡ if-kept t (take w (drop at s)) ++ kept-octets g w (suc i) (drop w (drop at s)) (drop (i + 1) ps)
+    more : List (List ℕ)
+    more = kept g (suc i) (drop (i + 1) ps) (rows w (drop w (drop at s)) (drop (i + 1) ps))
+
+    by : (t : Bool) → joined (cond t (take w (drop at s) ∷ more) more) ≡ if-kept t (take w (drop at s)) ++ joined more
     by true = refl
     by false = refl
 
@@ -74,10 +75,12 @@ pub stands-first : (g : Range) (w : ℕ) (s ps d : List ℕ) → Compacts w s ps
 stands-first g w s ps d c =
     record { place = first-place w (length ps); partly = partly-none (kept-octets g w 0 s ps) d (omega (arith, kept-long g w 0 s ps (c .store-long), c .room)) }
 
-pub stands-done : (g : Range) (w : ℕ) (s ps d₀ d : List ℕ) (i at end : ℕ) → Stands g w s ps d₀ d i at end → length ps ≤ i → Puts (kept-octets g w 0 s ps) end d₀ d
+pub stands-done : (g : Range) (w : ℕ) (s ps d₀ d : List ℕ) (i at end : ℕ) → Stands g w s ps d₀ d i at end → length ps ≤ i
+    → Puts (kept-octets g w 0 s ps) end d₀ d
 stands-done g w s ps d₀ d i at end st h = partly-done (st .partly) (kept-end g w i at s ps h)
 
-module _ {g : Range} {w : ℕ} {s ps d₀ d : List ℕ} {i at end : ℕ} (st : Stands g w s ps d₀ d i at end) (long : length s ≡ length ps * w) (more : i < length ps) where
+module _ {g : Range} {w : ℕ} {s ps d₀ d : List ℕ} {i at end : ℕ} (st : Stands g w s ps d₀ d i at end)
+    (long : length s ≡ length ps * w) (more : i < length ps) where
   pub stands-room : at + w ≤ length s
   stands-room = room (st .place) more s long
 

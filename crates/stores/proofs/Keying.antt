@@ -29,7 +29,8 @@ keys-end : (s ls : List ℕ) (k at : ℕ) → length ls ≤ k → keys (drop at 
 unfolding rows
 keys-end s ls k at h = ap (keys (drop at s)) (drop-of-length-le ls h)
 
-pub keys-turn : (s ls : List ℕ) (k at : ℕ) → k < length ls → keys (drop at s) (drop k ls) ≡ key (take (at + 32 - at) (drop at s)) ∷ keys (drop (at + 32) s) (drop (k + 1) ls)
+pub keys-turn : (s ls : List ℕ) (k at : ℕ) → k < length ls
+    → keys (drop at s) (drop k ls) ≡ key (take (at + 32 - at) (drop at s)) ∷ keys (drop (at + 32) s) (drop (k + 1) ls)
 unfolding rows
 keys-turn s ls k at h =
     let e : 32 ≡ at + 32 - at = omega arith in

@@ -76,7 +76,8 @@ module _ {A : Type 0} (p : A → Bool) (y : A) where
   replaced-length (x ∷ xs) = cond-case (λ (z : List A). length z ≡ suc (length xs)) (p x) (λ e. refl) (λ e. ap suc (replaced-length xs))
 
 -- the first that passes is there
-pub first-at : {A : Type 0} (p : A → Bool) (d : A) (j k : ℕ) (xs : List A) → first-from p j xs ≡ some k → (i : ℕ) × (k ≡ j + i) × (i < length xs) × (p (getD xs i d) ≡ true)
+pub first-at : {A : Type 0} (p : A → Bool) (d : A) (j k : ℕ) (xs : List A) → first-from p j xs ≡ some k
+    → (i : ℕ) × (k ≡ j + i) × (i < length xs) × (p (getD xs i d) ≡ true)
 unfolding first-from
 first-at p d j k [] e = absurd (let z : _≡_ {A = ℕ} 0 1 = cc in omega arith)
 first-at {A} p d j k (x ∷ xs) e = by (p x) refl e (first-at p d (suc j) k xs)

@@ -14,7 +14,9 @@ word-at p i = ((getD p i 0 * 256 + getD p (i + 1) 0) * 256 + getD p (i + 2) 0) *
 -- the key of a place of 32 octets
 unfoldable pub key : List ℕ → ℕ
 key p =
-    (word-at p 0 + word-at p 4 * 3 + word-at p 8 * 5 + word-at p 12 * 7 + word-at p 16 * 11 + word-at p 20 * 13 + word-at p 24 * 17 + word-at p 28 * 19) % 4294967296
+    (word-at p 0 + word-at p 4 * 3 + word-at p 8 * 5 + word-at p 12 * 7
+    + word-at p 16 * 11 + word-at p 20 * 13 + word-at p 24 * 17 + word-at p 28 * 19)
+    % 4294967296
 
 -- the keys of a store's places
 abbrev pub keys : List ℕ → List ℕ → List ℕ

@@ -29,10 +29,12 @@ here : (c : tie.After-wide Inv-loop μ-loop)
 here c = record { more = c .before .before .loop-test .taken; read = c .wide .ensures .0 }
 
 -- there is room for the keys of all places
-all-keys : (c : tie.Start Inv-loop μ-loop) → let a = c .args in with-keys (now (a .store)) (now (a .lens)) (replicate 64 0) ≡ keys (now (a .store)) (now (a .lens)) ++ drop (length (now (a .lens))) (replicate 64 0)
+all-keys : (c : tie.Start Inv-loop μ-loop)
+    → let a = c .args in with-keys (now (a .store)) (now (a .lens)) (replicate 64 0)
+    ≡ keys (now (a .store)) (now (a .lens)) ++ drop (length (now (a .lens))) (replicate 64 0)
 all-keys c =
-    with-keys-all (now (c .args .store)) (now (c .args .lens)) (replicate 64 0) (c .pre .fits .store-long ∙ ap₂ (_*_) (sym (c .pre .fits .lens-long)) (c .pre .wide))
-    (omega (arith, c .pre .fits .lens-long, c .pre .few))
+    let long = c .pre .fits .store-long ∙ ap₂ (_*_) (sym (c .pre .fits .lens-long)) (c .pre .wide) in
+    with-keys-all (now (c .args .store)) (now (c .args .lens)) (replicate 64 0) long (omega (arith, c .pre .fits .lens-long, c .pre .few))
 
 slice-aggregate-put-keys : tie.Need-slice-aggregate-put-keys Inv-loop μ-loop
 slice-aggregate-put-keys c = search needs

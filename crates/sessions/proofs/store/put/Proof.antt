@@ -29,7 +29,9 @@ same-length c = search needs
 returns : tie.Need-returns
 returns c =
     let s = c .before .before .before .before .before .before in
-    put-placed (s .args .width) (s .args .index * s .args .width) (s .args .store .now) (c .before .before .fill .last .0) (s .args .id .now) (s .pre .0) (s .pre .1) (c .before .before .fill .ensures)
+    let a = s .args in
+    let f = c .before .before .fill in
+    put-placed (a .width) (a .index * a .width) (a .store .now) (f .last .0) (a .id .now) (s .pre .0) (s .pre .1) (f .ensures)
 
 pub put-spec : {M : Type 1} → statement M
 put-spec =

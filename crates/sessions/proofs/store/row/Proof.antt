@@ -27,7 +27,9 @@ copy-requires : tie.Need-copy-requires
 copy-requires c κs = search needs
 
 returns : tie.Need-returns
-returns c = part-copied (c .before .before .before .before .before .args .index * 32) (c .before .before .before .before .before .args .store .now) (c .before .copy .last .0) (c .before .before .before .before .before .pre) (c .before .copy .ensures)
+returns c =
+    let s = c .before .before .before .before .before in
+    part-copied (s .args .index * 32) (s .args .store .now) (c .before .copy .last .0) (s .pre) (c .before .copy .ensures)
 
 pub row-spec : {M : Type 1} → statement M
 row-spec =

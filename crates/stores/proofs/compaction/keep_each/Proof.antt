@@ -26,10 +26,14 @@ stays-requires : tie.Need-stays-requires Inv-loop μ-loop
 stays-requires c κs = search needs
 
 sub-keep-row : tie.Need-sub-keep-row Inv-loop μ-loop
-sub-keep-row c = stands-inside (c .before .before .before .loop .inv) (c .before .before .before .before .before .before .before .pre .store-long) (c .before .before .loop-test .taken)
+sub-keep-row c =
+    let t = c .before .before in
+    stands-inside (t .before .loop .inv) (t .before .before .before .before .before .pre .store-long) (t .loop-test .taken)
 
 part-keep-row-start : tie.Need-part-keep-row-start Inv-loop μ-loop
-part-keep-row-start c = stands-inside (c .before .before .before .loop .inv) (c .before .before .before .before .before .before .before .pre .store-long) (c .before .before .loop-test .taken)
+part-keep-row-start c =
+    let t = c .before .before in
+    stands-inside (t .before .loop .inv) (t .before .before .before .before .before .pre .store-long) (t .loop-test .taken)
 
 part-keep-row-end : tie.Need-part-keep-row-end Inv-loop μ-loop
 part-keep-row-end c = search needs
@@ -41,13 +45,21 @@ part-keep-row-start-2 : tie.Need-part-keep-row-start-2 Inv-loop μ-loop
 part-keep-row-start-2 c = search needs
 
 part-keep-row-end-2 : tie.Need-part-keep-row-end-2 Inv-loop μ-loop
-part-keep-row-end-2 c = stands-room (c .before .before .before .before .loop .inv) (c .before .before .before .before .before .before .before .before .pre .store-long) (c .before .before .before .loop-test .taken)
+part-keep-row-end-2 c =
+    let t = c .before .before .before in
+    stands-room (t .before .loop .inv) (t .before .before .before .before .before .pre .store-long) (t .loop-test .taken)
 
 keep-row-requires : tie.Need-keep-row-requires Inv-loop μ-loop
-keep-row-requires c κs = stands-fits (c .before .before .before .before .before .loop .inv) (c .before .before .before .before .before .before .before .before .before .pre .store-long) (c .before .before .before .before .loop-test .taken) _ (c .before .before .stays .ensures)
+keep-row-requires c κs =
+    let t = c .before .before .before .before in
+    stands-fits (t .before .loop .inv) (t .before .before .before .before .before .pre .store-long) (t .loop-test .taken) _ (c .before .before .stays .ensures)
 
 add-end : tie.Need-add-end Inv-loop μ-loop
-add-end c = omega (arith, stands-end (c .before .before .before .before .before .before .before .before .loop .inv) (c .before .before .before .before .before .before .before .before .before .before .before .before .pre .store-long) (c .before .before .before .before .before .before .before .loop-test .taken) _ (c .before .before .before .before .before .stays .ensures) _ (c .before .before .keep-row .ensures .0))
+add-end c =
+    let t = c .before .before .before .before .before .before .before in
+    let long = t .before .before .before .before .before .pre .store-long in
+    let stays = c .before .before .before .before .before .stays in
+    omega (arith, stands-end (t .before .loop .inv) long (t .loop-test .taken) _ (stays .ensures) _ (c .before .before .keep-row .ensures .0))
 
 add-i : tie.Need-add-i Inv-loop μ-loop
 add-i c = search needs
@@ -56,7 +68,11 @@ loop-less : tie.Need-loop-less Inv-loop μ-loop
 loop-less c = search needs
 
 loop-again : tie.Need-loop-again Inv-loop μ-loop
-loop-again c = stands-next (c .before .before .before .before .before .before .before .before .loop .inv) (c .before .before .before .before .before .before .before .before .before .before .before .before .pre .store-long) (c .before .before .before .before .before .before .before .loop-test .taken) _ (c .before .before .before .before .before .stays .ensures) _ _ (c .before .before .keep-row .ensures)
+loop-again c =
+    let t = c .before .before .before .before .before .before .before in
+    let long = t .before .before .before .before .before .pre .store-long in
+    let stays = c .before .before .before .before .before .stays in
+    stands-next (t .before .loop .inv) long (t .loop-test .taken) _ (stays .ensures) _ _ (c .before .before .keep-row .ensures)
 
 same-length : tie.Need-same-length Inv-loop μ-loop
 same-length c = c .before .loop .inv .partly .as-long

@@ -18,7 +18,8 @@ are-rows-requires c κs = search needs
 returns : tie.Need-returns
 returns c =
     let a = c .before .before .before .before .before .args in
-    kept-in-other (a .range) (a .width) (now (a .store)) (now (a .places)) (now (a .out)) (sym (c .before .are-rows .ensures) ∙ not-true (c .before .are-rows .result) (c .if1 .taken))
+    let r = c .before .are-rows in
+    kept-in-other (a .range) (a .width) (now (a .store)) (now (a .places)) (now (a .out)) (sym (r .ensures) ∙ not-true (r .result) (c .if1 .taken))
 
 returns-2 : tie.Need-returns-2
 returns-2 c =
@@ -26,13 +27,13 @@ returns-2 c =
     kept-in-full (a .range) (a .width) (now (a .store)) (now (a .places)) (now (a .out)) (c .if2 .taken)
 
 -- the sizes fit
-fitting : (c : tie.Else2) → let a = c .before .before .before .before .before .before .args in Compacts (a .width) (now (a .store)) (now (a .places)) (now (a .out))
+fitting : (c : tie.Else2)
+    → let a = c .before .before .before .before .before .before .args in Compacts (a .width) (now (a .store)) (now (a .places)) (now (a .out))
 fitting c =
     let a = c .before .before .before .before .before .before .args in
-    record {
-      store-long = eqb-true (length (now (a .store))) (length (now (a .places)) * a .width) (sym (c .before .before .are-rows .ensures) ∙ not-false (c .before .before .are-rows .result) (c .before .if1 .left));
-      room = c .if2 .left;
-    }
+    let r = c .before .before .are-rows in
+    let long = eqb-true (length (now (a .store))) (length (now (a .places)) * a .width) (sym (r .ensures) ∙ not-false (r .result) (c .before .if1 .left)) in
+    record { store-long = long; room = c .if2 .left }
 
 keep-each-requires : tie.Need-keep-each-requires
 keep-each-requires c κs = fitting (c .before)

@@ -38,7 +38,9 @@ mul-d : tie.Need-mul-d Inv-loop μ-loop
 mul-d c = search needs
 
 slice-write-d : tie.Need-slice-write-d Inv-loop μ-loop
-slice-write-d c = keyed-here (c .before .before .before .loop .inv) (c .before .before .before .before .before .before .before .pre .0) (c .before .before .loop-test .taken)
+slice-write-d c =
+    let t = c .before .before in
+    keyed-here (t .before .loop .inv) (t .before .before .before .before .before .pre .0) (t .loop-test .taken)
 
 add-k : tie.Need-add-k Inv-loop μ-loop
 add-k c = search needs
@@ -47,7 +49,9 @@ loop-less : tie.Need-loop-less Inv-loop μ-loop
 loop-less c = search needs
 
 loop-again : tie.Need-loop-again Inv-loop μ-loop
-loop-again c = keyed-next (c .before .before .before .loop .inv) (c .before .before .before .before .before .before .before .pre .0) (c .before .before .loop-test .taken) _ (c .key .ensures)
+loop-again c =
+    let t = c .before .before in
+    keyed-next (t .before .loop .inv) (t .before .before .before .before .before .pre .0) (t .loop-test .taken) _ (c .key .ensures)
 
 same-length : tie.Need-same-length Inv-loop μ-loop
 same-length c = c .before .loop .inv .partly .as-long

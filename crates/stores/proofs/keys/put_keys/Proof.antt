@@ -15,7 +15,8 @@ are-rows-requires c κs = search needs
 returns : tie.Need-returns
 returns c =
     let a = c .before .before .before .before .before .args in
-    sym (with-keys-other (now (a .store)) (now (a .lens)) (now (a .d)) (sym (c .before .are-rows .ensures) ∙ not-true (c .before .are-rows .result) (c .if1 .taken)))
+    let r = c .before .are-rows in
+    sym (with-keys-other (now (a .store)) (now (a .lens)) (now (a .d)) (sym (r .ensures) ∙ not-true (r .result) (c .if1 .taken)))
 
 returns-2 : tie.Need-returns-2
 returns-2 c =
@@ -26,7 +27,8 @@ returns-2 c =
 placed : (c : tie.Else2) → let a = c .before .before .before .before .before .before .args in length (now (a .store)) ≡ length (now (a .lens)) * 32
 placed c =
     let a = c .before .before .before .before .before .before .args in
-    eqb-true (length (now (a .store))) (length (now (a .lens)) * 32) (sym (c .before .before .are-rows .ensures) ∙ not-false (c .before .before .are-rows .result) (c .before .if1 .left))
+    let r = c .before .before .are-rows in
+    eqb-true (length (now (a .store))) (length (now (a .lens)) * 32) (sym (r .ensures) ∙ not-false (r .result) (c .before .if1 .left))
 
 put-each-requires : tie.Need-put-each-requires
 put-each-requires c κs = (placed (c .before), c .before .if2 .left)
