@@ -121,7 +121,7 @@ module _ (s : Session) (h : s .phase ≡ closed-phase) where
     -- closed once more, it is the same: it holds no delivery
     closed-again : closed s ≡ s
     closed-again =
-        ap₂ (λ p d. with-deliveries (with-phase s p) d) (sym h) (emptied-same (s .«sub_lens») (s .deliveries) (kept .holds .sized) (kept .holds .valid) none-left)
+        ap₂ (λ p d. with-deliveries (with-phase s p) d) (sym h) (emptied-same (s .subscriptions .lens) (s .deliveries) (kept .holds .sized) (kept .holds .valid) none-left)
 
     -- a refusal leaves it as it is
     pub closed-kept : (left : Session) (k : ℕ) → left-by (refused k) s left ≡ s

@@ -194,11 +194,11 @@ says-nowhere r o e h = sym e ∙ ap search-says h
 
 module _ (s : Session) (kept : Kept s) where
   pub laid-of : Laid (s .deliveries)
-  laid-of = holds-laid (s .«sub_lens») (s .deliveries) (kept .holds)
+  laid-of = holds-laid (s .subscriptions .lens) (s .deliveries) (kept .holds)
 
   -- the first free place, by the lengths
-  pub free-is : free-place s ≡ first-from (λ l. eqb l 0) 0 (s .«sub_lens»)
-  free-is = first-free id-max subscriptions-max 0 (s .subs) (s .«sub_lens») (subscriptions-fit s (kept .ids))
+  pub free-is : free-place s ≡ first-from (λ l. eqb l 0) 0 (s .subscriptions .lens)
+  free-is = first-free id-max subscriptions-max 0 (s .subscriptions .ids) (s .subscriptions .lens) (subscriptions-fit s (kept .ids))
 
   -- a free place has mode auto
   pub subscribed-auto : subscribe (free-place s) auto-mode (s .deliveries) ≡ s .deliveries
@@ -208,8 +208,8 @@ module _ (s : Session) (kept : Kept s) where
       by none e = refl
       by (some k) e =
           ap (with-modes (s .deliveries)) (set-same (s .deliveries .modes) k auto-mode
-          (idle-at (s .«sub_lens») (s .deliveries .modes) k (held-idle (s .«sub_lens») (s .deliveries) (kept .holds .sized) (kept .holds .valid))
-          (omega (arith, first-passes empty [] k (ids-of Subscriptions s) e .0, held-long s (kept .ids) Subscriptions, kept .ids .sized .sub-lens-long)) (lens-free s kept k e)))
+          (idle-at (s .subscriptions .lens) (s .deliveries .modes) k (held-idle (s .subscriptions .lens) (s .deliveries) (kept .holds .sized) (kept .holds .valid))
+          (omega (arith, first-passes empty [] k (ids-of Subscriptions s) e .0, held-long s (kept .ids) Subscriptions, kept .ids .sized .subscriptions .lens-long)) (lens-free s kept k e)))
 
   -- a place that a search found is one
   pub place-inside : (p : List ℕ → Bool) (k : ℕ) → first-from p 0 (ids-of Subscriptions s) ≡ some k → k < subscriptions-max
@@ -370,12 +370,12 @@ module _ (s : Session) (kept : Kept s) (i : ℕ) where
   told-held v = ap (λ t. cond t (told-of (nth i (held-deliveries s))) (nothing-told PendingAnswer.Invalid)) (sym v)
 
   module _ (h : i < s .deliveries .count) (k : ℕ) (at : k ≡ getD (s .deliveries .places) i 0) where
-    acks : acknowledging (s .«sub_lens») (few .modes) k ≡ true
+    acks : acknowledging (s .subscriptions .lens) (few .modes) k ≡ true
     acks =
-        ap (acknowledging (s .«sub_lens») (few .modes)) (at ∙ sym (getD-take (few .count) (few .places) i 0 h))
-        ∙ every-at (acknowledging (s .«sub_lens») (few .modes)) i (take (few .count) (few .places))
+        ap (acknowledging (s .subscriptions .lens) (few .modes)) (at ∙ sym (getD-take (few .count) (few .places) i 0 h))
+        ∙ every-at (acknowledging (s .subscriptions .lens) (few .modes)) i (take (few .count) (few .places))
         (omega (arith, h, length-take-le (few .count) (few .places) (omega (arith, laid-few .few, kept .holds .sized .places-long))))
-        (places-ack (s .«sub_lens») few (kept .holds .sized) (kept .holds .valid))
+        (places-ack (s .subscriptions .lens) few (kept .holds .sized) (kept .holds .valid))
 
     -- the place is one of a subscription
     pub told-place : k < subscriptions-max
@@ -384,17 +384,17 @@ module _ (s : Session) (kept : Kept s) (i : ℕ) where
         by : (t : Bool) → leb subscriptions-max k ≡ t → k < subscriptions-max
         by false e = leb-false subscriptions-max k e
         by true e =
-            absurd (true≢false (sym acks ∙ sym (no-lens (s .«sub_lens») (few .modes) k (omega (arith, leb-true subscriptions-max k e, kept .ids .sized .sub-lens-long)))))
+            absurd (true≢false (sym acks ∙ sym (no-lens (s .subscriptions .lens) (few .modes) k (omega (arith, leb-true subscriptions-max k e, kept .ids .sized .subscriptions .lens-long)))))
 
     abbrev sub : List ℕ
     sub = getD (ids-of Subscriptions s) k []
 
-    sub-octets : padded id-max (getD (ids-of Subscriptions s) k []) ≡ take 32 (drop (k * 32) (s .subs))
+    sub-octets : padded id-max (getD (ids-of Subscriptions s) k []) ≡ take 32 (drop (k * 32) (s .subscriptions .ids))
     sub-octets =
-        place-padded id-max subscriptions-max (s .subs) (s .«sub_lens») (subscriptions-fit s (kept .ids)) (valid-clean id-max (s .subs) (s .«sub_lens») (kept .ids .valid .subscriptions)) k
-        (omega (arith, told-place, kept .ids .sized .sub-lens-long))
+        place-padded id-max subscriptions-max (s .subscriptions .ids) (s .subscriptions .lens) (subscriptions-fit s (kept .ids)) (valid-clean id-max (s .subscriptions .ids) (s .subscriptions .lens) (kept .ids .valid .subscriptions)) k
+        (omega (arith, told-place, kept .ids .sized .subscriptions .lens-long))
 
-    sub-length : length (getD (ids-of Subscriptions s) k []) ≡ getD (s .«sub_lens») k 0
+    sub-length : length (getD (ids-of Subscriptions s) k []) ≡ getD (s .subscriptions .lens) k 0
     sub-length = sym (List·getD-map length (ids-of Subscriptions s) k []) ∙ ap (λ z. getD z k 0) (lens-are s kept)
 
     abbrev labels : List (List ℕ)
@@ -425,7 +425,7 @@ module _ (s : Session) (kept : Kept s) (i : ℕ) where
       «label_len» = m;
     }
 
-    pub told-at : telling (take 32 (drop (k * 32) (s .subs))) (getD (s .«sub_lens») k 0) (getD (few .modes) k 0) (take 32 (drop (i * 32) (few .labels))) (getD (few .lens) i 0)
+    pub told-at : telling (take 32 (drop (k * 32) (s .subscriptions .ids))) (getD (s .subscriptions .lens) k 0) (getD (few .modes) k 0) (take 32 (drop (i * 32) (few .labels))) (getD (few .lens) i 0)
         ≡ told-of (nth i (held-deliveries s))
     told-at =
         ap₂ (λ a b. telling a b (getD (few .modes) k 0) (take 32 (drop (i * 32) (few .labels))) (getD (few .lens) i 0)) (sym sub-octets) (sym sub-length)

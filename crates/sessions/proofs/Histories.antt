@@ -25,6 +25,8 @@ use Rattle.sessions.specs.Histories.{Call, frame, heart-beat, deliver, a
 use Rattle.sessions.specs.declared.store.Use.{Use}
 use Rattle.sessions.specs.declared.command.Kind.{Kind}
 use Rattle.sessions.specs.declared.command.Kind.the-variants.{Subscriptions, Transactions}
+use Rattle.sessions.specs.declared.parts.SubscriptionIds.{SubscriptionIds}
+use Rattle.sessions.specs.declared.parts.TransactionIds.{TransactionIds}
 use Rattle.sessions.specs.declared.session.Session.{Session}
 use Rattle.sessions.proofs.Rows.{or-either}
 use Rattle.sessions.proofs.Checks.{Passed, frame-passed, naming-settles, left-case}
@@ -34,8 +36,8 @@ use Rattle.sessions.proofs.Kept.{Kept, kept-next, kept-made}
 
 -- sessions with the same stores have the same ids
 ids-same : (k : Kind) (r s : Session) → SameStores r s → ids-of k r ≡ ids-of k s
-ids-same Subscriptions r s (a, b, c, d) = ap₂ (ids id-max) a b
-ids-same Transactions r s (a, b, c, d) = ap₂ (ids id-max) c d
+ids-same Subscriptions r s (a, b) = ap (λ (x : SubscriptionIds). ids id-max (x .ids) (x .lens)) a
+ids-same Transactions r s (a, b) = ap (λ (x : TransactionIds). ids id-max (x .ids) (x .lens)) b
 
 -- the ids of a kind, laid out, are the session's
 ids-with : (k : Kind) (s : Session) (is : List (List ℕ)) → are-short id-max is ≡ true → ids-of k (with-ids k s is) ≡ is
@@ -87,12 +89,12 @@ module _ (s : Session) (h : Held s) (k : Kind) (id : List ℕ) (some-id : id ≢
       cond-case (λ r. live id (ids-of k r) ≡ named-live s k id n (named-id n es)) (opens n)
       (λ o. ap (live id) (ids-opened (shared-by s (client-versions es)) (client-heart-beats es)) ∙ sym (ap (named-live s k id n) (opening-names n es o)))
       (λ o. cond-case (λ r. live id (ids-of k r) ≡ named-live s k id n (named-id n es)) (is DISCONNECT n)
-      (λ d. ap (live id) (ids-same k (closed s) s (refl, refl, refl, refl)) ∙ sym (ap (named-live s k id n) (closing-names n es d)))
-      (λ d. ap (live id) (ids-same k (with-deliveries (naming-effect s n (named-id n es)) (delivery-effect s n es)) (naming-effect s n (named-id n es)) (refl, refl, refl, refl)) ∙ live-naming n es p (named-id n es) refl))
+      (λ d. ap (live id) (ids-same k (closed s) s (refl, refl)) ∙ sym (ap (named-live s k id n) (closing-names n es d)))
+      (λ d. ap (live id) (ids-same k (with-deliveries (naming-effect s n (named-id n es)) (delivery-effect s n es)) (naming-effect s n (named-id n es)) (refl, refl)) ∙ live-naming n es p (named-id n es) refl))
     where
       ids-opened : (shared : List Bool) (o : Option HeartBeats) → ids-of k (opened-by s shared o) ≡ ids-of k s
       ids-opened shared none = refl
-      ids-opened shared (some b) = ids-same k (opened-by s shared (some b)) s (refl, refl, refl, refl)
+      ids-opened shared (some b) = ids-same k (opened-by s shared (some b)) s (refl, refl)
 
   live-frame : (n : ℕ) (block : List ℕ) (time : ℕ)
       → live id (ids-of k (frame-session s n block time)) ≡ live-by k id (live id (ids-of k s)) (frame-answer s n block) (frame n block time)
@@ -105,17 +107,17 @@ module _ (s : Session) (h : Held s) (k : Kind) (id : List ℕ) (some-id : id ≢
       by : (A : Answer) → frame-answer s n block ≡ A
           → live id (ids-of k (left-by A s (heard (effect s n es) time))) ≡ live-by k id (live id (ids-of k s)) A (frame n block time)
       by (accepted v) e =
-          ap (live id) (ids-same k (heard (effect s n es) time) (effect s n es) (refl, refl, refl, refl)) ∙ live-effect n es (frame-passed s n block v e)
+          ap (live id) (ids-same k (heard (effect s n es) time) (effect s n es) (refl, refl)) ∙ live-effect n es (frame-passed s n block v e)
       by (refused j) e =
           cond-case (λ r. live id (ids-of k r) ≡ live id (ids-of k s)) (eqb j 38 || eqb j 39)
-          (λ f. refl) (λ f. ap (live id) (ids-same k (closed s) s (refl, refl, refl, refl)))
+          (λ f. refl) (λ f. ap (live id) (ids-same k (closed s) s (refl, refl)))
 
   live-heart-beat : (time : ℕ) → live id (ids-of k (heart-beat-session s time)) ≡ live id (ids-of k s)
   unfolding heart-beat-session
   live-heart-beat time =
       left-case (λ r. live id (ids-of k r) ≡ live id (ids-of k s)) (heart-beat-answer s) s (heard s time) refl
-      (ap (live id) (ids-same k (closed s) s (refl, refl, refl, refl)))
-      (λ v e. ap (live id) (ids-same k (heard s time) s (refl, refl, refl, refl)))
+      (ap (live id) (ids-same k (closed s) s (refl, refl)))
+      (λ v e. ap (live id) (ids-same k (heard s time) s (refl, refl)))
 
   live-deliver : (x label : List ℕ) → live id (ids-of k (deliver-session s x label)) ≡ live id (ids-of k s)
   unfolding deliver-session
@@ -125,7 +127,7 @@ module _ (s : Session) (h : Held s) (k : Kind) (id : List ℕ) (some-id : id ≢
       after = with-deliveries s (record-label (place-named s (some x)) label (s .deliveries))
 
       by : (A : Answer) → live id (ids-of k (recorded-by A s after)) ≡ live id (ids-of k s)
-      by (accepted v) = ap (live id) (ids-same k after s (refl, refl, refl, refl))
+      by (accepted v) = ap (live id) (ids-same k after s (refl, refl))
       by (refused j) = refl
 
   pub live-next : (c : Call) → live id (ids-of k (next s c)) ≡ live-by k id (live id (ids-of k s)) (answer-to s c) c

@@ -4,7 +4,7 @@
 --     Held                                                  a session with valid numbers and ids, whose arrays of ids have their sizes
 --     held-long, held-short, held-distinct                  its ids of a kind: how many places, none too long, no two the same
 --     held-frame, held-heart-beat, held-deliver, held-made  each call and making keep that
-use mathlib.Core.Path.{_≡_, refl, sym, _∙_, ap, ap₂}
+use mathlib.Core.Path.{_≡_, refl, sym, _∙_, ap, ap₂, subst}
 use mathlib.Core.Bool.{Bool, true, false, cond, _&&_, _||_, not}
 use mathlib.Core.Option.{Option, none, some}
 use mathlib.Core.List.{List, [], _∷_}
@@ -27,7 +27,11 @@ use Rattle.sessions.specs.Values.{HeartBeats, heart-beat-max, both, hear
 use Rattle.sessions.specs.Opening.{may-offer, interval}
 use Rattle.sessions.specs.Headers.{value-of, is, opens, naming}
 use Rattle.sessions.specs.Sessions.{subscriptions-max, transactions-max, id-max, fresh-phase, open-phase, closed-phase, in-phase, fresh}
-use Rattle.sessions.specs.Sessions.{ids-of, with-stores, with-ids, with-phase, with-deliveries, closed, heard, right-flags, small-numbers, valid-numbers, valid-ids, right-deliveries, is-valid, Sized}
+use Rattle.sessions.specs.Sessions.{ids-of, with-subscriptions, with-transactions, with-ids, with-phase, with-deliveries, closed, heard}
+use Rattle.sessions.specs.Sessions.{right-flags, valid-offers, valid-agreed, valid-numbers, valid-subscriptions, valid-transactions, valid-ids}
+use Rattle.sessions.specs.Sessions.{right-deliveries, is-valid, Sized, SizedSubscriptions, SizedTransactions}
+use Rattle.sessions.specs.declared.parts.SubscriptionIds.{SubscriptionIds}
+use Rattle.sessions.specs.declared.parts.TransactionIds.{TransactionIds}
 use Rattle.sessions.specs.Calls.{making-checks, making-answer, made-by, made, shared-by, heart-beats-of, client-versions, client-heart-beats, opened-by, usage-of, named-id, naming-checks, frame-answer, naming-effect, delivery-effect, effect, frame-session, deliver-answer, deliver-session, recorded-by, place-named, heart-beat-answer, heart-beat-session}
 use Rattle.sessions.specs.Deliveries.{record-label}
 use Rattle.sessions.specs.Steps.{count-of}
@@ -44,11 +48,11 @@ use Rattle.sessions.proofs.Stores.{length-ids, valid-fits, are-short, i
 
 pub record Valid (s : Session) : Type 0 where
   pub known : s .phase ≤ closed-phase
-  pub offers : (s .sends ≤ heart-beat-max) × (s .wants ≤ heart-beat-max)
-  pub intervals : (s .inbound ≤ heart-beat-max) × (s .outbound ≤ heart-beat-max)
+  pub offers : (s .offers .sends ≤ heart-beat-max) × (s .offers .wants ≤ heart-beat-max)
+  pub intervals : (s .agreed .inbound ≤ heart-beat-max) × (s .agreed .outbound ≤ heart-beat-max)
   pub flags : right-flags s ≡ true
-  pub subscriptions : valid-store id-max (s .subs) (s .«sub_lens») ≡ true
-  pub transactions : valid-store id-max (s .txs) (s .«tx_lens») ≡ true
+  pub subscriptions : valid-store id-max (s .subscriptions .ids) (s .subscriptions .lens) ≡ true
+  pub transactions : valid-store id-max (s .transactions .ids) (s .transactions .lens) ≡ true
 
 -- both of two tests
 pair : (a b : Bool) → a && b ≡ true → (a ≡ true) × (b ≡ true)
@@ -60,15 +64,15 @@ valid-record s h =
     let (numbers, rest) = pair (valid-numbers s) _ h in
     let (stores, deliveries) = pair (valid-ids s) (right-deliveries s) rest in
     let (phase, others) = pair (leb (s .phase) closed-phase) _ numbers in
-    let (small, flags) = pair (small-numbers s) _ others in
-    let (sends, small₁) = pair (leb (s .sends) heart-beat-max) _ small in
-    let (wants, small₂) = pair (leb (s .wants) heart-beat-max) _ small₁ in
-    let (inbound, outbound) = pair (leb (s .inbound) heart-beat-max) _ small₂ in
-    let (subscriptions, transactions) = pair (valid-store id-max (s .subs) (s .«sub_lens»)) _ stores in
+    let (small, flags) = pair (valid-offers (s .offers) && valid-agreed (s .agreed)) _ others in
+    let (offers, intervals) = pair (valid-offers (s .offers)) _ small in
+    let (sends, wants) = pair (leb (s .offers .sends) heart-beat-max) _ offers in
+    let (inbound, outbound) = pair (leb (s .agreed .inbound) heart-beat-max) _ intervals in
+    let (subscriptions, transactions) = pair (valid-store id-max (s .subscriptions .ids) (s .subscriptions .lens)) _ stores in
     record {
       known = leb-true (s .phase) closed-phase phase;
-      offers = (leb-true (s .sends) heart-beat-max sends, leb-true (s .wants) heart-beat-max wants);
-      intervals = (leb-true (s .inbound) heart-beat-max inbound, leb-true (s .outbound) heart-beat-max outbound);
+      offers = (leb-true (s .offers .sends) heart-beat-max sends, leb-true (s .offers .wants) heart-beat-max wants);
+      intervals = (leb-true (s .agreed .inbound) heart-beat-max inbound, leb-true (s .agreed .outbound) heart-beat-max outbound);
       flags = flags;
       subscriptions = subscriptions;
       transactions = transactions;
@@ -79,11 +83,10 @@ unfolding is-valid
 record-valid s v o =
     ap₂ (_&&_) (ap₂ (_&&_) (le-leb (s .phase) closed-phase (v .known)) (ap₂ (_&&_) small (v .flags))) (ap₂ (_&&_) (ap₂ (_&&_) (v .subscriptions) (v .transactions)) o)
   where
-    small : small-numbers s ≡ true
+    small : valid-offers (s .offers) && valid-agreed (s .agreed) ≡ true
     small =
-        ap₂ (_&&_) (le-leb (s .sends) heart-beat-max (v .offers .0))
-        (ap₂ (_&&_) (le-leb (s .wants) heart-beat-max (v .offers .1))
-        (ap₂ (_&&_) (le-leb (s .inbound) heart-beat-max (v .intervals .0)) (le-leb (s .outbound) heart-beat-max (v .intervals .1))))
+        ap₂ (_&&_) (ap₂ (_&&_) (le-leb (s .offers .sends) heart-beat-max (v .offers .0)) (le-leb (s .offers .wants) heart-beat-max (v .offers .1)))
+        (ap₂ (_&&_) (le-leb (s .agreed .inbound) heart-beat-max (v .intervals .0)) (le-leb (s .agreed .outbound) heart-beat-max (v .intervals .1)))
 
 -- ---- the opening's intervals are small
 
@@ -124,7 +127,7 @@ interval-small a b m h k = cond-case (_≤ m) (eqb a 0 || eqb b 0) (λ e. omega 
 
 -- two sessions with the same stores
 abbrev pub SameStores : Session → Session → Type 0
-SameStores r s = (r .subs ≡ s .subs) × (r .«sub_lens» ≡ s .«sub_lens») × (r .txs ≡ s .txs) × (r .«tx_lens» ≡ s .«tx_lens»)
+SameStores r s = (r .subscriptions ≡ s .subscriptions) × (r .transactions ≡ s .transactions)
 
 -- a session whose arrays have their sizes, and that is valid
 pub record Held (s : Session) : Type 0 where
@@ -133,69 +136,67 @@ pub record Held (s : Session) : Type 0 where
 
 -- its ids
 module _ (s : Session) (h : Held s) where
-  pub subscriptions-fit : Fits id-max subscriptions-max (s .subs) (s .«sub_lens»)
-  subscriptions-fit = valid-fits id-max (s .subs) (s .«sub_lens») (h .valid .subscriptions) subscriptions-max (h .sized .sub-lens-long) (h .sized .subs-long)
+  pub subscriptions-fit : Fits id-max subscriptions-max (s .subscriptions .ids) (s .subscriptions .lens)
+  subscriptions-fit = valid-fits id-max (s .subscriptions .ids) (s .subscriptions .lens) (h .valid .subscriptions) subscriptions-max (h .sized .subscriptions .lens-long) (h .sized .subscriptions .ids-long)
 
-  transactions-fit : Fits id-max transactions-max (s .txs) (s .«tx_lens»)
-  transactions-fit = valid-fits id-max (s .txs) (s .«tx_lens») (h .valid .transactions) transactions-max (h .sized .tx-lens-long) (h .sized .txs-long)
+  transactions-fit : Fits id-max transactions-max (s .transactions .ids) (s .transactions .lens)
+  transactions-fit = valid-fits id-max (s .transactions .ids) (s .transactions .lens) (h .valid .transactions) transactions-max (h .sized .transactions .lens-long) (h .sized .transactions .ids-long)
 
   pub held-long : (k : Kind) → length (ids-of k s) ≡ count-of k
-  held-long Subscriptions = length-ids id-max (s .subs) (s .«sub_lens») ∙ h .sized .sub-lens-long
-  held-long Transactions = length-ids id-max (s .txs) (s .«tx_lens») ∙ h .sized .tx-lens-long
+  held-long Subscriptions = length-ids id-max (s .subscriptions .ids) (s .subscriptions .lens) ∙ h .sized .subscriptions .lens-long
+  held-long Transactions = length-ids id-max (s .transactions .ids) (s .transactions .lens) ∙ h .sized .transactions .lens-long
 
   pub held-short : (k : Kind) → are-short id-max (ids-of k s) ≡ true
-  held-short Subscriptions = ids-short id-max subscriptions-max (s .subs) (s .«sub_lens») subscriptions-fit
-  held-short Transactions = ids-short id-max transactions-max (s .txs) (s .«tx_lens») transactions-fit
+  held-short Subscriptions = ids-short id-max subscriptions-max (s .subscriptions .ids) (s .subscriptions .lens) subscriptions-fit
+  held-short Transactions = ids-short id-max transactions-max (s .transactions .ids) (s .transactions .lens) transactions-fit
 
   pub held-distinct : (k : Kind) → distinct (ids-of k s) ≡ true
-  held-distinct Subscriptions = valid-distinct id-max (s .subs) (s .«sub_lens») (h .valid .subscriptions)
-  held-distinct Transactions = valid-distinct id-max (s .txs) (s .«tx_lens») (h .valid .transactions)
+  held-distinct Subscriptions = valid-distinct id-max (s .subscriptions .ids) (s .subscriptions .lens) (h .valid .subscriptions)
+  held-distinct Transactions = valid-distinct id-max (s .transactions .ids) (s .transactions .lens) (h .valid .transactions)
 
   -- a session with the same stores
-  held-by : (r : Session) → SameStores r s → r .phase ≤ closed-phase → (r .sends ≤ heart-beat-max) × (r .wants ≤ heart-beat-max)
-      → (r .inbound ≤ heart-beat-max) × (r .outbound ≤ heart-beat-max) → right-flags r ≡ true → Held r
-  held-by r (a, b, c, d) known offers intervals flags =
+  held-by : (r : Session) → SameStores r s → r .phase ≤ closed-phase → (r .offers .sends ≤ heart-beat-max) × (r .offers .wants ≤ heart-beat-max)
+      → (r .agreed .inbound ≤ heart-beat-max) × (r .agreed .outbound ≤ heart-beat-max) → right-flags r ≡ true → Held r
+  held-by r (a, b) known offers intervals flags =
       record {
         sized = record {
-          subs-long = ap length a ∙ h .sized .subs-long;
-          sub-lens-long = ap length b ∙ h .sized .sub-lens-long;
-          txs-long = ap length c ∙ h .sized .txs-long;
-          tx-lens-long = ap length d ∙ h .sized .tx-lens-long;
+          subscriptions = subst SizedSubscriptions (sym a) (h .sized .subscriptions);
+          transactions = subst SizedTransactions (sym b) (h .sized .transactions);
         };
         valid = record {
           known = known;
           offers = offers;
           intervals = intervals;
           flags = flags;
-          subscriptions = ap₂ (valid-store id-max) a b ∙ h .valid .subscriptions;
-          transactions = ap₂ (valid-store id-max) c d ∙ h .valid .transactions;
+          subscriptions = ap valid-subscriptions a ∙ h .valid .subscriptions;
+          transactions = ap valid-transactions b ∙ h .valid .transactions;
         };
       }
 
   -- ---- each change keeps them
 
   pub held-closed : Held (closed s)
-  held-closed = held-by (closed s) (refl, refl, refl, refl) (omega arith) (h .valid .offers) (h .valid .intervals) refl
+  held-closed = held-by (closed s) (refl, refl) (omega arith) (h .valid .offers) (h .valid .intervals) refl
 
   pub held-heard : (time : ℕ) → Held (heard s time)
-  held-heard time = held-by (heard s time) (refl, refl, refl, refl) (h .valid .known) (h .valid .offers) (h .valid .intervals) (h .valid .flags)
+  held-heard time = held-by (heard s time) (refl, refl) (h .valid .known) (h .valid .offers) (h .valid .intervals) (h .valid .flags)
 
   -- a fresh one offers what it may
-  fresh-flags : in-phase fresh-phase s ≡ true → may-offer (s .offered) ≡ true
-  fresh-flags f = sym (ap (λ p. eqb p closed-phase || may-offer (s .offered)) (eqb-true (s .phase) fresh-phase f)) ∙ h .valid .flags
+  fresh-flags : in-phase fresh-phase s ≡ true → may-offer (s .offers .versions) ≡ true
+  fresh-flags f = sym (ap (λ p. eqb p closed-phase || may-offer (s .offers .versions)) (eqb-true (s .phase) fresh-phase f)) ∙ h .valid .flags
 
   pub held-opened : in-phase fresh-phase s ≡ true → (shared : List Bool) (o : Option HeartBeats) → OfSome Small o → Held (opened-by s shared o)
   held-opened f shared none small = h
   held-opened f shared (some b) small =
-      held-by (opened-by s shared (some b)) (refl, refl, refl, refl) (omega arith) (h .valid .offers) (
-        interval-small (b .sends) (s .wants) heart-beat-max (small .0) (h .valid .offers .1),
-        interval-small (s .sends) (b .wants) heart-beat-max (h .valid .offers .0) (small .1),
+      held-by (opened-by s shared (some b)) (refl, refl) (omega arith) (h .valid .offers) (
+        interval-small (b .sends) (s .offers .wants) heart-beat-max (small .0) (h .valid .offers .1),
+        interval-small (s .offers .sends) (b .wants) heart-beat-max (h .valid .offers .0) (small .1),
       )
       (fresh-flags f)
 
   -- with other stores
-  stored : {subs sub-lens txs tx-lens : List ℕ} → valid-store id-max subs sub-lens ≡ true → valid-store id-max txs tx-lens ≡ true
-      → Valid (with-stores s subs sub-lens txs tx-lens)
+  stored : {subscriptions : SubscriptionIds} {transactions : TransactionIds} → valid-subscriptions subscriptions ≡ true
+      → valid-transactions transactions ≡ true → Valid (with-transactions (with-subscriptions s subscriptions) transactions)
   stored a b =
       record {
         known = h .valid .known;
@@ -210,20 +211,16 @@ module _ (s : Session) (h : Held s) where
   held-with Subscriptions is l m d =
       record {
         sized = record {
-          subs-long = length-laid id-max is m ∙ ap (_* id-max) l;
-          sub-lens-long = length-map is length ∙ l;
-          txs-long = h .sized .txs-long;
-          tx-lens-long = h .sized .tx-lens-long;
+          subscriptions = record { ids-long = length-laid id-max is m ∙ ap (_* id-max) l; lens-long = length-map is length ∙ l };
+          transactions = h .sized .transactions;
         };
         valid = stored (laid-valid id-max is m d) (h .valid .transactions);
       }
   held-with Transactions is l m d =
       record {
         sized = record {
-          subs-long = h .sized .subs-long;
-          sub-lens-long = h .sized .sub-lens-long;
-          txs-long = length-laid id-max is m ∙ ap (_* id-max) l;
-          tx-lens-long = length-map is length ∙ l;
+          subscriptions = h .sized .subscriptions;
+          transactions = record { ids-long = length-laid id-max is m ∙ ap (_* id-max) l; lens-long = length-map is length ∙ l };
         };
         valid = stored (h .valid .subscriptions) (laid-valid id-max is m d);
       }
@@ -243,7 +240,7 @@ module _ (s : Session) (h : Held s) where
       by (some id) e = held-used (naming n .kind) (usage-of n) id (naming-settles s n es id p e)
 
   pub held-deliveries : (d : Deliveries) → Held (with-deliveries s d)
-  held-deliveries d = held-by (with-deliveries s d) (refl, refl, refl, refl) (h .valid .known) (h .valid .offers) (h .valid .intervals) (h .valid .flags)
+  held-deliveries d = held-by (with-deliveries s d) (refl, refl) (h .valid .known) (h .valid .offers) (h .valid .intervals) (h .valid .flags)
 
 module _ (s : Session) (h : Held s) where
   pub held-effect : (n : ℕ) (es : List Entry) → Passed s n es → Held (effect s n es)
@@ -279,10 +276,14 @@ pub held-fresh : (sends wants : ℕ) (offered : List Bool) (phase : ℕ) → sen
 held-fresh sends wants offered phase a b known flags =
     record {
       sized = record {
-        subs-long = length-replicate {A = ℕ} (subscriptions-max * id-max) 0;
-        sub-lens-long = length-replicate {A = ℕ} subscriptions-max 0;
-        txs-long = length-replicate {A = ℕ} (transactions-max * id-max) 0;
-        tx-lens-long = length-replicate {A = ℕ} transactions-max 0;
+        subscriptions = record {
+          ids-long = length-replicate {A = ℕ} (subscriptions-max * id-max) 0;
+          lens-long = length-replicate {A = ℕ} subscriptions-max 0;
+        };
+        transactions = record {
+          ids-long = length-replicate {A = ℕ} (transactions-max * id-max) 0;
+          lens-long = length-replicate {A = ℕ} transactions-max 0;
+        };
       };
       valid = record {
         known = known;

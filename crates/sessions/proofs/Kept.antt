@@ -32,6 +32,7 @@ use Rattle.sessions.specs.declared.store.Use.{Use}
 use Rattle.sessions.specs.declared.store.Use.the-variants.{Nothing, Need, Enter, Free}
 use Rattle.sessions.specs.declared.command.Naming.{Naming}
 use Rattle.sessions.specs.declared.delivery.Deliveries.{Deliveries}
+use Rattle.sessions.specs.declared.parts.SubscriptionIds.{SubscriptionIds}
 use Rattle.sessions.specs.declared.session.Session.{Session}
 use Rattle.sessions.proofs.Checks.{Passes, all-pass, Passed, frame-passed, naming-settles, left-case}
 use Rattle.stores.proofs.Searching.{is-some as finds, found-at, any-first, first-at}
@@ -41,7 +42,7 @@ use Rattle.sessions.proofs.Keeping.{Held, Valid, valid-record, record-v
 
 -- two sessions with the same subscriptions
 abbrev pub SameSubscriptions : Session → Session → Type 0
-SameSubscriptions r s = (r .subs ≡ s .subs) × (r .«sub_lens» ≡ s .«sub_lens»)
+SameSubscriptions r s = r .subscriptions ≡ s .subscriptions
 
 -- ids that are used leave the phase
 naming-phase : (s : Session) (n : ℕ) (o : Option (List ℕ)) → (naming-effect s n o) .phase ≡ s .phase
@@ -71,7 +72,7 @@ some-first p xs h = by (first-from p 0 xs) refl
 
 pub record Kept (s : Session) : Type 0 where
   pub ids : Held s
-  pub holds : Holds (s .«sub_lens») (s .deliveries)
+  pub holds : Holds (s .subscriptions .lens) (s .deliveries)
   pub only-open : in-phase open-phase s || eqb (s .deliveries .count) 0 ≡ true
 
 pub kept-valid : (s : Session) → Kept s → is-valid s ≡ true
@@ -81,7 +82,7 @@ pub kept-of : (s : Session) → Sized s → SizedDeliveries (s .deliveries) → 
 unfolding is-valid
 kept-of s z y v =
     let o = and-right (valid-ids s) (right-deliveries s) (and-right (valid-numbers s) (valid-ids s && right-deliveries s) v) in
-    let a = valid-deliveries (s .«sub_lens») (s .deliveries) in
+    let a = valid-deliveries (s .subscriptions .lens) (s .deliveries) in
     let b = in-phase open-phase s || eqb (s .deliveries .count) 0 in
     record {
       ids = record { sized = z; valid = valid-record s v };
@@ -91,23 +92,23 @@ kept-of s z y v =
 
 module _ (s : Session) (kept : Kept s) where
   pub kept-closed : Kept (closed s)
-  kept-closed = record { ids = held-closed s (kept .ids); holds = holds-emptied (s .«sub_lens») (s .deliveries) (kept .holds) .0; only-open = or-yes (in-phase open-phase (closed s)) }
+  kept-closed = record { ids = held-closed s (kept .ids); holds = holds-emptied (s .subscriptions .lens) (s .deliveries) (kept .holds) .0; only-open = or-yes (in-phase open-phase (closed s)) }
 
   pub kept-heard : (time : ℕ) → Kept (heard s time)
   kept-heard time = record { ids = held-heard s (kept .ids) time; holds = kept .holds; only-open = kept .only-open }
 
   -- the lengths are those of the ids
-  pub lens-are : lengths (ids-of Subscriptions s) ≡ s .«sub_lens»
-  lens-are = lengths-ids id-max 16 (s .subs) (s .«sub_lens») (subscriptions-fit s (kept .ids))
+  pub lens-are : lengths (ids-of Subscriptions s) ≡ s .subscriptions .lens
+  lens-are = lengths-ids id-max 16 (s .subscriptions .ids) (s .subscriptions .lens) (subscriptions-fit s (kept .ids))
 
   -- an id entered in place k, or freed there
   pub lens-put : (p : List ℕ → Bool) (y : List ℕ) (k : ℕ) → first-from p 0 (ids-of Subscriptions s) ≡ some k
-      → lengths (replaced p y (ids-of Subscriptions s)) ≡ set (s .«sub_lens») k (length y)
+      → lengths (replaced p y (ids-of Subscriptions s)) ≡ set (s .subscriptions .lens) k (length y)
   lens-put p y k e =
       ap lengths (found-at p y k (ids-of Subscriptions s) (sym e) .1) ∙ lengths-set (ids-of Subscriptions s) k y ∙ ap (λ z. set z k (length y)) lens-are
 
   -- a free place
-  pub lens-free : (k : ℕ) → first-from empty 0 (ids-of Subscriptions s) ≡ some k → getD (s .«sub_lens») k 0 ≡ 0
+  pub lens-free : (k : ℕ) → first-from empty 0 (ids-of Subscriptions s) ≡ some k → getD (s .subscriptions .lens) k 0 ≡ 0
   lens-free k e =
       ap (λ z. getD z k 0) (sym lens-are) ∙ List·getD-map length (ids-of Subscriptions s) k [] ∙ none (getD (ids-of Subscriptions s) k []) (first-passes empty [] k (ids-of Subscriptions s) e .1)
     where
@@ -125,7 +126,7 @@ module _ (s : Session) (kept : Kept s) where
 
   -- what each effect leaves: the ids' lengths and the deliveries go together
   abbrev Together : ℕ → List Entry → Type 0
-  Together n es = Holds ((naming-effect s n (named-id n es)) .«sub_lens») (delivery-effect s n es)
+  Together n es = Holds ((naming-effect s n (named-id n es)) .subscriptions .lens) (delivery-effect s n es)
 
   mode-known : (o : Option (List ℕ)) (m : Option ℕ) → mode-named o ≡ m → leb (mode-or-auto m) individual-mode ≡ true
   mode-known none m e = ap (λ z. leb (mode-or-auto z) individual-mode) (sym e)
@@ -151,27 +152,27 @@ module _ (s : Session) (kept : Kept s) where
   together-subscribe es id m known e =
       let (k, f) = enter-place id e in
       subst (λ z. Holds z (subscribe (free-place s) m (s .deliveries))) (sym (lens-put empty id k f))
-      (subst (λ o. Holds (set (s .«sub_lens») k (length id)) (subscribe o m (s .deliveries))) (sym f)
-      (holds-subscribed (s .«sub_lens») (s .deliveries) (kept .holds) k (length id) m (lens-free k f) (some-long id (use-some id-max Enter id (ids-of Subscriptions s) [] [] e)) known))
+      (subst (λ o. Holds (set (s .subscriptions .lens) k (length id)) (subscribe o m (s .deliveries))) (sym f)
+      (holds-subscribed (s .subscriptions .lens) (s .deliveries) (kept .holds) k (length id) m (lens-free k f) (some-long id (use-some id-max Enter id (ids-of Subscriptions s) [] [] e)) known))
 
   together-unsubscribe : (id : List ℕ) → settle (use-checks id-max Free id (ids-of Subscriptions s)) [] ≡ accepted []
       → Holds (lengths (used Free id (ids-of Subscriptions s))) (unsubscribe (place-named s (some id)) (s .deliveries))
   together-unsubscribe id e =
       let (k, f) = free-there id e in
       subst (λ z. Holds z (unsubscribe (place-named s (some id)) (s .deliveries))) (sym (lens-put (λ x. same x id) [] k f))
-      (subst (λ o. Holds (set (s .«sub_lens») k 0) (unsubscribe o (s .deliveries))) (sym f) (holds-unsubscribed (s .«sub_lens») (s .deliveries) (kept .holds) k .0))
+      (subst (λ o. Holds (set (s .subscriptions .lens) k 0) (unsubscribe o (s .deliveries))) (sym f) (holds-unsubscribed (s .subscriptions .lens) (s .deliveries) (kept .holds) k .0))
 
-  together-settled : (o : Option (List ℕ)) → Holds (s .«sub_lens») (settle-named o (s .deliveries))
+  together-settled : (o : Option (List ℕ)) → Holds (s .subscriptions .lens) (settle-named o (s .deliveries))
   together-settled none = kept .holds
   together-settled (some l) = by (first-of (labelled l) (pending (s .deliveries)))
     where
-      by : (o : Option Pending) → Holds (s .«sub_lens») (settled-as l (s .deliveries) o)
+      by : (o : Option Pending) → Holds (s .subscriptions .lens) (settled-as l (s .deliveries) o)
       by none = kept .holds
-      by (some p) = holds-settled (s .«sub_lens») (s .deliveries) (kept .holds) (labelled l) (goes-with (s .deliveries) p) .0
+      by (some p) = holds-settled (s .subscriptions .lens) (s .deliveries) (kept .holds) (labelled l) (goes-with (s .deliveries) p) .0
 
   -- ids of transactions leave the subscriptions as they are
   pub other-lens : (n : ℕ) (o : Option (List ℕ)) → is SUBSCRIBE n ≡ false → is UNSUBSCRIBE n ≡ false → SameSubscriptions (naming-effect s n o) s
-  other-lens n none a b = (refl, refl)
+  other-lens n none a b = refl
   other-lens n (some id) a b = by (naming n .kind) kind
     where
       kind : naming n .kind ≡ Transactions
@@ -188,7 +189,7 @@ module _ (s : Session) (kept : Kept s) where
 
       by : (k : Kind) → k ≡ Transactions → SameSubscriptions (with-ids k s (used (naming n .usage) id (ids-of k s))) s
       by Subscriptions e = absurd (let z : _≡_ {A = ℕ} 0 1 = cc in omega arith)
-      by Transactions e = (refl, refl)
+      by Transactions e = refl
 
   -- the id that SUBSCRIBE and UNSUBSCRIBE need
   needs-id : (o : Option (List ℕ)) → not (is-some o) ≡ false → (id : List ℕ) × (o ≡ some id)
@@ -204,27 +205,27 @@ module _ (s : Session) (kept : Kept s) where
   together : (n : ℕ) (es : List Entry) → Passed s n es → Together n es
   together n es p = by (is SUBSCRIBE n) (is UNSUBSCRIBE n) refl refl
     where
-      others : is SUBSCRIBE n ≡ false → is UNSUBSCRIBE n ≡ false → Holds (s .«sub_lens») (cond (settles n) (settle-named (label-named es) (s .deliveries)) (s .deliveries)) → Together n es
+      others : is SUBSCRIBE n ≡ false → is UNSUBSCRIBE n ≡ false → Holds (s .subscriptions .lens) (cond (settles n) (settle-named (label-named es) (s .deliveries)) (s .deliveries)) → Together n es
       others a b h =
-          subst (λ z. Holds z (delivery-effect s n es)) (sym (other-lens n (named-id n es) a b .1))
-          (subst (λ t. Holds (s .«sub_lens») (cond t (subscribe (free-place s) (mode-or-auto (mode-asked es)) (s .deliveries)) (cond (is UNSUBSCRIBE n) (unsubscribe (place-named s (value-of Id es)) (s .deliveries)) (cond (settles n) (settle-named (label-named es) (s .deliveries)) (s .deliveries))))) (sym a)
-          (subst (λ t. Holds (s .«sub_lens») (cond t (unsubscribe (place-named s (value-of Id es)) (s .deliveries)) (cond (settles n) (settle-named (label-named es) (s .deliveries)) (s .deliveries)))) (sym b) h))
+          subst (λ z. Holds z (delivery-effect s n es)) (sym (ap (λ (x : SubscriptionIds). x .lens) (other-lens n (named-id n es) a b)))
+          (subst (λ t. Holds (s .subscriptions .lens) (cond t (subscribe (free-place s) (mode-or-auto (mode-asked es)) (s .deliveries)) (cond (is UNSUBSCRIBE n) (unsubscribe (place-named s (value-of Id es)) (s .deliveries)) (cond (settles n) (settle-named (label-named es) (s .deliveries)) (s .deliveries))))) (sym a)
+          (subst (λ t. Holds (s .subscriptions .lens) (cond t (unsubscribe (place-named s (value-of Id es)) (s .deliveries)) (cond (settles n) (settle-named (label-named es) (s .deliveries)) (s .deliveries)))) (sym b) h))
 
       entering : n ≡ 14 → Passed s 14 es → Together 14 es
       entering e q =
           let (id, v) = subscribe-id es (q .needs) in
-          subst (λ o. Holds ((naming-effect s 14 o) .«sub_lens») (delivery-effect s 14 es)) (sym v)
+          subst (λ o. Holds ((naming-effect s 14 o) .subscriptions .lens) (delivery-effect s 14 es)) (sym v)
           (together-subscribe es id (mode-or-auto (mode-asked es)) (mode-known (value-of Ack es) (mode-asked es) refl) (naming-settles s 14 es id (q .named) v))
 
       freeing : n ≡ 15 → Passed s 15 es → Together 15 es
       freeing e q =
           let (id, v) = unsubscribe-id es (q .needs) in
-          subst (λ o. Holds ((naming-effect s 15 o) .«sub_lens») (unsubscribe (place-named s o) (s .deliveries))) (sym v) (together-unsubscribe id (naming-settles s 15 es id (q .named) v))
+          subst (λ o. Holds ((naming-effect s 15 o) .subscriptions .lens) (unsubscribe (place-named s o) (s .deliveries))) (sym v) (together-unsubscribe id (naming-settles s 15 es id (q .named) v))
 
       by : (a b : Bool) → is SUBSCRIBE n ≡ a → is UNSUBSCRIBE n ≡ b → Together n es
       by true b e f = let k : n ≡ 14 = eqb-true n 14 e in subst (λ z. Passed s z es → Together z es) (sym k) (entering k) p
       by false true e f = let k : n ≡ 15 = eqb-true n 15 f in subst (λ z. Passed s z es → Together z es) (sym k) (freeing k) p
-      by false false e f = others e f (cond-case (Holds (s .«sub_lens»)) (settles n) (λ t. together-settled (label-named es)) (λ t. kept .holds))
+      by false false e f = others e f (cond-case (Holds (s .subscriptions .lens)) (settles n) (λ t. together-settled (label-named es)) (λ t. kept .holds))
 
   -- a frame that is not the opening one comes in an open session
   open-yet : (n : ℕ) → opens n ≡ false → out-of-phase s n ≡ false → in-phase open-phase s ≡ true
@@ -269,7 +270,7 @@ module _ (s : Session) (kept : Kept s) where
       pub deliver-at : getD (ids-of Subscriptions s) k [] ≡ id
       deliver-at = same-eq (getD (ids-of Subscriptions s) k []) id (first-passes (λ x. same x id) [] k (ids-of Subscriptions s) f .1)
 
-      there : getD (s .«sub_lens») k 0 ≢ 0
+      there : getD (s .subscriptions .lens) k 0 ≢ 0
       there z =
           let long : length id ≡ 0 = ap length (sym deliver-at) ∙ sym (List·getD-map length (ids-of Subscriptions s) k []) ∙ ap (λ z. getD z k 0) lens-are ∙ z in
           true≢false (sym (empty-zero id long) ∙ deliver-id)
@@ -280,21 +281,21 @@ module _ (s : Session) (kept : Kept s) where
             leb-false 64 (s .deliveries .count)
             (and-false (not (is-auto s (place-named s (some id)))) (leb 64 (s .deliveries .count)) (passes .1 .1 .1 .1 .0) (ap (λ o. not (is-auto s o)) f ∙ ap not a))
 
-        sound : Proper (s .«sub_lens») (s .deliveries .modes) (record { place = k; label = label })
+        sound : Proper (s .subscriptions .lens) (s .deliveries .modes) (record { place = k; label = label })
         sound =
             record {
               short = le-leb (length label) label-max (ltb-false label-max (length label) (or-false-right (empty label) (ltb label-max (length label)) good-label));
               there = ap not (sym (empty-eqb label) ∙ or-false-left (empty label) (ltb label-max (length label)) good-label);
-              acks = ap₂ (λ x y. not x && not y) (ne-eqb (getD (s .«sub_lens») k 0) 0 there) a;
+              acks = ap₂ (λ x y. not x && not y) (ne-eqb (getD (s .subscriptions .lens) k 0) 0 there) a;
             }
 
-        pub deliver-entered : Holds (s .«sub_lens») (with-pending (s .deliveries) (pending (s .deliveries) ++ (record { place = k; label = label } ∷ [])))
+        pub deliver-entered : Holds (s .subscriptions .lens) (with-pending (s .deliveries) (pending (s .deliveries) ++ (record { place = k; label = label } ∷ [])))
             × (pending (with-pending (s .deliveries) (pending (s .deliveries) ++ (record { place = k; label = label } ∷ []))) ≡ pending (s .deliveries) ++ (record { place = k; label = label } ∷ []))
         deliver-entered =
-            holds-snoc (s .«sub_lens») (s .deliveries) (kept .holds) (record { place = k; label = label }) room sound
+            holds-snoc (s .subscriptions .lens) (s .deliveries) (kept .holds) (record { place = k; label = label }) room sound
             (or-false-right (bad-length label-max label) (is-pending label (s .deliveries)) (passes .1 .1 .1 .0))
 
-  kept-with : in-phase open-phase s ≡ true → (d : Deliveries) → Holds (s .«sub_lens») d → Kept (with-deliveries s d)
+  kept-with : in-phase open-phase s ≡ true → (d : Deliveries) → Holds (s .subscriptions .lens) d → Kept (with-deliveries s d)
   kept-with o d h = record { ids = held-deliveries s (kept .ids) d; holds = h; only-open = ap (_|| eqb (d .count) 0) o }
 
   kept-recorded : (id label v : List ℕ) → settle (deliver-checks s id label) [] ≡ accepted v → Kept (with-deliveries s (record-label (place-named s (some id)) label (s .deliveries)))
@@ -337,11 +338,11 @@ kept-after s (c ∷ cs) k = kept-after (next s c) cs (kept-next s c k)
 
 -- ---- a session that is made
 
-pub made-none : (sends wants : ℕ) (offered : List Bool) → (made sends wants offered .deliveries ≡ no-deliveries) × (made sends wants offered .«sub_lens» ≡ replicate 16 0)
+pub made-none : (sends wants : ℕ) (offered : List Bool) → (made sends wants offered .deliveries ≡ no-deliveries) × (made sends wants offered .subscriptions .lens ≡ replicate 16 0)
 unfolding made
 made-none sends wants offered = by (making-answer sends wants offered)
   where
-    by : (A : Answer) → (made-by A sends wants offered .deliveries ≡ no-deliveries) × (made-by A sends wants offered .«sub_lens» ≡ replicate 16 0)
+    by : (A : Answer) → (made-by A sends wants offered .deliveries ≡ no-deliveries) × (made-by A sends wants offered .subscriptions .lens ≡ replicate 16 0)
     by (accepted v) = (refl, refl)
     by (refused k) = (refl, refl)
 

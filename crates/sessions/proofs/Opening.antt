@@ -33,7 +33,7 @@ module _ (s : Session) (es : List Entry) (acceptance : Acceptance) (time : ℕ) 
   pub opening-malformed : v .valid ≡ false → r ≡ closed-by s 31 → GivesOpening s es acceptance time r
   opening-malformed h q = gives-closed _ 31 _ (rw (unsaid (v .valid) (v .flags) (client-versions es) versions h)) refl q
 
-  module _ (h : v .valid ≡ true) (shared : List Bool) (both : shared ≡ shared-flags (v .flags) (s .offered)) where
+  module _ (h : v .valid ≡ true) (shared : List Bool) (both : shared ≡ shared-flags (v .flags) (s .offers .versions)) where
     known : client-versions es ≡ some (v .flags)
     known = said (v .valid) (v .flags) (client-versions es) versions h
 
@@ -48,12 +48,12 @@ module _ (s : Session) (es : List Entry) (acceptance : Acceptance) (time : ℕ) 
       opening-no-heart-beat m q =
           gives-on _ _ (rw known) (gives-on _ _ (rw shared-is n) (gives-closed _ 33 _ (rw (unsaid (b .valid) (record { sends = b .sends; wants = b .wants }) (client-heart-beats es) heart-beats m)) refl q))
 
-      pub opening-done : b .valid ≡ true → r ≡ accepted-by (opened s shared (interval (b .sends) (s .wants)) (interval (s .sends) (b .wants))) acceptance time → GivesOpening s es acceptance time r
+      pub opening-done : b .valid ≡ true → r ≡ accepted-by (opened s shared (interval (b .sends) (s .offers .wants)) (interval (s .offers .sends) (b .wants))) acceptance time → GivesOpening s es acceptance time r
       opening-done m q =
           let told : client-heart-beats es ≡ some (record { sends = b .sends; wants = b .wants }) = said (b .valid) (record { sends = b .sends; wants = b .wants }) (client-heart-beats es) heart-beats m in
-          let became : opening s es ≡ opened s shared (interval (b .sends) (s .wants)) (interval (s .sends) (b .wants)) = rw (shared-is, told) in
+          let became : opening s es ≡ opened s shared (interval (b .sends) (s .offers .wants)) (interval (s .offers .sends) (b .wants)) = rw (shared-is, told) in
           gives-on _ _ (rw known) (gives-on _ _ (rw shared-is n) (gives-on _ _ (rw told) (gives-accepted [] acceptance s (opening s es) time r refl (q ∙ ap (λ z. accepted-by z acceptance time) (sym became)))))
 
 -- the timed-out question of an open session with an interval
-pub timed-out-by : (s : Session) (time : ℕ) → s .phase ≡ 1 → (s .inbound ≡ 0 → ⊥) → is-timed-out s time ≡ ltb (s .inbound * 2) (passed time (s .«last_heard»))
-timed-out-by s time p n = rw (eq-eqb (s .phase) 1 p, ne-eqb (s .inbound) 0 n)
+pub timed-out-by : (s : Session) (time : ℕ) → s .phase ≡ 1 → (s .agreed .inbound ≡ 0 → ⊥) → is-timed-out s time ≡ ltb (s .agreed .inbound * 2) (passed time (s .«last_heard»))
+timed-out-by s time p n = rw (eq-eqb (s .phase) 1 p, ne-eqb (s .agreed .inbound) 0 n)

@@ -30,6 +30,7 @@ use Rattle.sessions.specs.Sessions.{id-max, ids-of, with-ids, with-deliv
 use Rattle.sessions.specs.Histories.{Call, frame, heart-beat, deliver, answer-to, next, after, said, frame-event, refusal-event, event-of, events}
 use Rattle.sessions.specs.Held.{delivery-of, held-deliveries}
 use Rattle.sessions.specs.declared.command.Kind.the-variants.{Subscriptions, Transactions}
+use Rattle.sessions.specs.declared.parts.SubscriptionIds.{SubscriptionIds}
 use Rattle.sessions.specs.declared.session.Session.{Session}
 use Rattle.sessions.proofs.Kept.{Kept, SameSubscriptions, first-passes, lens-are, lens-free, enter-place, free-there, other-lens, subscribe-id, unsubscribe-id, deliver-place, deliver-id, deliver-at, deliver-entered, kept-next, kept-made, made-none, made-ids}
 use Rattle.sessions.proofs.Keeping.{held-long, held-short, held-distinct}
@@ -288,19 +289,19 @@ Knows past s = KnowsIn past (ids-of Subscriptions s) (s .deliveries)
 
 module _ (s : Session) (kept : Kept s) where
   taken : Taken (ids-of Subscriptions s) (pending (s .deliveries))
-  taken = all-with each (pending (s .deliveries)) (good (s .«sub_lens») (s .deliveries) (kept .holds) .each)
+  taken = all-with each (pending (s .deliveries)) (good (s .subscriptions .lens) (s .deliveries) (kept .holds) .each)
     where
       some-there : (x : List ℕ) → not (eqb (length x) 0) ≡ true → empty x ≡ false
       some-there x h = empty-eqb x ∙ not-true (eqb (length x) 0) h
 
-      each : (p : Pending) → Proper (s .«sub_lens») (s .deliveries .modes) p → empty (getD (ids-of Subscriptions s) (p .place) []) ≡ false
+      each : (p : Pending) → Proper (s .subscriptions .lens) (s .deliveries .modes) p → empty (getD (ids-of Subscriptions s) (p .place) []) ≡ false
       each p h =
           some-there (getD (ids-of Subscriptions s) (p .place) [])
           (ap (λ z. not (eqb z 0)) (sym (List·getD-map length (ids-of Subscriptions s) (p .place) []) ∙ ap (λ z. getD z (p .place) 0) (lens-are s kept))
-          ∙ and-left (not (eqb (getD (s .«sub_lens») (p .place) 0) 0)) (not (eqb (getD (s .deliveries .modes) (p .place) auto-mode) auto-mode)) (h .acks))
+          ∙ and-left (not (eqb (getD (s .subscriptions .lens) (p .place) 0) 0)) (not (eqb (getD (s .deliveries .modes) (p .place) auto-mode) auto-mode)) (h .acks))
 
   pub held-distinct-labels : Distinct (held-deliveries s)
-  held-distinct-labels = distinct-in (delivery-of s) (λ p. refl) (pending (s .deliveries)) (good (s .«sub_lens») (s .deliveries) (kept .holds) .apart)
+  held-distinct-labels = distinct-in (delivery-of s) (λ p. refl) (pending (s .deliveries)) (good (s .subscriptions .lens) (s .deliveries) (kept .holds) .apart)
 
   pub held-agrees : (past : List Event) → Knows past s → Agrees past (held-deliveries s)
   held-agrees past k = agrees-in past (ids-of Subscriptions s) (s .deliveries) k taken
@@ -312,7 +313,7 @@ pub record Left (past : List Event) (s r : Session) (e : Event) : Type 0 where
 
 module _ (past : List Event) (s : Session) (kept : Kept s) (knows : Knows past s) where
   left-closed : Left past s (closed-session s) closed
-  left-closed = record { holds-are = ap (map (delivery-of (closed-session s))) (holds-emptied (s .«sub_lens») (s .deliveries) (kept .holds) .1); knows = knows }
+  left-closed = record { holds-are = ap (map (delivery-of (closed-session s))) (holds-emptied (s .subscriptions .lens) (s .deliveries) (kept .holds) .1); knows = knows }
 
   left-same : Left past s s nothing
   left-same = record { holds-are = refl; knows = knows }
@@ -352,7 +353,7 @@ module _ (past : List Event) (s : Session) (kept : Kept s) (knows : Knows past s
       left-views past s _ (subscribed id m) (set (ids-of Subscriptions s) k id) (with-modes (s .deliveries) (set (s .deliveries .modes) k m))
       (used-ids Enter id e ∙ put) (ap (λ o. subscribe o m (s .deliveries)) f)
       (subscribed-held (ids-of Subscriptions s) (s .deliveries) k id m
-      (free-elsewhere (s .«sub_lens») (s .deliveries .modes) k (pending (s .deliveries)) (lens-free s kept k f) (good (s .«sub_lens») (s .deliveries) (kept .holds) .each)))
+      (free-elsewhere (s .subscriptions .lens) (s .deliveries .modes) k (pending (s .deliveries)) (lens-free s kept k f) (good (s .subscriptions .lens) (s .deliveries) (kept .holds) .each)))
       (subscribed-knows (ids-of Subscriptions s) (s .deliveries) k id m past knows a (inside k a)
       (use-new id-max Enter id (ids-of Subscriptions s) [] [] e) (use-some id-max Enter id (ids-of Subscriptions s) [] [] e))
 
@@ -365,18 +366,18 @@ module _ (past : List Event) (s : Session) (kept : Kept s) (knows : Knows past s
       left-views past s _ (unsubscribed id) (set (ids-of Subscriptions s) k []) (unsubscribe (some k) (s .deliveries))
       (used-ids Free id e ∙ put) (ap (λ o. unsubscribe o (s .deliveries)) f)
       (unsubscribed-held (ids-of Subscriptions s) (s .deliveries) k id at (held-distinct s (kept .ids) Subscriptions) (empty-not id (use-some id-max Free id (ids-of Subscriptions s) [] [] e))
-      (holds-unsubscribed (s .«sub_lens») (s .deliveries) (kept .holds) k .1))
+      (holds-unsubscribed (s .subscriptions .lens) (s .deliveries) (kept .holds) k .1))
       (unsubscribed-knows (ids-of Subscriptions s) (s .deliveries) k id at past knows)
 
   -- ids of transactions: the same subscriptions
   same-subs : (r : Session) → SameSubscriptions r s → ids-of Subscriptions r ≡ ids-of Subscriptions s
-  same-subs r (a, b) = ap₂ (ids id-max) a b
+  same-subs r e = ap (λ (x : SubscriptionIds). ids id-max (x .ids) (x .lens)) e
 
   left-settle : (r : Session) (l : List ℕ) (e : Event) → SameSubscriptions r s → ((ds : List Delivery) → left-by past e ds ≡ settled-by l ds) → ((x : List ℕ) → mode-in x (e ∷ past) ≡ mode-in x past)
       → Left past s (with-deliveries r (settle-label l (s .deliveries))) e
   left-settle r l e same-ids leaves modes =
       left-views past s _ e (ids-of Subscriptions s) (settle-label l (s .deliveries)) (same-subs r same-ids) refl
-      (settled-held (s .«sub_lens») (ids-of Subscriptions s) (s .deliveries) (kept .holds) (held-distinct s (kept .ids) Subscriptions) (taken s kept) l ∙ sym (leaves (held-deliveries s)))
+      (settled-held (s .subscriptions .lens) (ids-of Subscriptions s) (s .deliveries) (kept .holds) (held-distinct s (kept .ids) Subscriptions) (taken s kept) l ∙ sym (leaves (held-deliveries s)))
       (λ k t. ap (λ z. getD z k auto-mode) (settled-modes l (s .deliveries)) ∙ knows k t ∙ sym (modes (getD (ids-of Subscriptions s) k [])))
 
   left-other : (r : Session) → SameSubscriptions r s → Left past s (with-deliveries r (s .deliveries)) nothing
@@ -484,7 +485,7 @@ module _ (past : List Event) (s : Session) (kept : Kept s) (knows : Knows past s
       by (accepted v) e =
           let (k, f) = deliver-place s kept id label v e in
           left-views past s _ (delivered id label) (ids-of Subscriptions s) (record-label (some k) label (s .deliveries)) refl (ap (λ o. record-label o label (s .deliveries)) f)
-          (recorded-held (s .«sub_lens») past (ids-of Subscriptions s) (s .deliveries) k id label (deliver-at s kept id label v e k f) (deliver-id s kept id label v e) knows
+          (recorded-held (s .subscriptions .lens) past (ids-of Subscriptions s) (s .deliveries) k id label (deliver-at s kept id label v e k f) (deliver-id s kept id label v e) knows
           (λ a. deliver-entered s kept id label v e k f a .1))
           (λ j t. ap (λ z. getD z j auto-mode) (modes-kept (some k)) ∙ knows j t)
 

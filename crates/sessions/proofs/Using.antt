@@ -14,9 +14,12 @@ use Rattle.headers.proofs.Rows.{and-left, and-right, or-false-right}
 use Rattle.sessions.specs.Stores.{valid-store, used, use-checks}
 use Rattle.sessions.specs.Values.{heart-beat-max}
 use Rattle.sessions.specs.Sessions.{subscriptions-max, transactions-max, id-max, closed-phase}
-use Rattle.sessions.specs.Sessions.{ids-of, with-stores, with-ids, valid-numbers, valid-ids, right-deliveries, is-valid, Sized}
+use Rattle.sessions.specs.Sessions.{ids-of, with-subscriptions, with-transactions, with-ids, valid-offers, valid-agreed, valid-numbers, valid-ids}
+use Rattle.sessions.specs.Sessions.{right-deliveries, is-valid, Sized}
+use Rattle.sessions.specs.declared.parts.SubscriptionIds.{SubscriptionIds}
+use Rattle.sessions.specs.declared.parts.TransactionIds.{TransactionIds}
 use Rattle.sessions.specs.Places.{Fits, stored, Settles, put-in}
-use Rattle.sessions.specs.Steps.{closed-by, accepted-by, count-of, put-of, GivesUse}
+use Rattle.sessions.specs.Steps.{closed-by, accepted-by, count-of, put-subscription, put-transaction, put-of, GivesUse}
 use Rattle.sessions.specs.declared.store.Use.{Use}
 use Rattle.sessions.specs.declared.store.Use.the-variants.{Nothing, Need, Enter, Free}
 use Rattle.sessions.specs.declared.store.Settled.{Settled}
@@ -31,12 +34,12 @@ use Rattle.sessions.proofs.Steps.{gives-refused, gives-accepted, settle
 
 -- the store of a kind, and its lengths
 abbrev pub store-of : Kind → Session → List ℕ
-store-of Subscriptions s = s .subs
-store-of Transactions s = s .txs
+store-of Subscriptions s = s .subscriptions .ids
+store-of Transactions s = s .transactions .ids
 
 abbrev pub lens-of : Kind → Session → List ℕ
-lens-of Subscriptions s = s .«sub_lens»
-lens-of Transactions s = s .«tx_lens»
+lens-of Subscriptions s = s .subscriptions .lens
+lens-of Transactions s = s .transactions .lens
 
 module _ (s : Session) (sized : Sized s) (valid : is-valid s ≡ true) where
   ids-valid : valid-ids s ≡ true
@@ -46,37 +49,37 @@ module _ (s : Session) (sized : Sized s) (valid : is-valid s ≡ true) where
   valid-of : (k : Kind) → valid-store id-max (store-of k s) (lens-of k s) ≡ true
   unfolding is-valid
   valid-of Subscriptions =
-      and-left (valid-store id-max (s .subs) (s .«sub_lens»)) (valid-store id-max (s .txs) (s .«tx_lens»)) ids-valid
+      and-left (valid-store id-max (s .subscriptions .ids) (s .subscriptions .lens)) (valid-store id-max (s .transactions .ids) (s .transactions .lens)) ids-valid
   valid-of Transactions =
-      and-right (valid-store id-max (s .subs) (s .«sub_lens»)) (valid-store id-max (s .txs) (s .«tx_lens»)) ids-valid
+      and-right (valid-store id-max (s .subscriptions .ids) (s .subscriptions .lens)) (valid-store id-max (s .transactions .ids) (s .transactions .lens)) ids-valid
 
   pub fits-of : (k : Kind) → Fits id-max (count-of k) (store-of k s) (lens-of k s)
-  fits-of Subscriptions = valid-fits id-max (s .subs) (s .«sub_lens») (valid-of Subscriptions) subscriptions-max (sized .sub-lens-long) (sized .subs-long)
-  fits-of Transactions = valid-fits id-max (s .txs) (s .«tx_lens») (valid-of Transactions) transactions-max (sized .tx-lens-long) (sized .txs-long)
+  fits-of Subscriptions = valid-fits id-max (s .subscriptions .ids) (s .subscriptions .lens) (valid-of Subscriptions) subscriptions-max (sized .subscriptions .lens-long) (sized .subscriptions .ids-long)
+  fits-of Transactions = valid-fits id-max (s .transactions .ids) (s .transactions .lens) (valid-of Transactions) transactions-max (sized .transactions .lens-long) (sized .transactions .ids-long)
 
   pub count-ids : (k : Kind) → length (ids-of k s) ≡ count-of k
-  count-ids Subscriptions = length-ids id-max (s .subs) (s .«sub_lens») ∙ sized .sub-lens-long
-  count-ids Transactions = length-ids id-max (s .txs) (s .«tx_lens») ∙ sized .tx-lens-long
+  count-ids Subscriptions = length-ids id-max (s .subscriptions .ids) (s .subscriptions .lens) ∙ sized .subscriptions .lens-long
+  count-ids Transactions = length-ids id-max (s .transactions .ids) (s .transactions .lens) ∙ sized .transactions .lens-long
 
   -- the ids of a session laid out again are the session
   pub same-ids : (k : Kind) → with-ids k s (ids-of k s) ≡ s
   same-ids Subscriptions =
       let f = fits-of Subscriptions in
-      ap₂ (λ x y. with-stores s x y (s .txs) (s .«tx_lens»)) (laid-ids id-max subscriptions-max (s .subs) (s .«sub_lens») f (valid-clean id-max (s .subs) (s .«sub_lens») (valid-of Subscriptions)))
-      (lengths-ids id-max subscriptions-max (s .subs) (s .«sub_lens») f)
+      ap₂ (λ x y. with-subscriptions s (record { ids = x; lens = y })) (laid-ids id-max subscriptions-max (s .subscriptions .ids) (s .subscriptions .lens) f (valid-clean id-max (s .subscriptions .ids) (s .subscriptions .lens) (valid-of Subscriptions)))
+      (lengths-ids id-max subscriptions-max (s .subscriptions .ids) (s .subscriptions .lens) f)
   same-ids Transactions =
       let f = fits-of Transactions in
-      ap₂ (λ x y. with-stores s (s .subs) (s .«sub_lens») x y) (laid-ids id-max transactions-max (s .txs) (s .«tx_lens») f (valid-clean id-max (s .txs) (s .«tx_lens») (valid-of Transactions)))
-      (lengths-ids id-max transactions-max (s .txs) (s .«tx_lens») f)
+      ap₂ (λ x y. with-transactions s (record { ids = x; lens = y })) (laid-ids id-max transactions-max (s .transactions .ids) (s .transactions .lens) f (valid-clean id-max (s .transactions .ids) (s .transactions .lens) (valid-of Transactions)))
+      (lengths-ids id-max transactions-max (s .transactions .ids) (s .transactions .lens) f)
 
   -- with another id in one place they are the session with that id put there
   pub put-ids : (k : Kind) (i : ℕ) (id : List ℕ) → i < count-of k → length id ≤ id-max → put-of k s i id ≡ with-ids k s (set (ids-of k s) i id)
   put-ids Subscriptions i id h l =
-      let (a, b) = put-laid id-max subscriptions-max (s .subs) (s .«sub_lens») (fits-of Subscriptions) (valid-clean id-max (s .subs) (s .«sub_lens») (valid-of Subscriptions)) i h id l in
-      ap₂ (λ x y. with-stores s x y (s .txs) (s .«tx_lens»)) a b
+      let (a, b) = put-laid id-max subscriptions-max (s .subscriptions .ids) (s .subscriptions .lens) (fits-of Subscriptions) (valid-clean id-max (s .subscriptions .ids) (s .subscriptions .lens) (valid-of Subscriptions)) i h id l in
+      ap₂ (λ x y. with-subscriptions s (record { ids = x; lens = y })) a b
   put-ids Transactions i id h l =
-      let (a, b) = put-laid id-max transactions-max (s .txs) (s .«tx_lens») (fits-of Transactions) (valid-clean id-max (s .txs) (s .«tx_lens») (valid-of Transactions)) i h id l in
-      ap₂ (λ x y. with-stores s (s .subs) (s .«sub_lens») x y) a b
+      let (a, b) = put-laid id-max transactions-max (s .transactions .ids) (s .transactions .lens) (fits-of Transactions) (valid-clean id-max (s .transactions .ids) (s .transactions .lens) (valid-of Transactions)) i h id l in
+      ap₂ (λ x y. with-transactions s (record { ids = x; lens = y })) a b
 
 -- ---- what a use of an id gives
 
@@ -120,17 +123,27 @@ module _ (k : Kind) (s : Session) (u : Use) (id : List ℕ) (acceptance : Accept
     pub put-asked : (i n : ℕ) → Settles id-max u id (ids-of k s) (Settled.Put i) → n ≡ stored u (length id) → (i < count-of k) × (length (take (n - 0) (drop 0 id)) ≤ id-max)
     put-asked i n (e, h, f) p = (omega (arith, h, count-ids s sized valid k), rw (stored-part u id n p) (stored-fits id-max u id (ids-of k s) e))
 
--- a session with an id put in a place of a kind, as it is stored
-module _ (s : Session) (i : ℕ) (id store : List ℕ) (m : ℕ) (l : m ≡ length id) (k : Kind) where
-  pub subscription-stored : k ≡ Subscriptions → store ≡ put-in id-max (s .subs) i id → with-stores s store (set (s .«sub_lens») i m) (s .txs) (s .«tx_lens») ≡ put-of k s i id
-  subscription-stored is e = rw (is, e, l)
+-- ids with one put in a place, as they are stored
+module _ (i : ℕ) (id store : List ℕ) (m : ℕ) (l : m ≡ length id) where
+  pub subscription-put : (s : SubscriptionIds) → store ≡ put-in id-max (s .ids) i id
+      → record { ids = store; lens = set (s .lens) i m } ≡ put-subscription s i id
+  subscription-put s e = rw (e, l)
 
-  pub transaction-stored : k ≡ Transactions → store ≡ put-in id-max (s .txs) i id → with-stores s (s .subs) (s .«sub_lens») store (set (s .«tx_lens») i m) ≡ put-of k s i id
-  transaction-stored is e = rw (is, e, l)
+  pub transaction-put : (t : TransactionIds) → store ≡ put-in id-max (t .ids) i id
+      → record { ids = store; lens = set (t .lens) i m } ≡ put-transaction t i id
+  transaction-put t e = rw (e, l)
+
+-- a session with an id put in a place of a kind
+module _ (s : Session) (i : ℕ) (id : List ℕ) (k : Kind) where
+  pub subscription-stored : (ids : SubscriptionIds) → k ≡ Subscriptions → ids ≡ put-subscription (s .subscriptions) i id → with-subscriptions s ids ≡ put-of k s i id
+  subscription-stored ids is e = rw (is, e)
+
+  pub transaction-stored : (ids : TransactionIds) → k ≡ Transactions → ids ≡ put-transaction (s .transactions) i id → with-transactions s ids ≡ put-of k s i id
+  transaction-stored ids is e = rw (is, e)
 
 -- the interval of a valid session is small
-pub small-inbound : (s : Session) → is-valid s ≡ true → s .inbound ≤ heart-beat-max
+pub small-inbound : (s : Session) → is-valid s ≡ true → s .agreed .inbound ≤ heart-beat-max
 unfolding is-valid
 small-inbound s v =
     let small = and-left _ _ (and-right (leb (s .phase) closed-phase) _ (and-left (valid-numbers s) (valid-ids s && right-deliveries s) v)) in
-    leb-true _ _ (and-left _ _ (and-right (leb (s .wants) heart-beat-max) _ (and-right (leb (s .sends) heart-beat-max) _ small)))
+    leb-true _ _ (and-left _ _ (and-right (valid-offers (s .offers)) (valid-agreed (s .agreed)) small))

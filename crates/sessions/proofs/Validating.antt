@@ -41,7 +41,7 @@ module _ (a k i l p : Bool) (few : a ≡ true) where
 
 -- a whole record: its numbers, its ids, its deliveries
 pub whole-valid : (s : Session) (n i d : Bool) → n ≡ valid-numbers s → i ≡ valid-ids s
-    → d ≡ valid-parts (s .deliveries .labels) (s .deliveries .lens) (s .deliveries .places) (s .deliveries .modes) (s .«sub_lens») (s .deliveries .count)
+    → d ≡ valid-parts (s .deliveries .labels) (s .deliveries .lens) (s .deliveries .places) (s .deliveries .modes) (s .subscriptions .lens) (s .deliveries .count)
     → n && (i && (d && (eqb (s .phase) open-phase || eqb (s .deliveries .count) 0))) ≡ is-valid s
 unfolding is-valid valid-deliveries
 whole-valid s n i d a b c = ap₂ (λ x y. x && (y && (d && (eqb (s .phase) open-phase || eqb (s .deliveries .count) 0)))) a b

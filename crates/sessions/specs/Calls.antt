@@ -57,7 +57,7 @@ versions-of (some v) = versions v
 -- those that both sides have
 abbrev pub shared-by : Session → Option (List Bool) → List Bool
 shared-by s none = replicate 3 false
-shared-by s (some client) = shared-flags client (s .offered)
+shared-by s (some client) = shared-flags client (s .offers .versions)
 
 -- the client's heart-beats: "absent means 0,0"
 abbrev pub heart-beats-of : Option (List ℕ) → Option HeartBeats
@@ -74,7 +74,7 @@ client-heart-beats es = heart-beats-of (value-of HeartBeat es)
 -- the client's second likewise."
 abbrev pub opened-by : Session → List Bool → Option HeartBeats → Session
 opened-by s shared none = s
-opened-by s shared (some b) = opened s shared (interval (b .sends) (s .wants)) (interval (s .sends) (b .wants))
+opened-by s shared (some b) = opened s shared (interval (b .sends) (s .offers .wants)) (interval (s .offers .sends) (b .wants))
 
 abbrev pub opening : Session → List Entry → Session
 opening s es = opened-by s (shared-by s (client-versions es)) (client-heart-beats es)
@@ -217,7 +217,7 @@ heart-beat-session s time = left-by (heart-beat-answer s) s (heard s time)
 -- passed since last-heard." Dead is timed out here. Of an invalid record (document 01's unsound one) the answer is 38.
 
 abbrev pub is-timed-out : Session → ℕ → Bool
-is-timed-out s time = in-phase open-phase s && overdue (s .inbound) time (s .«last_heard»)
+is-timed-out s time = in-phase open-phase s && overdue (s .agreed .inbound) time (s .«last_heard»)
 
 unfoldable pub timed-out-answer : Session → ℕ → Answer
 timed-out-answer s time = settle (record { fails = not (is-valid s); number = 38 } ∷ []) (bit (is-timed-out s time) ∷ [])

@@ -14,7 +14,8 @@ use Rattle.frames.specs.Grammar.{Command, number, ABORT, ACK, BEGIN, COMMIT, CO
 use Rattle.frames.specs.Grammar.{MESSAGE, NACK, RECEIPT, SEND, STOMP, SUBSCRIBE, UNSUBSCRIBE}
 use Rattle.sessions.specs.Values.{versions}
 use Rattle.sessions.specs.Opening.{shared-flags, highest, passed}
-use Rattle.sessions.specs.Sessions.{fresh-phase, open-phase, closed-phase, fresh, ids-of, with-ids, with-stores, with-state, with-deliveries, heard}
+use Rattle.sessions.specs.Sessions.{fresh-phase, open-phase, closed-phase, fresh, ids-of, with-ids, with-subscriptions, with-transactions, with-phase}
+use Rattle.sessions.specs.Sessions.{with-deliveries, opened, heard}
 use Rattle.sessions.specs.Deliveries.{auto-mode, client-mode, individual-mode, Pending, with-pending, with-modes}
 use Rattle.sessions.specs.Accounts.{Delivery, Event, recorded, accounts, with-fate, is-acknowledged, is-refused, is-dropped, pending-in}
 use Rattle.sessions.specs.Held.{held-deliveries, pending-answer}
@@ -95,16 +96,16 @@ counts-of es = record {
 
 abbrev pub state-of : Session → List Event → State
 state-of s es = record {
-  sends = s .sends;
-  wants = s .wants;
-  offered = s .offered;
+  sends = s .offers .sends;
+  wants = s .offers .wants;
+  offered = s .offers .versions;
   phase = s .phase;
-  inbound = s .inbound;
-  outbound = s .outbound;
+  inbound = s .agreed .inbound;
+  outbound = s .agreed .outbound;
   last-heard = s .«last_heard»;
   subscriptions = without-free (ids-of Subscriptions s);
   transactions = without-free (ids-of Transactions s);
-  highest-shared = highest (s .shared);
+  highest-shared = highest (s .agreed .versions);
   pending = held-deliveries s;
   counts = counts-of es;
 }
@@ -719,7 +720,7 @@ kept-and-closed =
 -- over the limit, marks that making refuses unless closed)": before every other number, and the record stays as it is. Beside each of
 -- them, a record just within the rule.
 abbrev with-numbers : ℕ → ℕ → ℕ → ℕ → List Bool → ℕ → Session
-with-numbers sends wants inbound outbound offered phase = with-state (fresh sends wants offered) inbound outbound 0 (replicate 3 false) phase
+with-numbers sends wants inbound outbound offered phase = with-phase (opened (fresh sends wants offered) (replicate 3 false) inbound outbound) phase
 
 abbrev in-state : List Bool → ℕ → Session
 in-state offered phase = with-numbers 0 0 0 0 offered phase
@@ -732,7 +733,8 @@ with-texts subscriptions transactions =
 
 abbrev with-octets : ℕ → ℕ → ℕ → ℕ → Session
 with-octets sub sub-len tx tx-len =
-    with-stores (in-state v1-2 open-phase) (sub ∷ replicate 511 0) (sub-len ∷ replicate 15 0) (tx ∷ replicate 127 0) (tx-len ∷ replicate 3 0)
+    with-transactions (with-subscriptions (in-state v1-2 open-phase) (record { ids = sub ∷ replicate 511 0; lens = sub-len ∷ replicate 15 0 }))
+    (record { ids = tx ∷ replicate 127 0; lens = tx-len ∷ replicate 3 0 })
 
 abbrev invalid : Session → Life
 invalid s = record {
@@ -1008,7 +1010,7 @@ abbrev three-with : Deliveries → Session
 three-with d = with-deliveries three-live d
 
 abbrev in-phase-with : ℕ → Deliveries → Session
-in-phase-with phase d = with-state (three-with d) 0 0 0 (replicate 3 false) phase
+in-phase-with phase d = with-phase (three-with d) phase
 
 unfoldable pub record-modes : List Life
 record-modes =

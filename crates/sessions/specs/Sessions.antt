@@ -12,6 +12,10 @@ use Rattle.sessions.specs.Opening.{may-offer}
 use Rattle.sessions.specs.declared.command.Kind.{Kind}
 use Rattle.sessions.specs.declared.command.Kind.the-variants.{Subscriptions, Transactions}
 use Rattle.sessions.specs.declared.delivery.Deliveries.{Deliveries}
+use Rattle.sessions.specs.declared.parts.Offers.{Offers}
+use Rattle.sessions.specs.declared.parts.Agreed.{Agreed}
+use Rattle.sessions.specs.declared.parts.SubscriptionIds.{SubscriptionIds}
+use Rattle.sessions.specs.declared.parts.TransactionIds.{TransactionIds}
 use Rattle.sessions.specs.declared.session.Session.{Session}
 
 -- "A session keeps 16 subscription ids and 4 transaction ids of 1 to 32 octets"
@@ -37,128 +41,113 @@ closed-phase = 2
 abbrev pub in-phase : ℕ → Session → Bool
 in-phase p s = eqb (s .phase) p
 
--- "a fresh one holds 512 zero octets for the former, and 0 for its intervals and last-heard"
-abbrev pub fresh : ℕ → ℕ → List Bool → Session
-fresh sends wants offered = record {
-  sends = sends;
-  wants = wants;
-  inbound = 0;
-  outbound = 0;
-  «last_heard» = 0;
-  subs = replicate (subscriptions-max * id-max) 0;
-  txs = replicate (transactions-max * id-max) 0;
-  «sub_lens» = replicate subscriptions-max 0;
-  «tx_lens» = replicate transactions-max 0;
-  deliveries = no-deliveries;
-  offered = offered;
-  shared = replicate 3 false;
-  phase = fresh-phase;
-}
+-- ---- the record, of its parts
 
--- The view of a session: its ids of a kind as a list, [] for a free place; and the session with other ids, laid out.
-abbrev pub ids-of : Kind → Session → List (List ℕ)
-ids-of Subscriptions s = ids id-max (s .subs) (s .«sub_lens»)
-ids-of Transactions s = ids id-max (s .txs) (s .«tx_lens»)
-
-abbrev pub with-stores : Session → List ℕ → List ℕ → List ℕ → List ℕ → Session
-with-stores s subs sub-lens txs tx-lens = record {
-  sends = s .sends;
-  wants = s .wants;
-  inbound = s .inbound;
-  outbound = s .outbound;
-  «last_heard» = s .«last_heard»;
-  subs = subs;
-  txs = txs;
-  «sub_lens» = sub-lens;
-  «tx_lens» = tx-lens;
-  deliveries = s .deliveries;
-  offered = s .offered;
-  shared = s .shared;
-  phase = s .phase;
-}
-
-abbrev pub with-ids : Kind → Session → List (List ℕ) → Session
-with-ids Subscriptions s is = with-stores s (laid id-max is) (lengths is) (s .txs) (s .«tx_lens»)
-with-ids Transactions s is = with-stores s (s .subs) (s .«sub_lens») (laid id-max is) (lengths is)
-
--- the session with its offers and its ids, and these other fields
-abbrev pub with-state : Session → ℕ → ℕ → ℕ → List Bool → ℕ → Session
-with-state s inbound outbound last-heard shared phase = record {
-  sends = s .sends;
-  wants = s .wants;
-  inbound = inbound;
-  outbound = outbound;
+-- the only place that lists every part
+abbrev pub session-of : Offers → Agreed → SubscriptionIds → TransactionIds → Deliveries → ℕ → ℕ → Session
+session-of offers agreed subscriptions transactions deliveries last-heard phase = record {
+  offers = offers;
+  agreed = agreed;
+  subscriptions = subscriptions;
+  transactions = transactions;
+  deliveries = deliveries;
   «last_heard» = last-heard;
-  subs = s .subs;
-  txs = s .txs;
-  «sub_lens» = s .«sub_lens»;
-  «tx_lens» = s .«tx_lens»;
-  deliveries = s .deliveries;
-  offered = s .offered;
-  shared = shared;
   phase = phase;
 }
 
--- in a phase; closed; with what the opening came to; heard from at a time
-abbrev pub with-phase : Session → ℕ → Session
-with-phase s p = with-state s (s .inbound) (s .outbound) (s .«last_heard») (s .shared) p
+-- "a fresh one holds 512 zero octets for the former, and 0 for its intervals and last-heard"
+abbrev pub nothing-agreed : Agreed
+nothing-agreed = record { inbound = 0; outbound = 0; versions = replicate 3 false }
 
--- with other deliveries
+abbrev pub no-subscriptions : SubscriptionIds
+no-subscriptions = record { ids = replicate (subscriptions-max * id-max) 0; lens = replicate subscriptions-max 0 }
+
+abbrev pub no-transactions : TransactionIds
+no-transactions = record { ids = replicate (transactions-max * id-max) 0; lens = replicate transactions-max 0 }
+
+abbrev pub fresh : ℕ → ℕ → List Bool → Session
+fresh sends wants offered =
+    session-of (record { sends = sends; wants = wants; versions = offered }) nothing-agreed no-subscriptions no-transactions no-deliveries 0 fresh-phase
+
+-- the session with another part
+abbrev pub with-subscriptions : Session → SubscriptionIds → Session
+with-subscriptions s ids = session-of (s .offers) (s .agreed) ids (s .transactions) (s .deliveries) (s .«last_heard») (s .phase)
+
+abbrev pub with-transactions : Session → TransactionIds → Session
+with-transactions s ids = session-of (s .offers) (s .agreed) (s .subscriptions) ids (s .deliveries) (s .«last_heard») (s .phase)
+
 abbrev pub with-deliveries : Session → Deliveries → Session
-with-deliveries s d = record {
-  sends = s .sends;
-  wants = s .wants;
-  inbound = s .inbound;
-  outbound = s .outbound;
-  «last_heard» = s .«last_heard»;
-  subs = s .subs;
-  txs = s .txs;
-  «sub_lens» = s .«sub_lens»;
-  «tx_lens» = s .«tx_lens»;
-  deliveries = d;
-  offered = s .offered;
-  shared = s .shared;
-  phase = s .phase;
-}
+with-deliveries s d = session-of (s .offers) (s .agreed) (s .subscriptions) (s .transactions) d (s .«last_heard») (s .phase)
+
+abbrev pub with-phase : Session → ℕ → Session
+with-phase s p = session-of (s .offers) (s .agreed) (s .subscriptions) (s .transactions) (s .deliveries) (s .«last_heard») p
+
+-- heard from at a time
+abbrev pub heard : Session → ℕ → Session
+heard s time = session-of (s .offers) (s .agreed) (s .subscriptions) (s .transactions) (s .deliveries) time (s .phase)
+
+-- open, with what both sides agreed on
+abbrev pub opened : Session → List Bool → ℕ → ℕ → Session
+opened s shared inbound outbound =
+    session-of (s .offers) (record { inbound = inbound; outbound = outbound; versions = shared })
+    (s .subscriptions) (s .transactions) (s .deliveries) (s .«last_heard») open-phase
 
 -- "Any close now empties these places."
 abbrev pub closed : Session → Session
 closed s = with-deliveries (with-phase s closed-phase) (emptied (s .deliveries))
 
-abbrev pub opened : Session → List Bool → ℕ → ℕ → Session
-opened s shared inbound outbound = with-state s inbound outbound (s .«last_heard») shared open-phase
+-- The view of a session: its ids of a kind as a list, [] for a free place; and the session with other ids, laid out.
+abbrev pub ids-of : Kind → Session → List (List ℕ)
+ids-of Subscriptions s = ids id-max (s .subscriptions .ids) (s .subscriptions .lens)
+ids-of Transactions s = ids id-max (s .transactions .ids) (s .transactions .lens)
 
-abbrev pub heard : Session → ℕ → Session
-heard s time = with-state s (s .inbound) (s .outbound) time (s .shared) (s .phase)
+abbrev pub with-ids : Kind → Session → List (List ℕ) → Session
+with-ids Subscriptions s is = with-subscriptions s (record { ids = laid id-max is; lens = lengths is })
+with-ids Transactions s is = with-transactions s (record { ids = laid id-max is; lens = lengths is })
 
--- A valid record, which document 01 calls not unsound: 38 is given for "unknown phase, length over 32, two equal live ids of one
+-- ---- A valid record, which document 01 calls not unsound: 38 is given for "unknown phase, length over 32, two equal live ids of one
 -- kind, non-zero unused octets, offer or interval over the limit, marks that making refuses unless closed". The marks are the
 -- offered version flags.
-abbrev pub small-numbers : Session → Bool
-small-numbers s = leb (s .sends) heart-beat-max && (leb (s .wants) heart-beat-max && (leb (s .inbound) heart-beat-max && leb (s .outbound) heart-beat-max))
+abbrev pub valid-offers : Offers → Bool
+valid-offers o = leb (o .sends) heart-beat-max && leb (o .wants) heart-beat-max
+
+abbrev pub valid-agreed : Agreed → Bool
+valid-agreed a = leb (a .inbound) heart-beat-max && leb (a .outbound) heart-beat-max
 
 abbrev pub right-flags : Session → Bool
-right-flags s = in-phase closed-phase s || may-offer (s .offered)
+right-flags s = in-phase closed-phase s || may-offer (s .offers .versions)
 
 abbrev pub valid-numbers : Session → Bool
-valid-numbers s = leb (s .phase) closed-phase && (small-numbers s && right-flags s)
+valid-numbers s = leb (s .phase) closed-phase && ((valid-offers (s .offers) && valid-agreed (s .agreed)) && right-flags s)
+
+abbrev pub valid-subscriptions : SubscriptionIds → Bool
+valid-subscriptions s = valid-store id-max (s .ids) (s .lens)
+
+abbrev pub valid-transactions : TransactionIds → Bool
+valid-transactions t = valid-store id-max (t .ids) (t .lens)
 
 abbrev pub valid-ids : Session → Bool
-valid-ids s = valid-store id-max (s .subs) (s .«sub_lens») && valid-store id-max (s .txs) (s .«tx_lens»)
+valid-ids s = valid-subscriptions (s .subscriptions) && valid-transactions (s .transactions)
 
 -- no deliveries are pending but in an open session
 abbrev pub right-deliveries : Session → Bool
-right-deliveries s = valid-deliveries (s .«sub_lens») (s .deliveries) && (in-phase open-phase s || eqb (s .deliveries .count) 0)
+right-deliveries s = valid-deliveries (s .subscriptions .lens) (s .deliveries) && (in-phase open-phase s || eqb (s .deliveries .count) 0)
 
 unfoldable pub is-valid : Session → Bool
 is-valid s = valid-numbers s && (valid-ids s && right-deliveries s)
 
 -- the sizes that the arrays of every record have
+pub record SizedSubscriptions (s : SubscriptionIds) : Type 0 where
+  pub ids-long : length (s .ids) ≡ subscriptions-max * id-max
+  pub lens-long : length (s .lens) ≡ subscriptions-max
+
+pub record SizedTransactions (t : TransactionIds) : Type 0 where
+  pub ids-long : length (t .ids) ≡ transactions-max * id-max
+  pub lens-long : length (t .lens) ≡ transactions-max
+
 pub record Sized (s : Session) : Type 0 where
-  pub subs-long : length (s .subs) ≡ subscriptions-max * id-max
-  pub sub-lens-long : length (s .«sub_lens») ≡ subscriptions-max
-  pub txs-long : length (s .txs) ≡ transactions-max * id-max
-  pub tx-lens-long : length (s .«tx_lens») ≡ transactions-max
+  pub subscriptions : SizedSubscriptions (s .subscriptions)
+  pub transactions : SizedTransactions (s .transactions)
 
 pub record SizedDeliveries (d : Deliveries) : Type 0 where
   pub labels-long : length (d .labels) ≡ deliveries-max * label-max

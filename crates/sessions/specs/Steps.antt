@@ -15,7 +15,7 @@ use Rattle.sessions.specs.Deliveries.{deliveries-max, label-max, auto-mo
 use Rattle.sessions.specs.Deliveries.{known-modes, idle-modes, valid-labels, valid-places}
 use Rattle.sessions.specs.Opening.{none-shared}
 use Rattle.sessions.specs.Headers.{is-some, from-server, opens, mode-asked, value-of}
-use Rattle.sessions.specs.Sessions.{subscriptions-max, transactions-max, id-max, fresh-phase, open-phase, closed-phase, ids-of, with-ids, with-stores}
+use Rattle.sessions.specs.Sessions.{subscriptions-max, transactions-max, id-max, fresh-phase, open-phase, closed-phase, ids-of, with-ids, with-subscriptions, with-transactions}
 use Rattle.sessions.specs.Sessions.{with-deliveries, closed, heard, is-valid}
 use Rattle.sessions.specs.Answers.{acceptance-says, answer-says, delivery-says}
 use Rattle.sessions.specs.Calls.{left-by, shared-by, client-versions, client-heart-beats, opening, named-id, naming-effect, naming-checks}
@@ -26,6 +26,8 @@ use Rattle.sessions.specs.declared.store.Use.{Use}
 use Rattle.sessions.specs.declared.command.Header.the-variants.{Id}
 use Rattle.sessions.specs.declared.command.Kind.{Kind}
 use Rattle.sessions.specs.declared.command.Kind.the-variants.{Subscriptions, Transactions}
+use Rattle.sessions.specs.declared.parts.SubscriptionIds.{SubscriptionIds}
+use Rattle.sessions.specs.declared.parts.TransactionIds.{TransactionIds}
 use Rattle.sessions.specs.declared.session.Session.{Session}
 use Rattle.sessions.specs.declared.session.SessionAnswer.{SessionAnswer}
 use Rattle.sessions.specs.declared.session.Acceptance.{Acceptance}
@@ -61,9 +63,15 @@ abbrev pub count-of : Kind → ℕ
 count-of Subscriptions = subscriptions-max
 count-of Transactions = transactions-max
 
+abbrev pub put-subscription : SubscriptionIds → ℕ → List ℕ → SubscriptionIds
+put-subscription s k id = record { ids = put-in id-max (s .ids) k id; lens = set (s .lens) k (length id) }
+
+abbrev pub put-transaction : TransactionIds → ℕ → List ℕ → TransactionIds
+put-transaction t k id = record { ids = put-in id-max (t .ids) k id; lens = set (t .lens) k (length id) }
+
 abbrev pub put-of : Kind → Session → ℕ → List ℕ → Session
-put-of Subscriptions s k id = with-stores s (put-in id-max (s .subs) k id) (set (s .«sub_lens») k (length id)) (s .txs) (s .«tx_lens»)
-put-of Transactions s k id = with-stores s (s .subs) (s .«sub_lens») (put-in id-max (s .txs) k id) (set (s .«tx_lens») k (length id))
+put-of Subscriptions s k id = with-subscriptions s (put-subscription (s .subscriptions) k id)
+put-of Transactions s k id = with-transactions s (put-transaction (s .transactions) k id)
 
 -- an id of a kind used
 abbrev pub GivesUse : Kind → Session → Use → List ℕ → Acceptance → ℕ → Outcome → Type 0

@@ -7,5 +7,6 @@ pub mod commands; // their numbers
 pub mod refusals; // the numbers that a session refuses with
 mod command; // which headers a command needs, what it does with an id, and in which phase it may come
 mod locate; // where a header's first value stands
+pub mod parts; // the parts of its record
 pub mod session; // the session as a value
 pub mod in_place; // the same calls on a session where it lies

@@ -27,6 +27,10 @@ use crate::command::Kind;
 use crate::command::Naming;
 use crate::commands;
 use crate::delivery::Deliveries;
+use crate::parts::Agreed;
+use crate::parts::Offers;
+use crate::parts::SubscriptionIds;
+use crate::parts::TransactionIds;
 use crate::refusals;
 use crate::store::Settled;
 use crate::store::Use;
@@ -35,23 +39,15 @@ use crate::value::HeartBeatsRead;
 use crate::value::ModeRead;
 use stores::Search;
 
-// The record of a session. The phase is 0 fresh, 1 open, 2 closed. The server's offers: it can send heart-beats every so many
-// milliseconds, and wants to hear one every so many. Inbound is the interval from client to server. Versions are flags for 1.0, 1.1
-// and 1.2.
+// The record of a session, made of its parts. The phase is 0 fresh, 1 open, 2 closed.
 pub struct Session {
-    pub sends: u32,
-    pub wants: u32,
-    pub inbound: u32,
-    pub outbound: u32,
-    pub last_heard: u32,
-    pub subs: [u8; Session::SUBSCRIPTIONS * Session::ID],
-    pub txs: [u8; Session::TRANSACTIONS * Session::ID],
-    pub sub_lens: [u8; Session::SUBSCRIPTIONS],
-    pub tx_lens: [u8; Session::TRANSACTIONS],
-    pub offered: [bool; 3],
-    pub shared: [bool; 3],
-    pub phase: u8,
+    pub offers: Offers,
+    pub agreed: Agreed,
+    pub subscriptions: SubscriptionIds,
+    pub transactions: TransactionIds,
     pub deliveries: Deliveries,
+    pub last_heard: u32,
+    pub phase: u8,
 }
 
 // What an accepted answer says: whether a receipt is owed.
@@ -179,19 +175,17 @@ impl Session {
         ensures { λ r. ⌜ r ≡ fresh sends wants offered ⌝ }
     {
         Session {
-            sends,
-            wants,
-            inbound: 0,
-            outbound: 0,
-            last_heard: 0,
-            subs: [0; 512],
-            txs: [0; Session::TRANSACTIONS * Session::ID],
-            sub_lens: [0; Session::SUBSCRIPTIONS],
-            tx_lens: [0; Session::TRANSACTIONS],
-            offered,
-            shared: [false; 3],
-            phase: Session::FRESH,
+            offers: Offers {
+                sends,
+                wants,
+                versions: offered,
+            },
+            agreed: Agreed::nothing(),
+            subscriptions: SubscriptionIds::none(),
+            transactions: TransactionIds::none(),
             deliveries: Deliveries::none(),
+            last_heard: 0,
+            phase: Session::FRESH,
         }
     }
 
@@ -258,10 +252,11 @@ impl Session {
     fn has_valid_numbers(self) -> bool
         ensures { λ r. ⌜ r ≡ valid-numbers self ⌝ }
     {
-        let offered = self.offered;
-        let intervals = (self.inbound <= HEART_BEAT_MAX) & (self.outbound <= HEART_BEAT_MAX);
-        let small = (self.sends <= HEART_BEAT_MAX) & ((self.wants <= HEART_BEAT_MAX) & intervals);
-        let flags = (self.phase == Session::CLOSED) | crate::value::may_offer(offered);
+        let offers = self.offers;
+        let agreed = self.agreed;
+        let versions = offers.versions;
+        let small = offers.is_valid() & agreed.is_valid();
+        let flags = (self.phase == Session::CLOSED) | crate::value::may_offer(versions);
         (self.phase <= Session::CLOSED) & (small & flags)
     }
 
@@ -270,14 +265,19 @@ impl Session {
         ensures { λ r. ⌜ r ≡ is-valid self ⌝ }
     {
         let numbers = self.has_valid_numbers();
-        let ids = are_valid_ids(&self.subs, &self.sub_lens, &self.txs, &self.tx_lens);
+        let ids = are_valid_ids(
+            &self.subscriptions.ids,
+            &self.subscriptions.lens,
+            &self.transactions.ids,
+            &self.transactions.lens,
+        );
         let count = self.deliveries.count;
         let deliveries = crate::delivery::are_valid(
             &self.deliveries.labels,
             &self.deliveries.lens,
             &self.deliveries.places,
             &self.deliveries.modes,
-            &self.sub_lens,
+            &self.subscriptions.lens,
             count,
         );
         numbers & (ids & (deliveries & ((self.phase == Session::OPEN) | (count == 0))))
@@ -285,9 +285,9 @@ impl Session {
 
     // The highest version that both sides have, times ten, or 0 where there is none.
     pub fn highest_shared(self) -> u32
-        ensures { λ r. ⌜ r ≡ highest (self .shared) ⌝ }
+        ensures { λ r. ⌜ r ≡ highest (self .agreed .versions) ⌝ }
     {
-        let shared = self.shared;
+        let shared = self.agreed.versions;
         if shared[2] {
             return 12;
         }
@@ -320,10 +320,10 @@ impl Session {
         if self.phase != Session::OPEN {
             return TimedOut::No;
         }
-        if self.inbound == 0 {
+        if self.agreed.inbound == 0 {
             return TimedOut::No;
         }
-        if self.inbound * 2 < crate::clock::passed_since(time, self.last_heard) {
+        if self.agreed.inbound * 2 < crate::clock::passed_since(time, self.last_heard) {
             return TimedOut::Yes;
         }
         TimedOut::No
@@ -331,11 +331,16 @@ impl Session {
 
     // The session open, with what both sides came to.
     fn opened(mut self, shared: [bool; 3], client: HeartBeatsRead) -> Session
-        ensures { λ r. ⌜ r ≡ opened self shared (interval (client .sends) (self .wants)) (interval (self .sends) (client .wants)) ⌝ }
+        ensures { λ r. ⌜ r ≡ opened self shared (interval (client .sends) (self .offers .wants)) (interval (self .offers .sends) (client .wants)) ⌝ }
     {
-        self.inbound = crate::value::interval(client.sends, self.wants);
-        self.outbound = crate::value::interval(self.sends, client.wants);
-        self.shared = shared;
+        let inbound = crate::value::interval(client.sends, self.offers.wants);
+        let outbound = crate::value::interval(self.offers.sends, client.wants);
+        let agreed = Agreed {
+            inbound,
+            outbound,
+            versions: shared,
+        };
+        self.agreed = agreed;
         self.phase = Session::OPEN;
         self
     }
@@ -350,7 +355,7 @@ impl Session {
             return self.refused(refusals::BAD_VERSIONS);
         }
         let flags = client.flags;
-        let offered = self.offered;
+        let offered = self.offers.versions;
         let shared = crate::value::share(flags, offered);
         if crate::value::is_none_shared(shared) {
             return self.refused(refusals::NO_VERSION);
@@ -369,16 +374,12 @@ impl Session {
     {
         match kind {
             Kind::Subscriptions => {
-                let mut subs = self.subs;
-                crate::store::put(&mut subs, index, Session::ID, id);
-                self.subs = subs;
-                self.sub_lens[index] = (id.len() % 256) as u8;
+                let subscriptions = self.subscriptions;
+                self.subscriptions = subscriptions.with_id(index, id);
             }
             Kind::Transactions => {
-                let mut txs = self.txs;
-                crate::store::put(&mut txs, index, Session::ID, id);
-                self.txs = txs;
-                self.tx_lens[index] = (id.len() % 256) as u8;
+                let transactions = self.transactions;
+                self.transactions = transactions.with_id(index, id);
             }
         }
         self
@@ -391,14 +392,14 @@ impl Session {
     {
         match kind {
             Kind::Subscriptions => {
-                let subs = self.subs;
-                let lens = self.sub_lens;
-                crate::store::settle(&subs, &lens, Session::SUBSCRIPTIONS, Session::ID, id, usage)
+                let ids = self.subscriptions.ids;
+                let lens = self.subscriptions.lens;
+                crate::store::settle(&ids, &lens, Session::SUBSCRIPTIONS, Session::ID, id, usage)
             }
             Kind::Transactions => {
-                let txs = self.txs;
-                let lens = self.tx_lens;
-                crate::store::settle(&txs, &lens, Session::TRANSACTIONS, Session::ID, id, usage)
+                let ids = self.transactions.ids;
+                let lens = self.transactions.lens;
+                crate::store::settle(&ids, &lens, Session::TRANSACTIONS, Session::ID, id, usage)
             }
         }
     }
@@ -448,7 +449,7 @@ impl Session {
         if mode == Deliveries::AUTO {
             return named;
         }
-        let lens = self.sub_lens;
+        let lens = self.subscriptions.lens;
         match crate::store::find_free(&lens) {
             Search::At(k) => {
                 let deliveries = self.deliveries;
@@ -478,9 +479,9 @@ impl Session {
         requires { ⌜ is-valid self ≡ true ⌝ }
         ensures { λ r. ⌜ search-says r ≡ place-named self (some (now (id .entry))) ⌝ }
     {
-        let subs = self.subs;
-        let lens = self.sub_lens;
-        crate::store::find(&subs, &lens, Session::SUBSCRIPTIONS, Session::ID, id)
+        let ids = self.subscriptions.ids;
+        let lens = self.subscriptions.lens;
+        crate::store::find(&ids, &lens, Session::SUBSCRIPTIONS, Session::ID, id)
     }
 
     // An outcome that was accepted, with the deliveries of a subscription dropped, by its id, and its mode. Most often no subscription has either, and none is looked for.
@@ -577,14 +578,19 @@ impl Session {
             ⌝ }
     {
         let numbers = self.has_valid_numbers();
-        let ids = are_valid_ids(&self.subs, &self.sub_lens, &self.txs, &self.tx_lens);
+        let ids = are_valid_ids(
+            &self.subscriptions.ids,
+            &self.subscriptions.lens,
+            &self.transactions.ids,
+            &self.transactions.lens,
+        );
         let count = self.deliveries.count;
         let deliveries = crate::delivery::are_valid(
             &self.deliveries.labels,
             &self.deliveries.lens,
             &self.deliveries.places,
             &self.deliveries.modes,
-            &self.sub_lens,
+            &self.subscriptions.lens,
             count,
         );
         if !(numbers & (ids & (deliveries & ((self.phase == Session::OPEN) | (count == 0))))) {
@@ -676,13 +682,13 @@ impl Session {
         let modes = deliveries.modes;
         let labels = deliveries.labels;
         let lens = deliveries.lens;
-        let subs = self.subs;
-        let sub_lens = self.sub_lens;
+        let ids = self.subscriptions.ids;
+        let id_lens = self.subscriptions.lens;
         let place = crate::delivery::wide(places[index]);
         PendingAt {
             answer: PendingAnswer::Held,
-            subscription: crate::store::row(&subs, place),
-            subscription_len: sub_lens[place],
+            subscription: crate::store::row(&ids, place),
+            subscription_len: id_lens[place],
             mode: modes[place],
             label: crate::store::row(&labels, index),
             label_len: lens[index],

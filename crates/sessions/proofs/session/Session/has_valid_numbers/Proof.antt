@@ -3,11 +3,17 @@ use borrow.Author.Needs.{needs}
 use Rattle.sessions.proofs.session.Session.has_valid_numbers.Statement.{statement}
 use Rattle.sessions.proofs.session.Session.has_valid_numbers.Tie as tie
 
+is-valid-requires : tie.Need-is-valid-requires
+is-valid-requires c κs = search needs
+
+is-valid-requires-2 : tie.Need-is-valid-requires-2
+is-valid-requires-2 c κs = search needs
+
 may-offer-requires : tie.Need-may-offer-requires
 may-offer-requires c κs = search needs
 
 returns : tie.Need-returns
-returns c = rw (c .before .may-offer .ensures)
+returns c = rw (c .before .before .before .before .is-valid .ensures, c .before .before .before .is-valid2 .ensures, c .before .may-offer .ensures)
 
 pub has-valid-numbers-spec : {M : Type 1} → statement M
-has-valid-numbers-spec = tie.close (tie.spec may-offer-requires returns)
+has-valid-numbers-spec = tie.close (tie.spec is-valid-requires is-valid-requires-2 may-offer-requires returns)

@@ -14,7 +14,7 @@ use Rattle.sessions.proofs.session.Session.told.Tie as tie
 -- a valid session, with the sizes of its arrays
 kept : (c : tie.Start) → is-valid (c .args .self) ≡ true → Kept (c .args .self)
 kept c v =
-    kept-of (c .args .self) (record { subs-long = search needs; sub-lens-long = search needs; txs-long = search needs; tx-lens-long = search needs })
+    kept-of (c .args .self) (record { subscriptions = record { ids-long = search needs; lens-long = search needs }; transactions = record { ids-long = search needs; lens-long = search needs } })
     (record { labels-long = search needs; lens-long = search needs; places-long = search needs; modes-long = search needs }) v
 
 array-read-wide : tie.Need-array-read-wide
@@ -27,7 +27,7 @@ slice-aggregate-row : tie.Need-slice-aggregate-row
 slice-aggregate-row c = search needs
 
 row-requires : tie.Need-row-requires
-row-requires c κs = omega (arith, told-place (c .before .before .before .before .before .before .before .before .before .args .self) (kept (c .before .before .before .before .before .before .before .before .before) (c .before .before .before .before .before .before .before .before .before .pre .0)) (c .before .before .before .before .before .before .before .before .before .args .index) (c .before .before .before .before .before .before .before .before .before .pre .1) (c .before .wide .result) (c .before .wide .ensures .0), (kept (c .before .before .before .before .before .before .before .before .before) (c .before .before .before .before .before .before .before .before .before .pre .0)) .ids .sized .subs-long)
+row-requires c κs = omega (arith, told-place (c .before .before .before .before .before .before .before .before .before .args .self) (kept (c .before .before .before .before .before .before .before .before .before) (c .before .before .before .before .before .before .before .before .before .pre .0)) (c .before .before .before .before .before .before .before .before .before .args .index) (c .before .before .before .before .before .before .before .before .before .pre .1) (c .before .wide .result) (c .before .wide .ensures .0), (kept (c .before .before .before .before .before .before .before .before .before) (c .before .before .before .before .before .before .before .before .before .pre .0)) .ids .sized .subscriptions .ids-long)
 
 array-read-t13 : tie.Need-array-read-t13
 array-read-t13 c = omega (arith, told-place (c .before .before .before .before .before .before .before .before .before .before .args .self) (kept (c .before .before .before .before .before .before .before .before .before .before) (c .before .before .before .before .before .before .before .before .before .before .pre .0)) (c .before .before .before .before .before .before .before .before .before .before .args .index) (c .before .before .before .before .before .before .before .before .before .before .pre .1) (c .before .before .wide .result) (c .before .before .wide .ensures .0))
@@ -36,7 +36,9 @@ array-read-t22 : tie.Need-array-read-t22
 array-read-t22 c = omega (arith, told-place (c .before .before .before .before .before .before .before .before .before .before .args .self) (kept (c .before .before .before .before .before .before .before .before .before .before) (c .before .before .before .before .before .before .before .before .before .before .pre .0)) (c .before .before .before .before .before .before .before .before .before .before .args .index) (c .before .before .before .before .before .before .before .before .before .before .pre .1) (c .before .before .wide .result) (c .before .before .wide .ensures .0))
 
 slice-aggregate-row-2 : tie.Need-slice-aggregate-row-2
-slice-aggregate-row-2 c = search needs
+slice-aggregate-row-2 c =
+    let s = c .before .before .before .before .before .before .before .before .before .before .before in
+    search (needs, s .good .0 .1 .1 .1 .1 .1 .1 .0)
 
 row-requires-2 : tie.Need-row-requires-2
 row-requires-2 c κs = omega (arith, c .before .before .before .before .before .before .before .before .before .before .before .pre .1, laid-of (c .before .before .before .before .before .before .before .before .before .before .before .args .self) (kept (c .before .before .before .before .before .before .before .before .before .before .before) (c .before .before .before .before .before .before .before .before .before .before .before .pre .0)) .few, (kept (c .before .before .before .before .before .before .before .before .before .before .before) (c .before .before .before .before .before .before .before .before .before .before .before .pre .0)) .holds .sized .labels-long)
@@ -48,7 +50,7 @@ returns : tie.Need-returns
 returns c = ap₂ (λ a b. record {
   answer = PendingAnswer.Held;
   subscription = a;
-  «subscription_len» = getD (c .before .before .before .before .before .before .before .before .before .before .before .before .args .self .«sub_lens») (c .before .before .before .before .wide .result) 0;
+  «subscription_len» = getD (c .before .before .before .before .before .before .before .before .before .before .before .before .args .self .subscriptions .lens) (c .before .before .before .before .wide .result) 0;
   mode = getD (c .before .before .before .before .before .before .before .before .before .before .before .before .args .self .deliveries .modes) (c .before .before .before .before .wide .result) 0;
   label = b;
   «label_len» = getD (c .before .before .before .before .before .before .before .before .before .before .before .before .args .self .deliveries .lens) (c .before .before .before .before .before .before .before .before .before .before .before .before .args .index) 0;

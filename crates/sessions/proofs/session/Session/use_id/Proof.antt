@@ -12,7 +12,7 @@ use Rattle.sessions.proofs.session.Session.use_id.Tie as tie
 
 -- the sizes of its arrays
 sized : (c : tie.Start) → Sized (c .args .self)
-sized c = record { subs-long = search needs; sub-lens-long = search needs; txs-long = search needs; tx-lens-long = search needs }
+sized c = record { subscriptions = record { ids-long = search needs; lens-long = search needs }; transactions = record { ids-long = search needs; lens-long = search needs } }
 
 settle-requires : tie.Need-settle-requires
 settle-requires c κs = search needs

@@ -19,11 +19,18 @@ use Rattle.sessions.proofs.session.Session.without_deliveries.Tie as ti
 -- a valid session, with the sizes of its arrays
 kept : (c : tie.Start) → is-valid (c .args .self) ≡ true → Kept (c .args .self)
 kept c v =
-    kept-of (c .args .self) (record { subs-long = search needs; sub-lens-long = search needs; txs-long = search needs; tx-lens-long = search needs })
-    (record { labels-long = search (needs, c .good .0 .1 .1 .1 .1 .1 .1 .1 .1 .1 .1 .1 .1); lens-long = search (needs, c .good .0 .1 .1 .1 .1 .1 .1 .1 .1 .1 .1 .1 .1); places-long = search (needs, c .good .0 .1 .1 .1 .1 .1 .1 .1 .1 .1 .1 .1 .1); modes-long = search (needs, c .good .0 .1 .1 .1 .1 .1 .1 .1 .1 .1 .1 .1 .1) }) v
+    let subs = c .good .0 .1 .1 .1 .1 .0 in
+    let txs = c .good .0 .1 .1 .1 .1 .1 .0 in
+    let ds = c .good .0 .1 .1 .1 .1 .1 .1 .0 in
+    kept-of (c .args .self)
+    (record {
+      subscriptions = record { ids-long = search (needs, subs); lens-long = search (needs, subs) };
+      transactions = record { ids-long = search (needs, txs); lens-long = search (needs, txs) };
+    })
+    (record { labels-long = search (needs, ds); lens-long = search (needs, ds); places-long = search (needs, ds); modes-long = search (needs, ds) }) v
 
 slice-aggregate-is-zero : tie.Need-slice-aggregate-is-zero
-slice-aggregate-is-zero c = search (needs, c .before .before .before .before .before .good .0 .1 .1 .1 .1 .1 .1 .1 .1 .1 .1 .1 .1)
+slice-aggregate-is-zero c = search (needs, c .before .before .before .before .before .good .0 .1 .1 .1 .1 .1 .1 .0)
 
 is-zero-requires : tie.Need-is-zero-requires
 is-zero-requires c κs = search needs
