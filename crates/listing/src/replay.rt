@@ -162,8 +162,8 @@ fn put_opened(d: &mut [u8], session: Session) -> usize
     ensures { λ r. ⌜ (r ≤ 107) × (length (now (d .exit)) ≡ length (now (d .entry))) ⌝ }
 {
     let mut k = put_version(d, session.highest_shared());
-    k += put_word_number(&mut d[k..], b"client ", session.inbound as u64, 32);
-    k + put_word_number(&mut d[k..], b"server ", session.outbound as u64, 10)
+    k += put_word_number(&mut d[k..], b"client ", session.agreed.inbound as u64, 32);
+    k + put_word_number(&mut d[k..], b"server ", session.agreed.outbound as u64, 10)
 }
 
 // That a receipt is owed, or nothing.

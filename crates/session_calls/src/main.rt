@@ -12,6 +12,10 @@ use listing::calls::at_most;
 use listing::calls::number_at;
 use listing::calls::read_front;
 use sessions::delivery::Deliveries;
+use sessions::parts::Agreed;
+use sessions::parts::Offers;
+use sessions::parts::SubscriptionIds;
+use sessions::parts::TransactionIds;
 use sessions::refusals;
 use sessions::session::DeliveryAnswer;
 use sessions::session::MakingAnswer;
@@ -77,16 +81,18 @@ fn put_flags(head: &mut [u8; 27], i: usize, flags: [bool; 3])
 
 // All of a record but the ids and the deliveries.
 fn head_of(s: Session) -> [u8; 27] {
-    let offered = s.offered;
-    let shared = s.shared;
+    let offers = s.offers;
+    let agreed = s.agreed;
+    let offered = offers.versions;
+    let shared = agreed.versions;
     let mut head = [0u8; 27];
     head[0] = s.phase;
-    put_number(&mut head, 1, s.sends);
-    put_number(&mut head, 5, s.wants);
+    put_number(&mut head, 1, offers.sends);
+    put_number(&mut head, 5, offers.wants);
     put_flags(&mut head, 9, offered);
     put_flags(&mut head, 12, shared);
-    put_number(&mut head, 15, s.inbound);
-    put_number(&mut head, 19, s.outbound);
+    put_number(&mut head, 15, agreed.inbound);
+    put_number(&mut head, 19, agreed.outbound);
     put_number(&mut head, 23, s.last_heard);
     head
 }
@@ -108,10 +114,12 @@ fn write_deliveries(d: Deliveries) {
 // The record, 2,880 octets.
 fn write_record(s: Session) {
     let head = head_of(s);
-    let subs = s.subs;
-    let sub_lens = s.sub_lens;
-    let txs = s.txs;
-    let tx_lens = s.tx_lens;
+    let subscriptions = s.subscriptions;
+    let transactions = s.transactions;
+    let subs = subscriptions.ids;
+    let sub_lens = subscriptions.lens;
+    let txs = transactions.ids;
+    let tx_lens = transactions.lens;
     io::write_all(STDOUT_FILENO, &head);
     io::write_all(STDOUT_FILENO, &subs);
     io::write_all(STDOUT_FILENO, &sub_lens);
@@ -377,19 +385,27 @@ fn set(session: Session, head: &[u8; 27]) -> State {
     let offered = flags_at(head, 9);
     let shared = flags_at(head, 12);
     let after = Session {
-        sends: number_at(head, 1),
-        wants: number_at(head, 5),
-        inbound: number_at(head, 15),
-        outbound: number_at(head, 19),
-        last_heard: number_at(head, 23),
-        subs,
-        txs,
-        sub_lens,
-        tx_lens,
-        offered,
-        shared,
-        phase: head[0],
+        offers: Offers {
+            sends: number_at(head, 1),
+            wants: number_at(head, 5),
+            versions: offered,
+        },
+        agreed: Agreed {
+            inbound: number_at(head, 15),
+            outbound: number_at(head, 19),
+            versions: shared,
+        },
+        subscriptions: SubscriptionIds {
+            ids: subs,
+            lens: sub_lens,
+        },
+        transactions: TransactionIds {
+            ids: txs,
+            lens: tx_lens,
+        },
         deliveries,
+        last_heard: number_at(head, 23),
+        phase: head[0],
     };
     say(b"set");
     answered(after)
