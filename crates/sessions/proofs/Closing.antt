@@ -17,12 +17,12 @@ use Rattle.headers.specs.Answers.{Answer, accepted, refused, is-block}
 use Rattle.headers.proofs.Rows.{cond-case, or-false-left, or-false-right}
 use Rattle.frames.specs.Grammar.{number, DISCONNECT}
 use Rattle.sessions.specs.Values.{HeartBeats}
-use Rattle.sessions.specs.Headers.{is, unknown, opens, naming}
+use Rattle.sessions.specs.Headers.{IdUse, changed-id, is, unknown, opens}
 use Rattle.sessions.specs.Sessions.{closed-phase, with-ids, with-phase, with-deliveries, closed, heard, is-valid}
 use Rattle.sessions.specs.Deliveries.{record-label}
 use Rattle.sessions.proofs.Pending.{emptied-same}
 use Rattle.sessions.proofs.Kept.{Kept}
-use Rattle.sessions.specs.Calls.{left-by, shared-by, client-versions, client-heart-beats, opened-by, named-id, frame-answer, naming-effect, effect, frame-session, heart-beat-answer, heart-beat-session, place-named, recorded-by, deliver-answer, deliver-session}
+use Rattle.sessions.specs.Calls.{left-by, shared-by, client-versions, client-heart-beats, opened-by, uses-of, frame-answer, id-effect, effect, frame-session, heart-beat-answer, heart-beat-session, place-named, recorded-by, deliver-answer, deliver-session}
 use Rattle.sessions.specs.Histories.{Call, frame, heart-beat, deliver, may-close, answer-to, next, after, Closes, by-number, by-disconnect}
 use Rattle.sessions.specs.declared.command.Kind.{Kind}
 use Rattle.sessions.specs.declared.command.Kind.the-variants.{Subscriptions, Transactions}
@@ -35,9 +35,9 @@ with-ids-phase : (k : Kind) (s : Session) (is : List (List ℕ)) → (with-ids k
 with-ids-phase Subscriptions s is = refl
 with-ids-phase Transactions s is = refl
 
-naming-phase : (s : Session) (n : ℕ) (o : Option (List ℕ)) → (naming-effect s n o) .phase ≡ s .phase
-naming-phase s n none = refl
-naming-phase s n (some id) = with-ids-phase (naming n .kind) s _
+changed-phase : (s : Session) (o : Option IdUse) → (id-effect s o) .phase ≡ s .phase
+changed-phase s none = refl
+changed-phase s (some u) = with-ids-phase (u .kind) s _
 
 module _ (s : Session) (open-yet : s .phase ≢ closed-phase) where
   opening-open : (shared : List Bool) (o : Option HeartBeats) → (opened-by s shared o) .phase ≢ closed-phase
@@ -68,7 +68,7 @@ module _ (s : Session) (open-yet : s .phase ≢ closed-phase) where
           (λ o h. absurd (opening-open (shared-by s (client-versions es)) (client-heart-beats es) h))
           (λ o. cond-case (λ (r : Session). r .phase ≡ closed-phase → Closes s (frame n block time)) (is DISCONNECT n)
           (λ d h. disconnect v e (eqb-true n (number DISCONNECT) d))
-          (λ d h. absurd (open-yet (sym (naming-phase s n (named-id n es)) ∙ h))))
+          (λ d h. absurd (open-yet (sym (changed-phase s (changed-id (uses-of s n es))) ∙ h))))
   closing (heart-beat time) = by (heart-beat-answer s) refl
     where
       by : (A : Answer) → heart-beat-answer s ≡ A → (left-by A s (heard s time)) .phase ≡ closed-phase → Closes s (heart-beat time)

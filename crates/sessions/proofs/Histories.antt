@@ -2,7 +2,7 @@
 --     live-next                  one call
 --     live-history               a history
 --     made-none, made-history    a session that was made, at first and after a history
-use mathlib.Core.Path.{_≡_, refl, sym, _∙_, ap, ap₂}
+use mathlib.Core.Path.{_≡_, refl, sym, _∙_, ap}
 use mathlib.Core.Logic.{_≢_}
 use mathlib.Core.Bool.{Bool, true, false, cond, _&&_, _||_}
 use mathlib.Core.Option.{Option, none, some}
@@ -10,18 +10,18 @@ use mathlib.Core.List.{List, [], _∷_}
 use Prim.Native.Nat.{ℕ}
 use lib.Dec.{eqb}
 use borrow.Author.Tests.{eqb-true}
-use Rattle.headers.specs.Rows.{same}
+use Rattle.headers.specs.Rows.{same, All}
 use Rattle.headers.specs.Block.{Entry, entries, listed}
 use Rattle.headers.specs.Answers.{Answer, accepted, refused, settle}
 use Rattle.headers.proofs.Rows.{cond-case}
 use Rattle.frames.specs.Grammar.{number, CONNECT, DISCONNECT, STOMP}
 use Rattle.sessions.specs.Stores.{ids, live, used, use-checks}
 use Rattle.sessions.specs.Values.{HeartBeats}
-use Rattle.sessions.specs.Headers.{is, opens, naming}
-use Rattle.sessions.specs.Sessions.{subscriptions-max, transactions-max, id-max, ids-of, with-ids, with-deliveries, closed, heard, is-valid, Sized}
+use Rattle.sessions.specs.Headers.{IdUse, changed-id, is, opens}
+use Rattle.sessions.specs.Sessions.{subscriptions-max, transactions-max, id-max, ids-of, with-ids, with-deliveries, closed, heard}
 use Rattle.sessions.specs.Deliveries.{record-label}
-use Rattle.sessions.specs.Calls.{left-by, making-answer, made-by, made, shared-by, client-versions, client-heart-beats, opened-by, usage-of, named-id, frame-answer, naming-effect, effect, frame-session, heart-beat-answer, heart-beat-session, delivery-effect, place-named, recorded-by, deliver-answer, deliver-session}
-use Rattle.sessions.specs.Histories.{Call, frame, heart-beat, deliver, answer-to, next, after, same-kind, by-use, named-as, live-by, live-after}
+use Rattle.sessions.specs.Calls.{left-by, making-answer, made-by, made, shared-by, client-versions, client-heart-beats, opened-by, uses-of, id-checks, frame-answer, id-effect, effect, frame-session, heart-beat-answer, heart-beat-session, delivery-effect, place-named, recorded-by, deliver-answer, deliver-session}
+use Rattle.sessions.specs.Histories.{Call, frame, heart-beat, deliver, answer-to, next, after, same-kind, by-use, told-uses, live-changed, live-by, live-after}
 use Rattle.sessions.specs.declared.store.Use.{Use}
 use Rattle.sessions.specs.declared.command.Kind.{Kind}
 use Rattle.sessions.specs.declared.command.Kind.the-variants.{Subscriptions, Transactions}
@@ -29,7 +29,7 @@ use Rattle.sessions.specs.declared.parts.SubscriptionIds.{SubscriptionId
 use Rattle.sessions.specs.declared.parts.TransactionIds.{TransactionIds}
 use Rattle.sessions.specs.declared.session.Session.{Session}
 use Rattle.sessions.proofs.Rows.{or-either}
-use Rattle.sessions.proofs.Checks.{Passed, frame-passed, naming-settles, left-case}
+use Rattle.sessions.proofs.Checks.{Passes, Passed, frame-passed, changed-settles, left-case}
 use Rattle.sessions.proofs.Stores.{are-short, ids-laid, used-short, use-short, used-live, zeros-ids, none-live}
 use Rattle.sessions.proofs.Keeping.{SameStores, Held, held-short, held-distinct}
 use Rattle.sessions.proofs.Kept.{Kept, kept-next, kept-made}
@@ -45,20 +45,20 @@ ids-with Subscriptions s is h = ids-laid id-max is h
 ids-with Transactions s is h = ids-laid id-max is h
 
 -- neither the opening frame nor DISCONNECT names an id
-opening-names : (n : ℕ) (es : List Entry) → opens n ≡ true → named-id n es ≡ none
+opening-names : (n : ℕ) (es : List Entry) → opens n ≡ true → told-uses n es ≡ []
 opening-names n es h =
     or-either (is CONNECT n) (is STOMP n) h
-    (λ e. ap (λ m. named-id m es) (eqb-true n (number CONNECT) e))
-    (λ e. ap (λ m. named-id m es) (eqb-true n (number STOMP) e))
+    (λ e. ap (λ m. told-uses m es) (eqb-true n (number CONNECT) e))
+    (λ e. ap (λ m. told-uses m es) (eqb-true n (number STOMP) e))
 
-closing-names : (n : ℕ) (es : List Entry) → is DISCONNECT n ≡ true → named-id n es ≡ none
-closing-names n es h = ap (λ m. named-id m es) (eqb-true n (number DISCONNECT) h)
+closing-names : (n : ℕ) (es : List Entry) → is DISCONNECT n ≡ true → told-uses n es ≡ []
+closing-names n es h = ap (λ m. told-uses m es) (eqb-true n (number DISCONNECT) h)
 
 -- ---- one call
 
--- whether an id is live after an accepted frame that names o
-abbrev named-live : Session → Kind → List ℕ → ℕ → Option (List ℕ) → Bool
-named-live s k id n o = cond (named-as k id n o) (by-use (naming n .usage) (live id (ids-of k s))) (live id (ids-of k s))
+-- whether an id is live after an accepted frame that names these
+abbrev named-live : Session → Kind → List ℕ → List IdUse → Bool
+named-live s k id us = live-changed k id (live id (ids-of k s)) (changed-id us)
 
 module _ (s : Session) (h : Held s) (k : Kind) (id : List ℕ) (some-id : id ≢ []) where
   -- an id x of a kind used
@@ -79,18 +79,18 @@ module _ (s : Session) (h : Held s) (k : Kind) (id : List ℕ) (some-id : id ≢
       by Transactions Subscriptions e = refl
       by Transactions Transactions e = here Transactions e
 
-  live-naming : (n : ℕ) (es : List Entry) → Passed s n es → (o : Option (List ℕ)) → named-id n es ≡ o
-      → live id (ids-of k (naming-effect s n o)) ≡ named-live s k id n o
-  live-naming n es p none e = refl
-  live-naming n es p (some x) e = live-used (naming n .kind) (usage-of n) x (naming-settles s n es x (p .named) e)
+  live-uses : (us : List IdUse) → All Passes (id-checks s us) → (o : Option IdUse) → changed-id us ≡ o
+      → live id (ids-of k (id-effect s o)) ≡ live-changed k id (live id (ids-of k s)) o
+  live-uses us p none e = refl
+  live-uses us p (some u) e = live-used (u .kind) (u .usage) (u .id) (changed-settles s us u p e)
 
-  live-effect : (n : ℕ) (es : List Entry) → Passed s n es → live id (ids-of k (effect s n es)) ≡ named-live s k id n (named-id n es)
+  live-effect : (n : ℕ) (es : List Entry) → Passed s n es → live id (ids-of k (effect s n es)) ≡ named-live s k id (told-uses n es)
   live-effect n es p =
-      cond-case (λ r. live id (ids-of k r) ≡ named-live s k id n (named-id n es)) (opens n)
-      (λ o. ap (live id) (ids-opened (shared-by s (client-versions es)) (client-heart-beats es)) ∙ sym (ap (named-live s k id n) (opening-names n es o)))
-      (λ o. cond-case (λ r. live id (ids-of k r) ≡ named-live s k id n (named-id n es)) (is DISCONNECT n)
-      (λ d. ap (live id) (ids-same k (closed s) s (refl, refl)) ∙ sym (ap (named-live s k id n) (closing-names n es d)))
-      (λ d. ap (live id) (ids-same k (with-deliveries (naming-effect s n (named-id n es)) (delivery-effect s n es)) (naming-effect s n (named-id n es)) (refl, refl)) ∙ live-naming n es p (named-id n es) refl))
+      cond-case (λ r. live id (ids-of k r) ≡ named-live s k id (told-uses n es)) (opens n)
+      (λ o. ap (live id) (ids-opened (shared-by s (client-versions es)) (client-heart-beats es)) ∙ sym (ap (named-live s k id) (opening-names n es o)))
+      (λ o. cond-case (λ r. live id (ids-of k r) ≡ named-live s k id (told-uses n es)) (is DISCONNECT n)
+      (λ d. ap (live id) (ids-same k (closed s) s (refl, refl)) ∙ sym (ap (named-live s k id) (closing-names n es d)))
+      (λ d. ap (live id) (ids-same k (with-deliveries (id-effect s (changed-id (uses-of s n es))) (delivery-effect s n es)) (id-effect s (changed-id (uses-of s n es))) (refl, refl)) ∙ live-uses (uses-of s n es) (p .named) (changed-id (uses-of s n es)) refl))
     where
       ids-opened : (shared : List Bool) (o : Option HeartBeats) → ids-of k (opened-by s shared o) ≡ ids-of k s
       ids-opened shared none = refl

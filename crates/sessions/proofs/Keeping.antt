@@ -25,14 +25,14 @@ use Rattle.sessions.specs.Stores.{distinct, valid-store, used, use-check
 use Rattle.sessions.specs.Places.{Fits}
 use Rattle.sessions.specs.Values.{HeartBeats, heart-beat-max, both, heart-beats-in, heart-beats}
 use Rattle.sessions.specs.Opening.{may-offer, interval}
-use Rattle.sessions.specs.Headers.{value-of, is, opens, naming}
+use Rattle.sessions.specs.Headers.{IdUse, changed-id, value-of, is, opens}
 use Rattle.sessions.specs.Sessions.{subscriptions-max, transactions-max, id-max, fresh-phase, open-phase, closed-phase, in-phase, fresh}
 use Rattle.sessions.specs.Sessions.{ids-of, with-subscriptions, with-transactions, with-ids, with-phase, with-deliveries, closed, heard}
 use Rattle.sessions.specs.Sessions.{right-flags, valid-offers, valid-agreed, valid-numbers, valid-subscriptions, valid-transactions, valid-ids}
 use Rattle.sessions.specs.Sessions.{right-deliveries, is-valid, Sized, SizedSubscriptions, SizedTransactions}
 use Rattle.sessions.specs.declared.parts.SubscriptionIds.{SubscriptionIds}
 use Rattle.sessions.specs.declared.parts.TransactionIds.{TransactionIds}
-use Rattle.sessions.specs.Calls.{making-checks, making-answer, made-by, made, shared-by, heart-beats-of, client-versions, client-heart-beats, opened-by, usage-of, named-id, naming-checks, frame-answer, naming-effect, delivery-effect, effect, frame-session, deliver-answer, deliver-session, recorded-by, place-named, heart-beat-answer, heart-beat-session}
+use Rattle.sessions.specs.Calls.{making-checks, making-answer, made-by, made, shared-by, heart-beats-of, client-versions, client-heart-beats, opened-by, uses-of, id-checks, frame-answer, id-effect, delivery-effect, effect, frame-session, deliver-answer, deliver-session, recorded-by, place-named, heart-beat-answer, heart-beat-session}
 use Rattle.sessions.specs.Deliveries.{record-label}
 use Rattle.sessions.specs.Steps.{count-of}
 use Rattle.sessions.specs.declared.delivery.Deliveries.{Deliveries}
@@ -41,7 +41,7 @@ use Rattle.sessions.specs.declared.command.Header.the-variants.{HeartBea
 use Rattle.sessions.specs.declared.command.Kind.{Kind}
 use Rattle.sessions.specs.declared.command.Kind.the-variants.{Subscriptions, Transactions}
 use Rattle.sessions.specs.declared.session.Session.{Session}
-use Rattle.sessions.proofs.Checks.{Passes, all-pass, Passed, frame-passed, naming-settles, left-case}
+use Rattle.sessions.proofs.Checks.{Passes, all-pass, Passed, frame-passed, changed-settles, left-case}
 use Rattle.sessions.proofs.Stores.{length-ids, valid-fits, are-short, ids-short, length-laid, laid-valid, valid-distinct, used-length, used-short, used-distinct, use-short, zeros-valid}
 
 -- ---- a valid record
@@ -232,12 +232,12 @@ module _ (s : Session) (h : Held s) where
       (used-short id-max u id (ids-of k s) (use-short id-max u id (ids-of k s) [] [] e) (held-short k))
       (used-distinct id-max u id (ids-of k s) [] [] e (held-distinct k))
 
-  pub held-naming : (n : ℕ) (es : List Entry) → All Passes (naming-checks s n es) → Held (naming-effect s n (named-id n es))
-  held-naming n es p = by (named-id n es) refl
+  pub held-changed : (us : List IdUse) → All Passes (id-checks s us) → Held (id-effect s (changed-id us))
+  held-changed us p = by (changed-id us) refl
     where
-      by : (o : Option (List ℕ)) → named-id n es ≡ o → Held (naming-effect s n o)
+      by : (o : Option IdUse) → changed-id us ≡ o → Held (id-effect s o)
       by none e = h
-      by (some id) e = held-used (naming n .kind) (usage-of n) id (naming-settles s n es id p e)
+      by (some u) e = held-used (u .kind) (u .usage) (u .id) (changed-settles s us u p e)
 
   pub held-deliveries : (d : Deliveries) → Held (with-deliveries s d)
   held-deliveries d = held-by (with-deliveries s d) (refl, refl) (h .valid .known) (h .valid .offers) (h .valid .intervals) (h .valid .flags)
@@ -249,7 +249,7 @@ module _ (s : Session) (h : Held s) where
       (λ o. held-opened s h (not-false (in-phase fresh-phase s) (sym (ap (λ t. cond t (not (in-phase fresh-phase s)) (not (in-phase open-phase s))) o) ∙ p .in-turn))
       (shared-by s (client-versions es)) (client-heart-beats es) (of-small (value-of HeartBeat es)))
       (λ o. cond-case Held (is DISCONNECT n) (λ d. held-closed s h)
-      (λ d. held-deliveries (naming-effect s n (named-id n es)) (held-naming s h n es (p .named)) (delivery-effect s n es)))
+      (λ d. held-deliveries (id-effect s (changed-id (uses-of s n es))) (held-changed s h (uses-of s n es) (p .named)) (delivery-effect s n es)))
 
 pub held-frame : (s : Session) (n : ℕ) (block : List ℕ) (time : ℕ) → Held s → Held (frame-session s n block time)
 unfolding frame-session

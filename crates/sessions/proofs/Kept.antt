@@ -7,49 +7,48 @@ use mathlib.Core.Logic.{_≢_}
 use mathlib.Core.Bool.{Bool, true, false, cond, _&&_, _||_, not, true≢false}
 use mathlib.Core.Option.{Option, none, some}
 use mathlib.Core.List.{List, [], _∷_, _++_}
-use Prim.Native.Nat.{ℕ, suc, _+_, _≤_, _<_}
+use Prim.Native.Nat.{ℕ, _+_, _<_}
 use native.Mathlib.Omega.{arith}
 use lib.ListN.{length, getD, set, replicate, length-replicate, List·getD-map}
 use lib.Dec.{eqb, leb, ltb}
-use borrow.Author.Tests.{eqb-true, not-false, not-true, leb-true, leb-false, ltb-false, le-leb, ne-eqb}
-use Rattle.headers.specs.Rows.{octets-of, any, empty, same, All, first-of}
+use borrow.Author.Tests.{eqb-true, not-false, leb-false, ltb-false, le-leb, ne-eqb}
+use Rattle.headers.specs.Rows.{octets-of, any, empty, same, first-of}
 use Rattle.headers.specs.Block.{Entry, entries, listed}
 use Rattle.headers.specs.Answers.{Answer, accepted, refused, settle}
 use Rattle.headers.proofs.Rows.{cond-case, and-left, and-right, or-false-left, or-false-right, same-eq, or-yes, and-false, empty-zero, empty-eqb, every-replicate}
-use Rattle.frames.specs.Grammar.{ABORT, ACK, BEGIN, COMMIT, DISCONNECT, NACK, SEND, SUBSCRIBE, UNSUBSCRIBE}
+use Rattle.frames.specs.Grammar.{DISCONNECT, SUBSCRIBE, UNSUBSCRIBE}
 use Rattle.stores.specs.Searches.{replaced, first-from}
 use Rattle.sessions.specs.Stores.{ids, lengths, clean, distinct, valid-store, live, used, use-checks, bad-length}
 use Rattle.sessions.specs.Values.{HeartBeats}
-use Rattle.sessions.specs.Headers.{value-of, is, opens, naming, mode-named, mode-asked, settles, is-some, naming-of}
-use Rattle.sessions.specs.Deliveries.{individual-mode, auto-mode, label-max, Pending, pending, labelled, is-pending, mode-of, goes-with, with-pending, with-modes, settled-as, settle-label, subscribe, unsubscribe, record-label, acknowledging, valid-deliveries, no-deliveries}
-use Rattle.sessions.specs.Sessions.{id-max, fresh-phase, open-phase, closed-phase, in-phase, fresh, ids-of, with-ids, with-phase, with-deliveries, closed, opened, heard, valid-numbers, valid-ids, right-deliveries, is-valid, Sized, SizedDeliveries}
-use Rattle.sessions.specs.Calls.{left-by, out-of-phase, lacks-needed, opening, shared-by, client-versions, client-heart-beats, opened-by, named-id, frame-answer, naming-effect, effect, frame-session, heart-beat-answer, heart-beat-session, place-named, free-place, mode-or-auto, settle-named, label-named, delivery-effect, deliver-checks, deliver-answer, recorded-by, deliver-session, is-auto, making-answer, made-by, made}
+use Rattle.sessions.proofs.Tables.{transaction-named}
+use Rattle.sessions.specs.Headers.{IdUse, changed-id, value-of, has, is, opens, mode-named, mode-asked, settles, is-some}
+use Rattle.sessions.specs.Deliveries.{individual-mode, auto-mode, label-max, Pending, pending, labelled, is-pending, mode-of, goes-with, with-pending, settled-as, subscribe, unsubscribe, record-label, valid-deliveries, no-deliveries}
+use Rattle.sessions.specs.Sessions.{spoken, id-max, fresh-phase, open-phase, in-phase, fresh, ids-of, with-ids, with-deliveries, closed, heard, valid-numbers, valid-ids, right-deliveries, is-valid, Sized, SizedDeliveries}
+use Rattle.sessions.specs.Calls.{out-of-phase, lacks-needed, opening, shared-by, client-versions, client-heart-beats, opened-by, uses-of, frame-answer, id-effect, effect, frame-session, heart-beat-answer, heart-beat-session, place-named, free-place, mode-or-auto, settle-named, label-named, delivery-effect, deliver-checks, deliver-answer, recorded-by, deliver-session, is-auto, making-answer, made-by, made}
 use Rattle.sessions.specs.Histories.{Call, frame, heart-beat, deliver, next, after}
 use Rattle.sessions.specs.declared.command.Header.the-variants.{Id, Ack, Destination, HeartBeat}
 use Rattle.sessions.specs.declared.command.Kind.{Kind}
 use Rattle.sessions.specs.declared.command.Kind.the-variants.{Subscriptions, Transactions}
-use Rattle.sessions.specs.declared.store.Use.{Use}
-use Rattle.sessions.specs.declared.store.Use.the-variants.{Nothing, Need, Enter, Free}
-use Rattle.sessions.specs.declared.command.Naming.{Naming}
+use Rattle.sessions.specs.declared.store.Use.the-variants.{Enter, Free}
 use Rattle.sessions.specs.declared.delivery.Deliveries.{Deliveries}
 use Rattle.sessions.specs.declared.parts.SubscriptionIds.{SubscriptionIds}
 use Rattle.sessions.specs.declared.session.Session.{Session}
-use Rattle.sessions.proofs.Checks.{Passes, all-pass, Passed, frame-passed, naming-settles, left-case}
+use Rattle.sessions.proofs.Checks.{Passed, frame-passed, Delivered, deliver-passed, subscribe-changes, subscribe-settles, unsubscribe-changes, unsubscribe-settles, left-case}
 use Rattle.stores.proofs.Searching.{is-some as finds, found-at, any-first, first-at}
-use Rattle.sessions.proofs.Stores.{lengths-ids, lengths-set, use-some, use-new, use-live, use-room, zeros-ids}
-use Rattle.sessions.proofs.Pending.{Holds, Proper, good, holds-emptied, holds-settled, holds-snoc, holds-unsubscribed, holds-subscribed}
-use Rattle.sessions.proofs.Keeping.{Held, Valid, valid-record, record-valid, subscriptions-fit, held-closed, held-heard, held-opened, held-effect, held-deliver, held-frame, held-heart-beat, held-made, held-deliveries, held-naming, OfSome, Small, of-small}
+use Rattle.sessions.proofs.Stores.{lengths-ids, lengths-set, use-some, use-live, use-room, zeros-ids}
+use Rattle.sessions.proofs.Pending.{Holds, Proper, holds-emptied, holds-settled, holds-snoc, holds-unsubscribed, holds-subscribed}
+use Rattle.sessions.proofs.Keeping.{Held, valid-record, record-valid, subscriptions-fit, held-closed, held-heard, held-opened, held-effect, held-made, held-deliveries, held-changed, OfSome, Small, of-small}
 
 -- two sessions with the same subscriptions
 abbrev pub SameSubscriptions : Session → Session → Type 0
 SameSubscriptions r s = r .subscriptions ≡ s .subscriptions
 
 -- ids that are used leave the phase
-naming-phase : (s : Session) (n : ℕ) (o : Option (List ℕ)) → (naming-effect s n o) .phase ≡ s .phase
-naming-phase s n none = refl
-naming-phase s n (some id) = by (naming n .kind)
+changed-phase : (s : Session) (o : Option IdUse) → (id-effect s o) .phase ≡ s .phase
+changed-phase s none = refl
+changed-phase s (some u) = by (u .kind)
   where
-    by : (k : Kind) → (with-ids k s (used (naming n .usage) id (ids-of k s))) .phase ≡ s .phase
+    by : (k : Kind) → (with-ids k s (used (u .usage) (u .id) (ids-of k s))) .phase ≡ s .phase
     by Subscriptions = refl
     by Transactions = refl
 
@@ -126,7 +125,7 @@ module _ (s : Session) (kept : Kept s) where
 
   -- what each effect leaves: the ids' lengths and the deliveries go together
   abbrev Together : ℕ → List Entry → Type 0
-  Together n es = Holds ((naming-effect s n (named-id n es)) .subscriptions .lens) (delivery-effect s n es)
+  Together n es = Holds ((id-effect s (changed-id (uses-of s n es))) .subscriptions .lens) (delivery-effect s n es)
 
   mode-known : (o : Option (List ℕ)) (m : Option ℕ) → mode-named o ≡ m → leb (mode-or-auto m) individual-mode ≡ true
   mode-known none m e = ap (λ z. leb (mode-or-auto z) individual-mode) (sym e)
@@ -171,35 +170,27 @@ module _ (s : Session) (kept : Kept s) where
       by (some p) = holds-settled (s .subscriptions .lens) (s .deliveries) (kept .holds) (labelled l) (goes-with (s .deliveries) p) .0
 
   -- ids of transactions leave the subscriptions as they are
-  pub other-lens : (n : ℕ) (o : Option (List ℕ)) → is SUBSCRIBE n ≡ false → is UNSUBSCRIBE n ≡ false → SameSubscriptions (naming-effect s n o) s
-  other-lens n none a b = refl
-  other-lens n (some id) a b = by (naming n .kind) kind
+  pub other-lens : (n : ℕ) (es : List Entry) → is SUBSCRIBE n ≡ false → is UNSUBSCRIBE n ≡ false → SameSubscriptions (id-effect s (changed-id (uses-of s n es))) s
+  other-lens n es a b = by (changed-id (uses-of s n es)) (λ u e. transaction-named (spoken s) n es u a b e)
     where
-      kind : naming n .kind ≡ Transactions
-      kind =
-          ap (λ t. cond t (naming-of Subscriptions Enter) (cond (is UNSUBSCRIBE n) (naming-of Subscriptions Free) others) .kind) a
-          ∙ ap (λ t. cond t (naming-of Subscriptions Free) others .kind) b
-          ∙ cond-case (λ (z : Naming). z .kind ≡ Transactions) (is BEGIN n) (λ e. refl)
-          (λ e. cond-case (λ (z : Naming). z .kind ≡ Transactions) (is COMMIT n || is ABORT n) (λ e. refl)
-          (λ e. cond-case (λ (z : Naming). z .kind ≡ Transactions) (is SEND n || (is ACK n || is NACK n)) (λ e. refl) (λ e. refl)))
-        where
-          others : Naming
-          others = cond (is BEGIN n) (naming-of Transactions Enter) (cond (is COMMIT n || is ABORT n) (naming-of Transactions Free)
-              (cond (is SEND n || (is ACK n || is NACK n)) (naming-of Transactions Need) (naming-of Transactions Nothing)))
+      of : (k : Kind) (u : IdUse) → k ≡ Transactions → SameSubscriptions (with-ids k s (used (u .usage) (u .id) (ids-of k s))) s
+      of Subscriptions u e = absurd (let z : _≡_ {A = ℕ} 0 1 = cc in omega arith)
+      of Transactions u e = refl
 
-      by : (k : Kind) → k ≡ Transactions → SameSubscriptions (with-ids k s (used (naming n .usage) id (ids-of k s))) s
-      by Subscriptions e = absurd (let z : _≡_ {A = ℕ} 0 1 = cc in omega arith)
-      by Transactions e = refl
+      by : (o : Option IdUse) → ((u : IdUse) → o ≡ some u → u .kind ≡ Transactions) → SameSubscriptions (id-effect s o) s
+      by none h = refl
+      by (some u) h = of (u .kind) u (h u refl)
 
   -- the id that SUBSCRIBE and UNSUBSCRIBE need
   needs-id : (o : Option (List ℕ)) → not (is-some o) ≡ false → (id : List ℕ) × (o ≡ some id)
   needs-id none h = absurd (true≢false h)
   needs-id (some id) h = (id, refl)
 
-  pub subscribe-id : (es : List Entry) → lacks-needed 14 es ≡ false → (id : List ℕ) × (value-of Id es ≡ some id)
-  subscribe-id es h = needs-id (value-of Id es) (or-false-right (not (is-some (value-of Destination es))) (not (is-some (value-of Id es))) h)
+  pub subscribe-id : (es : List Entry) → lacks-needed s 14 es ≡ false → (id : List ℕ) × (value-of Id es ≡ some id)
+  subscribe-id es h = needs-id (value-of Id es)
+      (or-false-left (not (has Id es)) false (or-false-right (not (has Destination es)) (not (has Id es) || false) h))
 
-  pub unsubscribe-id : (es : List Entry) → lacks-needed 15 es ≡ false → (id : List ℕ) × (value-of Id es ≡ some id)
+  pub unsubscribe-id : (es : List Entry) → lacks-needed s 15 es ≡ false → (id : List ℕ) × (value-of Id es ≡ some id)
   unsubscribe-id es h = needs-id (value-of Id es) (or-false-left (not (is-some (value-of Id es))) false h)
 
   together : (n : ℕ) (es : List Entry) → Passed s n es → Together n es
@@ -207,20 +198,22 @@ module _ (s : Session) (kept : Kept s) where
     where
       others : is SUBSCRIBE n ≡ false → is UNSUBSCRIBE n ≡ false → Holds (s .subscriptions .lens) (cond (settles n) (settle-named (label-named es) (s .deliveries)) (s .deliveries)) → Together n es
       others a b h =
-          subst (λ z. Holds z (delivery-effect s n es)) (sym (ap (λ (x : SubscriptionIds). x .lens) (other-lens n (named-id n es) a b)))
+          subst (λ z. Holds z (delivery-effect s n es)) (sym (ap (λ (x : SubscriptionIds). x .lens) (other-lens n es a b)))
           (subst (λ t. Holds (s .subscriptions .lens) (cond t (subscribe (free-place s) (mode-or-auto (mode-asked es)) (s .deliveries)) (cond (is UNSUBSCRIBE n) (unsubscribe (place-named s (value-of Id es)) (s .deliveries)) (cond (settles n) (settle-named (label-named es) (s .deliveries)) (s .deliveries))))) (sym a)
           (subst (λ t. Holds (s .subscriptions .lens) (cond t (unsubscribe (place-named s (value-of Id es)) (s .deliveries)) (cond (settles n) (settle-named (label-named es) (s .deliveries)) (s .deliveries)))) (sym b) h))
 
       entering : n ≡ 14 → Passed s 14 es → Together 14 es
       entering e q =
           let (id, v) = subscribe-id es (q .needs) in
-          subst (λ o. Holds ((naming-effect s 14 o) .subscriptions .lens) (delivery-effect s 14 es)) (sym v)
-          (together-subscribe es id (mode-or-auto (mode-asked es)) (mode-known (value-of Ack es) (mode-asked es) refl) (naming-settles s 14 es id (q .named) v))
+          subst (λ o. Holds ((id-effect s o) .subscriptions .lens) (delivery-effect s 14 es)) (sym (subscribe-changes s es id v))
+          (together-subscribe es id (mode-or-auto (mode-asked es)) (mode-known (value-of Ack es) (mode-asked es) refl) (subscribe-settles s es id v q))
 
       freeing : n ≡ 15 → Passed s 15 es → Together 15 es
       freeing e q =
           let (id, v) = unsubscribe-id es (q .needs) in
-          subst (λ o. Holds ((naming-effect s 15 o) .subscriptions .lens) (unsubscribe (place-named s o) (s .deliveries))) (sym v) (together-unsubscribe id (naming-settles s 15 es id (q .named) v))
+          subst (λ o. Holds ((id-effect s o) .subscriptions .lens) (unsubscribe (place-named s (value-of Id es)) (s .deliveries))) (sym (unsubscribe-changes s es id v))
+          (subst (λ o. Holds (lengths (used Free id (ids-of Subscriptions s))) (unsubscribe (place-named s o) (s .deliveries))) (sym v)
+          (together-unsubscribe id (unsubscribe-settles s es id v q)))
 
       by : (a b : Bool) → is SUBSCRIBE n ≡ a → is UNSUBSCRIBE n ≡ b → Together n es
       by true b e f = let k : n ≡ 14 = eqb-true n 14 e in subst (λ z. Passed s z es → Together z es) (sym k) (entering k) p
@@ -235,36 +228,36 @@ module _ (s : Session) (kept : Kept s) where
   kept-effect n es p = by (opens n) (is DISCONNECT n) refl refl (held-effect s (kept .ids) n es p)
     where
       by : (a b : Bool) → opens n ≡ a → is DISCONNECT n ≡ b → Held (effect s n es)
-          → Kept (cond a (opening s es) (cond b (closed s) (with-deliveries (naming-effect s n (named-id n es)) (delivery-effect s n es))))
+          → Kept (cond a (opening s es) (cond b (closed s) (with-deliveries (id-effect s (changed-id (uses-of s n es))) (delivery-effect s n es))))
       by true b o d h =
           kept-opened (not-false (in-phase fresh-phase s) (sym (ap (λ t. cond t (not (in-phase fresh-phase s)) (not (in-phase open-phase s))) o) ∙ p .in-turn))
           (shared-by s (client-versions es)) (client-heart-beats es) (of-small (value-of HeartBeat es))
       by false true o d h = kept-closed
       by false false o d h =
           record {
-            ids = held-deliveries (naming-effect s n (named-id n es)) (held-naming s (kept .ids) n es (p .named)) (delivery-effect s n es);
+            ids = held-deliveries (id-effect s (changed-id (uses-of s n es))) (held-changed s (kept .ids) (uses-of s n es) (p .named)) (delivery-effect s n es);
             holds = together n es p;
-            only-open = ap (_|| eqb (delivery-effect s n es .count) 0) (ap (λ z. eqb z open-phase) (naming-phase s n (named-id n es)) ∙ open-yet n o (p .in-turn));
+            only-open = ap (_|| eqb (delivery-effect s n es .count) 0) (ap (λ z. eqb z open-phase) (changed-phase s (changed-id (uses-of s n es))) ∙ open-yet n o (p .in-turn));
           }
 
   -- ---- a delivery
 
   module _ (id label v : List ℕ) (e : settle (deliver-checks s id label) [] ≡ accepted v) where
-    passes : All Passes (deliver-checks s id label)
-    passes = all-pass (deliver-checks s id label) [] v e
+    passed : Delivered s id label
+    passed = deliver-passed s id label v e
 
     pub deliver-open : in-phase open-phase s ≡ true
-    deliver-open = not-false (in-phase open-phase s) (passes .1 .0)
+    deliver-open = not-false (in-phase open-phase s) (passed .is-open)
 
     pub deliver-id : empty id ≡ false
-    deliver-id = or-false-left (empty id) (not (live id (ids-of Subscriptions s))) (passes .1 .1 .0)
+    deliver-id = or-false-left (empty id) (not (live id (ids-of Subscriptions s))) (passed .subscribed)
 
     pub deliver-place : (k : ℕ) × (place-named s (some id) ≡ some k)
     deliver-place =
-        some-first (λ x. same x id) (ids-of Subscriptions s) (not-false (live id (ids-of Subscriptions s)) (or-false-right (empty id) (not (live id (ids-of Subscriptions s))) (passes .1 .1 .0)))
+        some-first (λ x. same x id) (ids-of Subscriptions s) (not-false (live id (ids-of Subscriptions s)) (or-false-right (empty id) (not (live id (ids-of Subscriptions s))) (passed .subscribed)))
 
     good-label : bad-length label-max label ≡ false
-    good-label = or-false-left (bad-length label-max label) (is-pending label (s .deliveries)) (passes .1 .1 .1 .0)
+    good-label = or-false-left (bad-length label-max label) (is-pending label (s .deliveries)) (passed .new-label)
 
     module _ (k : ℕ) (f : place-named s (some id) ≡ some k) where
       pub deliver-at : getD (ids-of Subscriptions s) k [] ≡ id
@@ -279,7 +272,7 @@ module _ (s : Session) (kept : Kept s) where
         room : s .deliveries .count < 64
         room =
             leb-false 64 (s .deliveries .count)
-            (and-false (not (is-auto s (place-named s (some id)))) (leb 64 (s .deliveries .count)) (passes .1 .1 .1 .1 .0) (ap (λ o. not (is-auto s o)) f ∙ ap not a))
+            (and-false (not (is-auto s (place-named s (some id)))) (leb 64 (s .deliveries .count)) (passed .room) (ap (λ o. not (is-auto s o)) f ∙ ap not a))
 
         sound : Proper (s .subscriptions .lens) (s .deliveries .modes) (record { place = k; label = label })
         sound =
@@ -293,7 +286,7 @@ module _ (s : Session) (kept : Kept s) where
             × (pending (with-pending (s .deliveries) (pending (s .deliveries) ++ (record { place = k; label = label } ∷ []))) ≡ pending (s .deliveries) ++ (record { place = k; label = label } ∷ []))
         deliver-entered =
             holds-snoc (s .subscriptions .lens) (s .deliveries) (kept .holds) (record { place = k; label = label }) room sound
-            (or-false-right (bad-length label-max label) (is-pending label (s .deliveries)) (passes .1 .1 .1 .0))
+            (or-false-right (bad-length label-max label) (is-pending label (s .deliveries)) (passed .new-label))
 
   kept-with : in-phase open-phase s ≡ true → (d : Deliveries) → Holds (s .subscriptions .lens) d → Kept (with-deliveries s d)
   kept-with o d h = record { ids = held-deliveries s (kept .ids) d; holds = h; only-open = ap (_|| eqb (d .count) 0) o }

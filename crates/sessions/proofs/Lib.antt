@@ -7,7 +7,9 @@ pub mod Accounts
 pub mod Stores
 pub mod Values
 pub mod Locating
+pub mod Noting
 pub mod Known
+pub mod Tables
 pub mod Pending
 pub mod Taking
 pub mod Validating
@@ -15,7 +17,7 @@ pub mod Checks
 pub mod Steps
 pub mod Using
 pub mod Opening
-pub mod Naming
+pub mod Uses
 pub mod Keeping
 pub mod Kept
 pub mod Delivering

@@ -17,13 +17,13 @@ use Rattle.headers.proofs.Rows.{and-left, and-right, or-false-left}
 use Rattle.frames.specs.Grammar.{number, ACK, NACK, CONNECT, DISCONNECT, STOMP, SUBSCRIBE, UNSUBSCRIBE}
 use Rattle.sessions.specs.Values.{heart-beat-max}
 use Rattle.sessions.specs.Opening.{may-offer}
-use Rattle.sessions.specs.Headers.{has, is, opens, settles, naming, value-of, mode-asked}
+use Rattle.sessions.specs.Headers.{has, is, opens, settles, IdUse, changed-id, value-of, mode-asked}
 use Rattle.sessions.specs.Sessions.{fresh, ids-of, with-ids, with-deliveries, closed, heard, is-valid}
 use Rattle.sessions.specs.Stores.{used}
 use Rattle.sessions.specs.Answers.{acceptance-says, answer-says}
-use Rattle.sessions.specs.Calls.{usage-of, named-id, left-by, naming-effect, naming-checks, delivery-checks, delivery-effect, label-named, settle-named, place-named, free-place, mode-or-auto, lacks-needed, frame-checks, acceptance-of, no-receipt, frame-answer, effect, frame-session, heart-beat-checks, heart-beat-answer, heart-beat-session, making-answer, made, is-timed-out, timed-out-answer, recorded-by, deliver-checks, deliver-answer, deliver-session}
+use Rattle.sessions.specs.Calls.{left-by, uses-of, id-effect, id-checks, delivery-checks, delivery-effect, label-named, settle-named, place-named, free-place, mode-or-auto, lacks-needed, frame-checks, acceptance-of, no-receipt, frame-answer, effect, frame-session, heart-beat-checks, heart-beat-answer, heart-beat-session, making-answer, made, is-timed-out, timed-out-answer}
 use Rattle.sessions.specs.Deliveries.{subscribe, unsubscribe}
-use Rattle.sessions.specs.Steps.{kept-by, closed-by, accepted-by, Gives, opening-checks, GivesUse, GivesOpening, GivesNaming, GivesDelivery, GivesEntries, after-answer, GivesThen, untouched, Untouched, outcome-with, mode-checks, label-checks, GivesMode, GivesDropped, GivesLabel, Records, unrecorded-by, recorded-as, subscription-at, recording-checks}
+use Rattle.sessions.specs.Steps.{kept-by, closed-by, accepted-by, Gives, opening-only, GivesUses, GivesOpening, GivesDelivery, GivesEntries, after-answer, GivesThen, untouched, Untouched, outcome-with, mode-checks, label-checks, GivesMode, GivesDropped, GivesLabel, Records, unrecorded-by, recorded-as}
 use Rattle.sessions.specs.declared.command.Header.the-variants.{Id}
 use Rattle.sessions.specs.declared.command.Kind.{Kind}
 use Rattle.sessions.specs.declared.command.Kind.the-variants.{Subscriptions, Transactions}
@@ -112,9 +112,9 @@ module _ {acceptance : Acceptance} {before after : Session} {r : Outcome} (k : �
 
 module _ (s : Session) (n : ℕ) (es : List Entry) (time : ℕ) (r : Outcome) where
   -- the opening frame: no id is named, and no receipt is owed
-  opening-is : (n ≡ number CONNECT) ⊎ (n ≡ number STOMP) → lacks-needed n es ≡ false → GivesOpening s es (acceptance-of n es) time r → GivesEntries s n es time r
-  opening-is q h g = ⊎-elim (λ (e : n ≡ number CONNECT). rw e (gives-on _ _ (rw e at h) (gives-alike (opening-checks s es) _ refl (rw e at g))))
-      (λ (e : n ≡ number STOMP). rw e (gives-on _ _ (rw e at h) (gives-alike (opening-checks s es) _ refl (rw e at g)))) q
+  opening-is : (n ≡ number CONNECT) ⊎ (n ≡ number STOMP) → lacks-needed s n es ≡ false → GivesOpening s es (acceptance-of n es) time r → GivesEntries s n es time r
+  opening-is q h g = ⊎-elim (λ (e : n ≡ number CONNECT). rw e (gives-on _ _ (rw e at h) (gives-alike (opening-only s es) _ refl (rw e at g))))
+      (λ (e : n ≡ number STOMP). rw e (gives-on _ _ (rw e at h) (gives-alike (opening-only s es) _ refl (rw e at g)))) q
 
   opening-number : opens n ≡ true → (n ≡ number CONNECT) ⊎ (n ≡ number STOMP)
   opening-number = by (is CONNECT n) (is STOMP n) refl refl
@@ -125,7 +125,7 @@ module _ (s : Session) (n : ℕ) (es : List Entry) (time : ℕ) (r : Outcome) wh
       by false false p q h = absurd (let z : _≡_ {A = ℕ} 0 1 = cc in omega arith)
 
   module _ (acceptance : Acceptance) (same : acceptance ≡ acceptance-of n es) where
-    pub entries-opening : lacks-needed n es ≡ false → opens n ≡ true → GivesOpening s es acceptance time r → GivesEntries s n es time r
+    pub entries-opening : lacks-needed s n es ≡ false → opens n ≡ true → GivesOpening s es acceptance time r → GivesEntries s n es time r
     entries-opening h o g = opening-is (opening-number o) h (subst (λ a. GivesOpening s es a time r) same g)
 
     pub entries-disconnect : n ≡ number DISCONNECT → r ≡ accepted-by (closed s) acceptance time → GivesEntries s n es time r
@@ -134,18 +134,21 @@ module _ (s : Session) (n : ℕ) (es : List Entry) (time : ℕ) (r : Outcome) wh
         rw e (gives-accepted _ (acceptance-of (number DISCONNECT) es) s (closed s) time r refl (rw e at q′))
 
     -- any other frame
-    pub entries-naming : lacks-needed n es ≡ false → opens n ≡ false → is DISCONNECT n ≡ false → GivesDelivery s n es acceptance time r → GivesEntries s n es time r
+    pub entries-naming : lacks-needed s n es ≡ false → opens n ≡ false → is DISCONNECT n ≡ false → GivesDelivery s n es acceptance time r → GivesEntries s n es time r
     entries-naming h o d g =
-        let same-effect : effect s n es ≡ with-deliveries (naming-effect s n (named-id n es)) (delivery-effect s n es) = rw (o, d) in
+        let same-effect : effect s n es ≡ with-deliveries (id-effect s (changed-id (uses-of s n es))) (delivery-effect s n es) = rw (o, d) in
         let g′ : GivesDelivery s n es (acceptance-of n es) time r = subst (λ a. GivesDelivery s n es a time r) same g in
         rw same-effect (gives-on _ _ h (gives-on _ _ (rw o) (gives-on _ _ (rw o) (gives-on _ _ (rw o) g′))))
 
-  -- an id that is not named, and one that is
-  pub naming-none : (acceptance : Acceptance) → named-id n es ≡ none → r ≡ accepted-by s acceptance time → GivesNaming s n es acceptance time r
-  naming-none acceptance e q = rw e (gives-accepted _ acceptance s s time r refl q)
+-- the ids that a frame names, by the number that they come to
+module _ (s : Session) (us : List IdUse) (acceptance : Acceptance) (time : ℕ) (r : Outcome) where
+  pub uses-refused : (k : ℕ) → settle (id-checks s us) [] ≡ refused k → r ≡ closed-by s k → GivesUses s us acceptance time r
+  uses-refused k e q =
+      gives-refused (id-checks s us) k (settle-refused (id-checks s us) [] _ k e) (settle-closes (id-checks s us) [] k refl e) q
 
-  pub naming-some : (acceptance : Acceptance) (id : List ℕ) → named-id n es ≡ some id → GivesUse (naming n .kind) s (usage-of n) id acceptance time r → GivesNaming s n es acceptance time r
-  naming-some acceptance id e g = rw e g
+  pub uses-accepted : ((v : List ℕ) → settle (id-checks s us) v ≡ accepted v) → r ≡ accepted-by (id-effect s (changed-id us)) acceptance time
+      → GivesUses s us acceptance time r
+  uses-accepted e q = gives-accepted (id-checks s us) acceptance s (id-effect s (changed-id us)) time r (e (acceptance-says acceptance)) q
 
 -- ---- checks after others
 
@@ -265,9 +268,9 @@ module _ (s : Session) (o : Option (List ℕ)) (named r : Outcome) where
 
 -- ---- a frame whose id was settled: its delivery, or the mode that it asks for
 
-module _ (s : Session) (n : ℕ) (es : List Entry) (acceptance : Acceptance) (time : ℕ) (named r : Outcome) (g : GivesNaming s n es acceptance time named) where
+module _ (s : Session) (n : ℕ) (es : List Entry) (acceptance : Acceptance) (time : ℕ) (named r : Outcome) (g : GivesUses s (uses-of s n es) acceptance time named) where
   then-delivery : GivesThen (delivery-checks s n es) s (delivery-effect s n es) named r → GivesDelivery s n es acceptance time r
-  then-delivery h = gives-then (naming-checks s n es) (delivery-checks s n es) acceptance s (heard (naming-effect s n (named-id n es)) time) (delivery-effect s n es) named r g h
+  then-delivery h = gives-then (id-checks s (uses-of s n es)) (delivery-checks s n es) acceptance s (heard (id-effect s (changed-id (uses-of s n es))) time) (delivery-effect s n es) named r g h
 
   pub delivery-mode : n ≡ number SUBSCRIBE → GivesMode s es named r → GivesDelivery s n es acceptance time r
   delivery-mode e h =
@@ -285,18 +288,18 @@ module _ (s : Session) (n : ℕ) (es : List Entry) (acceptance : Acceptance) (ti
 
     pub delivery-none : settles n ≡ false → r ≡ named → GivesDelivery s n es acceptance time r
     delivery-none t q =
-        let after-is : heard (with-deliveries (naming-effect s n (named-id n es)) (delivery-effect s n es)) time ≡ heard (naming-effect s n (named-id n es)) time =
-        ap (λ x. heard x time) (ap (with-deliveries (naming-effect s n (named-id n es))) (rw (a, b, t)) ∙ unchanged (named-id n es)) in
-        let passed : (v : List ℕ) → settle (naming-checks s n es ++ delivery-checks s n es) v ≡ settle (naming-checks s n es) v =
-        λ v. settle-append (naming-checks s n es) (delivery-checks s n es) v ∙ ap (then (settle (naming-checks s n es) v)) (rw (a, t)) ∙ then-own (naming-checks s n es) v in
-        subst (λ (x : Session). Gives (naming-checks s n es ++ delivery-checks s n es) acceptance s x r) (sym after-is)
-        (gives-alike (naming-checks s n es) (naming-checks s n es ++ delivery-checks s n es) (sym (passed (acceptance-says acceptance))) (rw (← q) at g))
+        let after-is : heard (with-deliveries (id-effect s (changed-id (uses-of s n es))) (delivery-effect s n es)) time ≡ heard (id-effect s (changed-id (uses-of s n es))) time =
+        ap (λ x. heard x time) (ap (with-deliveries (id-effect s (changed-id (uses-of s n es)))) (rw (a, b, t)) ∙ unchanged (changed-id (uses-of s n es))) in
+        let passed : (v : List ℕ) → settle (id-checks s (uses-of s n es) ++ delivery-checks s n es) v ≡ settle (id-checks s (uses-of s n es)) v =
+        λ v. settle-append (id-checks s (uses-of s n es)) (delivery-checks s n es) v ∙ ap (then (settle (id-checks s (uses-of s n es)) v)) (rw (a, t)) ∙ then-own (id-checks s (uses-of s n es)) v in
+        subst (λ (x : Session). Gives (id-checks s (uses-of s n es) ++ delivery-checks s n es) acceptance s x r) (sym after-is)
+        (gives-alike (id-checks s (uses-of s n es)) (id-checks s (uses-of s n es) ++ delivery-checks s n es) (sym (passed (acceptance-says acceptance))) (rw (← q) at g))
       where
-        unchanged : (o : Option (List ℕ)) → with-deliveries (naming-effect s n o) (s .deliveries) ≡ naming-effect s n o
+        unchanged : (o : Option IdUse) → with-deliveries (id-effect s o) (s .deliveries) ≡ id-effect s o
         unchanged none = refl
-        unchanged (some id) = by (naming n .kind)
+        unchanged (some u) = by (u .kind)
           where
-            by : (k : Kind) → with-deliveries (with-ids k s (used (usage-of n) id (ids-of k s))) (s .deliveries) ≡ with-ids k s (used (usage-of n) id (ids-of k s))
+            by : (k : Kind) → with-deliveries (with-ids k s (used (u .usage) (u .id) (ids-of k s))) (s .deliveries) ≡ with-ids k s (used (u .usage) (u .id) (ids-of k s))
             by Subscriptions = refl
             by Transactions = refl
 
@@ -309,34 +312,34 @@ module _ (s : Session) (n : ℕ) (es : List Entry) (acceptance : Acceptance) (ti
             pass false e = e
 
 -- where the id was settled the deliveries are those that were
-pub naming-untouched : (s : Session) (n : ℕ) (es : List Entry) (acceptance : Acceptance) (time : ℕ) (named : Outcome) → GivesNaming s n es acceptance time named → Untouched s named
-naming-untouched s n es acceptance time named g = by (named .answer) (settle (naming-checks s n es) (acceptance-says acceptance)) refl refl
+pub uses-untouched : (s : Session) (us : List IdUse) (acceptance : Acceptance) (time : ℕ) (named : Outcome) → GivesUses s us acceptance time named → Untouched s named
+uses-untouched s us acceptance time named g = by (named .answer) (settle (id-checks s us) (acceptance-says acceptance)) refl refl
   where
-    kept : (o : Option (List ℕ)) → naming-effect s n o .deliveries ≡ s .deliveries
+    kept : (o : Option IdUse) → id-effect s o .deliveries ≡ s .deliveries
     kept none = refl
-    kept (some id) = of (naming n .kind)
+    kept (some u) = of (u .kind)
       where
-        of : (k : Kind) → with-ids k s (used (usage-of n) id (ids-of k s)) .deliveries ≡ s .deliveries
+        of : (k : Kind) → with-ids k s (used (u .usage) (u .id) (ids-of k s)) .deliveries ≡ s .deliveries
         of Subscriptions = refl
         of Transactions = refl
 
-    by : (x : SessionAnswer) (A : Answer) → named .answer ≡ x → settle (naming-checks s n es) (acceptance-says acceptance) ≡ A → untouched x s named
+    by : (x : SessionAnswer) (A : Answer) → named .answer ≡ x → settle (id-checks s us) (acceptance-says acceptance) ≡ A → untouched x s named
     by (SessionAnswer.Refused k) A e f = tt
     by (SessionAnswer.Accepted a) (refused j) e f =
         absurd (let q : accepted (acceptance-says a) ≡ refused j = sym (ap answer-says e) ∙ g .answered ∙ f in let z : _≡_ {A = ℕ} 0 1 = cc in omega arith)
     by (SessionAnswer.Accepted a) (accepted v) e f =
-        ap (λ (x : Session). x .deliveries) (g .left ∙ ap (λ A. left-by A s (heard (naming-effect s n (named-id n es)) time)) f) ∙ kept (named-id n es)
+        ap (λ (x : Session). x .deliveries) (g .left ∙ ap (λ A. left-by A s (heard (id-effect s (changed-id us)) time)) f) ∙ kept (changed-id us)
 
 -- the id of an UNSUBSCRIBE, an ACK and a NACK is there
-module _ (n : ℕ) (es : List Entry) (there : lacks-needed n es ≡ false) where
+module _ (s : Session) (n : ℕ) (es : List Entry) (there : lacks-needed s n es ≡ false) where
   pub dropping-has : n ≡ number UNSUBSCRIBE → has Id es ≡ true
   dropping-has e = not-false (has Id es) (or-false-left (not (has Id es)) false (rw e at there))
 
   pub settling-has : settles n ≡ true → has Id es ≡ true
   settling-has = by (is ACK n) (is NACK n) refl refl
     where
-      named : (m : ℕ) → n ≡ m → lacks-needed m es ≡ (not (has Id es) || false) → has Id es ≡ true
-      named m e q = not-false (has Id es) (or-false-left (not (has Id es)) false (sym q ∙ ap (λ z. lacks-needed z es) (sym e) ∙ there))
+      named : (m : ℕ) → n ≡ m → lacks-needed s m es ≡ (not (has Id es) || false) → has Id es ≡ true
+      named m e q = not-false (has Id es) (or-false-left (not (has Id es)) false (sym q ∙ ap (λ z. lacks-needed s z es) (sym e) ∙ there))
 
       by : (a b : Bool) → is ACK n ≡ a → is NACK n ≡ b → a || b ≡ true → has Id es ≡ true
       by true b p q h = named (number ACK) (eqb-true n (number ACK) p) refl

@@ -8,18 +8,18 @@ use mathlib.Core.Logic.{_≢_}
 use mathlib.Core.Bool.{Bool, true, false, cond, _&&_, _||_, not, true≢false}
 use mathlib.Core.Option.{Option, none, some}
 use mathlib.Core.List.{List, [], _∷_, _++_, map}
-use Prim.Native.Nat.{ℕ, zero, suc, _+_, _≤_, _<_}
+use Prim.Native.Nat.{ℕ, zero, suc, _+_, _<_}
 use native.Mathlib.Omega.{arith}
 use lib.ListN.{length, getD, set, replicate, List·getD-map}
 use lib.Seq.{getD-set-same, getD-set-other}
-use lib.Dec.{eqb, leb}
-use borrow.Author.Tests.{eqb-true, eq-eqb, eqb-false, ne-eqb, not-false, not-true}
+use lib.Dec.{eqb}
+use borrow.Author.Tests.{eqb-true, eqb-false, not-true}
 use Rattle.headers.specs.Rows.{any, empty, same, All, first-of}
-use Rattle.headers.proofs.Rows.{cond-case, and-left, and-right, or-false-left, or-false-right, same-eq, same-self, refuted, empty-not, not-empty, empty-eqb}
+use Rattle.headers.proofs.Rows.{cond-case, and-left, and-right, or-false-left, or-false-right, same-eq, same-self, empty-not, not-empty, empty-eqb}
 use Rattle.headers.specs.Block.{Entry, entries, listed}
 use Rattle.frames.specs.Grammar.{ACK, CONNECT, DISCONNECT, NACK, STOMP, SUBSCRIBE, UNSUBSCRIBE}
 use Rattle.sessions.specs.Values.{HeartBeats}
-use Rattle.sessions.specs.Headers.{value-of, is, opens, lacks, mode-asked}
+use Rattle.sessions.specs.Headers.{changed-id, value-of, has, is, opens, mode-asked}
 use Rattle.sessions.specs.Stores.{ids, live, distinct, used, use-checks}
 use Rattle.sessions.specs.Deliveries.{auto-mode, client-mode, Pending, pending, labelled, mode-of, goes-with, with-pending, with-modes, without, settled, settled-as, settle-label, subscribe, unsubscribe, record-label}
 use Rattle.sessions.proofs.Rows.{nil-apart, or-either}
@@ -29,18 +29,18 @@ use Rattle.headers.specs.Answers.{Answer, accepted, refused, settle}
 use Rattle.sessions.specs.Sessions.{id-max, ids-of, with-ids, with-deliveries, heard, closed as closed-session}
 use Rattle.sessions.specs.Histories.{Call, frame, heart-beat, deliver, answer-to, next, after, said, frame-event, refusal-event, event-of, events}
 use Rattle.sessions.specs.Held.{delivery-of, held-deliveries}
-use Rattle.sessions.specs.declared.command.Kind.the-variants.{Subscriptions, Transactions}
+use Rattle.sessions.specs.declared.command.Kind.the-variants.{Subscriptions}
 use Rattle.sessions.specs.declared.parts.SubscriptionIds.{SubscriptionIds}
 use Rattle.sessions.specs.declared.session.Session.{Session}
 use Rattle.sessions.proofs.Kept.{Kept, SameSubscriptions, first-passes, lens-are, lens-free, enter-place, free-there, other-lens, subscribe-id, unsubscribe-id, deliver-place, deliver-id, deliver-at, deliver-entered, kept-next, kept-made, made-none, made-ids}
 use Rattle.sessions.proofs.Keeping.{held-long, held-short, held-distinct}
-use Rattle.sessions.proofs.Checks.{Passed, frame-passed, naming-settles}
+use Rattle.sessions.proofs.Checks.{Passed, frame-passed, subscribe-changes, subscribe-settles, unsubscribe-changes, unsubscribe-settles}
 use Rattle.stores.proofs.Searching.{found-at}
 use Rattle.sessions.proofs.Stores.{ids-laid, used-short, use-short, use-some, use-new}
 use Rattle.sessions.specs.declared.store.Use.{Use}
 use Rattle.sessions.specs.declared.store.Use.the-variants.{Enter, Free}
 use Rattle.sessions.specs.declared.command.Header.the-variants.{Id}
-use Rattle.sessions.specs.Calls.{left-by as session-left, made, opened-by, opening, shared-by, client-versions, client-heart-beats, named-id, naming-effect, effect, free-place, place-named, settle-named, mode-or-auto, delivery-effect, frame-answer, frame-session, heart-beat-answer, heart-beat-session, deliver-checks, deliver-answer, recorded-by, deliver-session}
+use Rattle.sessions.specs.Calls.{left-by as session-left, made, opened-by, opening, shared-by, client-versions, client-heart-beats, uses-of, id-effect, effect, free-place, place-named, settle-named, mode-or-auto, delivery-effect, frame-answer, frame-session, heart-beat-answer, heart-beat-session, deliver-checks, deliver-answer, recorded-by, deliver-session}
 use Rattle.sessions.proofs.Accounts.{named, settled-for, settled-by, entered, left-by, Distinct, Agrees, same-turn, survivors, step-pending, none-later, all-accounted}
 use Rattle.sessions.proofs.Pending.{Apart, Elsewhere, Proper, Holds, good, holds-emptied, holds-unsubscribed, free-elsewhere, all-with, any-map, without-fail, holds-settled}
 
@@ -385,42 +385,44 @@ module _ (past : List Event) (s : Session) (kept : Kept s) (knows : Knows past s
 
   -- ---- an accepted frame
 
-  needs-label : (es : List Entry) → lacks Id es || false ≡ false → (l : List ℕ) × (value-of Id es ≡ some l)
+  needs-label : (es : List Entry) → not (has Id es) || false ≡ false → (l : List ℕ) × (value-of Id es ≡ some l)
   needs-label es h = unsubscribe-id s kept es h
 
   left-named : (n : ℕ) (es : List Entry) → Passed s n es → opens n ≡ false → is DISCONNECT n ≡ false
-      → Left past s (with-deliveries (naming-effect s n (named-id n es)) (delivery-effect s n es)) (frame-event n es)
+      → Left past s (with-deliveries (id-effect s (changed-id (uses-of s n es))) (delivery-effect s n es)) (frame-event n es)
   left-named n es p o d = by (is SUBSCRIBE n) (is UNSUBSCRIBE n) (is ACK n) (is NACK n) refl refl refl refl
     where
       Goal : ℕ → Type 0
-      Goal z = Passed s z es → Left past s (with-deliveries (naming-effect s z (named-id z es)) (delivery-effect s z es)) (frame-event z es)
+      Goal z = Passed s z es → Left past s (with-deliveries (id-effect s (changed-id (uses-of s z es))) (delivery-effect s z es)) (frame-event z es)
 
       entering : Goal 14
       entering q =
           let (id, v) = subscribe-id s kept es (q .needs) in
-          subst (λ w. Left past s (with-deliveries (naming-effect s 14 w) (delivery-effect s 14 es)) (subscribed (said w) (mode-or-auto (mode-asked es)))) (sym v)
-          (left-subscribe es (mode-or-auto (mode-asked es)) id (naming-settles s 14 es id (q .named) v))
+          subst (λ o. Left past s (with-deliveries (id-effect s o) (delivery-effect s 14 es)) (frame-event 14 es)) (sym (subscribe-changes s es id v))
+          (subst (λ w. Left past s (with-deliveries (with-ids Subscriptions s (used Enter id (ids-of Subscriptions s))) (delivery-effect s 14 es)) (subscribed (said w) (mode-or-auto (mode-asked es)))) (sym v)
+          (left-subscribe es (mode-or-auto (mode-asked es)) id (subscribe-settles s es id v q)))
 
       freeing : Goal 15
       freeing q =
           let (id, v) = unsubscribe-id s kept es (q .needs) in
-          subst (λ w. Left past s (with-deliveries (naming-effect s 15 w) (unsubscribe (place-named s w) (s .deliveries))) (unsubscribed (said w))) (sym v)
-          (left-unsubscribe id (naming-settles s 15 es id (q .named) v))
+          subst (λ o. Left past s (with-deliveries (id-effect s o) (delivery-effect s 15 es)) (frame-event 15 es)) (sym (unsubscribe-changes s es id v))
+          (subst (λ w. Left past s (with-deliveries (with-ids Subscriptions s (used Free id (ids-of Subscriptions s))) (unsubscribe (place-named s w) (s .deliveries))) (unsubscribed (said w))) (sym v)
+          (left-unsubscribe id (unsubscribe-settles s es id v q)))
 
       acking : Goal 2
       acking q =
           let (l, v) = needs-label es (q .needs) in
-          subst (λ w. Left past s (with-deliveries (naming-effect s 2 (named-id 2 es)) (settle-named w (s .deliveries))) (acked (said w))) (sym v)
-          (left-settle (naming-effect s 2 (named-id 2 es)) l (acked l) (other-lens s kept 2 (named-id 2 es) refl refl) (λ ds. refl) (λ x. refl))
+          subst (λ w. Left past s (with-deliveries (id-effect s (changed-id (uses-of s 2 es))) (settle-named w (s .deliveries))) (acked (said w))) (sym v)
+          (left-settle (id-effect s (changed-id (uses-of s 2 es))) l (acked l) (other-lens s kept 2 es refl refl) (λ ds. refl) (λ x. refl))
 
       nacking : Goal 10
       nacking q =
           let (l, v) = needs-label es (q .needs) in
-          subst (λ w. Left past s (with-deliveries (naming-effect s 10 (named-id 10 es)) (settle-named w (s .deliveries))) (nacked (said w))) (sym v)
-          (left-settle (naming-effect s 10 (named-id 10 es)) l (nacked l) (other-lens s kept 10 (named-id 10 es) refl refl) (λ ds. refl) (λ x. refl))
+          subst (λ w. Left past s (with-deliveries (id-effect s (changed-id (uses-of s 10 es))) (settle-named w (s .deliveries))) (nacked (said w))) (sym v)
+          (left-settle (id-effect s (changed-id (uses-of s 10 es))) l (nacked l) (other-lens s kept 10 es refl refl) (λ ds. refl) (λ x. refl))
 
       by : (a b c e : Bool) → is SUBSCRIBE n ≡ a → is UNSUBSCRIBE n ≡ b → is ACK n ≡ c → is NACK n ≡ e
-          → Left past s (with-deliveries (naming-effect s n (named-id n es)) (delivery-effect s n es)) (frame-event n es)
+          → Left past s (with-deliveries (id-effect s (changed-id (uses-of s n es))) (delivery-effect s n es)) (frame-event n es)
       by true b c e x y z w = subst Goal (sym (eqb-true n 14 x)) entering p
       by false true c e x y z w = subst Goal (sym (eqb-true n 15 y)) freeing p
       by false false true e x y z w = subst Goal (sym (eqb-true n 2 z)) acking p
@@ -428,8 +430,8 @@ module _ (past : List Event) (s : Session) (kept : Kept s) (knows : Knows past s
       by false false false false x y z w =
           let event : frame-event n es ≡ nothing = rw (x, y, z, w, d) in
           let stays : delivery-effect s n es ≡ s .deliveries = rw (x, y, z, w) in
-          subst (Left past s (with-deliveries (naming-effect s n (named-id n es)) (delivery-effect s n es))) (sym event)
-          (subst (λ t. Left past s (with-deliveries (naming-effect s n (named-id n es)) t) nothing) (sym stays) (left-other (naming-effect s n (named-id n es)) (other-lens s kept n (named-id n es) x y)))
+          subst (Left past s (with-deliveries (id-effect s (changed-id (uses-of s n es))) (delivery-effect s n es))) (sym event)
+          (subst (λ t. Left past s (with-deliveries (id-effect s (changed-id (uses-of s n es))) t) nothing) (sym stays) (left-other (id-effect s (changed-id (uses-of s n es))) (other-lens s kept n es x y)))
 
   left-opened : (shared : List Bool) (o : Option HeartBeats) → Left past s (opened-by s shared o) nothing
   left-opened shared none = record { holds-are = refl; knows = knows }
@@ -442,7 +444,7 @@ module _ (past : List Event) (s : Session) (kept : Kept s) (knows : Knows past s
       no-event o = or-either (is CONNECT n) (is STOMP n) o (λ e. ap (λ m. frame-event m es) (eqb-true n 5 e)) (λ e. ap (λ m. frame-event m es) (eqb-true n 13 e))
 
       by : (a b : Bool) → opens n ≡ a → is DISCONNECT n ≡ b
-          → Left past s (cond a (opening s es) (cond b (closed-session s) (with-deliveries (naming-effect s n (named-id n es)) (delivery-effect s n es)))) (frame-event n es)
+          → Left past s (cond a (opening s es) (cond b (closed-session s) (with-deliveries (id-effect s (changed-id (uses-of s n es))) (delivery-effect s n es)))) (frame-event n es)
       by true b o d = subst (Left past s (opening s es)) (sym (no-event o)) (left-opened (shared-by s (client-versions es)) (client-heart-beats es))
       by false true o d = subst (Left past s (closed-session s)) (sym (ap (λ m. frame-event m es) (eqb-true n 7 d))) (left-closed past s kept knows)
       by false false o d = left-named n es p o d

@@ -1,12 +1,12 @@
 -- Ids used: what a session becomes where an id is refused, kept, entered or freed, over the kind of id. Assumes nothing.
-use mathlib.Core.Path.{_≡_, refl, sym, ap, ap₂, _∙_}
-use mathlib.Core.Bool.{Bool, true, _&&_}
+use mathlib.Core.Path.{_≡_, ap₂, _∙_}
+use mathlib.Core.Bool.{true, _&&_}
 use mathlib.Core.List.{List, []}
 use Prim.Native.Nat.{ℕ, _-_, _≤_, _<_}
 use native.Mathlib.Omega.{arith}
-use native.Mathlib.Nat.{le-refl, sub-zero}
+use native.Mathlib.Nat.{le-refl}
 use lib.Dec.{leb, ltb}
-use lib.ListN.{length, take, drop, set, length-take}
+use lib.ListN.{length, take, set, length-take}
 use borrow.Author.Tests.{ltb-false, leb-true}
 use Rattle.headers.specs.Rows.{empty}
 use Rattle.headers.specs.Answers.{accepted, settle}
@@ -18,19 +18,15 @@ use Rattle.sessions.specs.Sessions.{ids-of, with-subscriptions, with-tra
 use Rattle.sessions.specs.Sessions.{right-deliveries, is-valid, Sized}
 use Rattle.sessions.specs.declared.parts.SubscriptionIds.{SubscriptionIds}
 use Rattle.sessions.specs.declared.parts.TransactionIds.{TransactionIds}
-use Rattle.sessions.specs.Places.{Fits, stored, Settles, put-in}
-use Rattle.sessions.specs.Steps.{closed-by, accepted-by, count-of, put-subscription, put-transaction, put-of, GivesUse}
+use Rattle.sessions.specs.Places.{Fits, stored, put-in}
+use Rattle.sessions.specs.Steps.{count-of, put-subscription, put-transaction, put-of}
 use Rattle.sessions.specs.declared.store.Use.{Use}
 use Rattle.sessions.specs.declared.store.Use.the-variants.{Nothing, Need, Enter, Free}
-use Rattle.sessions.specs.declared.store.Settled.{Settled}
 use Rattle.sessions.specs.declared.command.Kind.{Kind}
 use Rattle.sessions.specs.declared.command.Kind.the-variants.{Subscriptions, Transactions}
 use Rattle.sessions.specs.declared.session.Session.{Session}
-use Rattle.sessions.specs.declared.session.Acceptance.{Acceptance}
-use Rattle.sessions.specs.declared.session.Outcome.{Outcome}
 use Rattle.sessions.proofs.Stores.{length-ids, lengths-ids, laid-ids, put-laid, valid-fits, valid-clean}
-use Rattle.sessions.proofs.Checks.{all-pass, all-accepted}
-use Rattle.sessions.proofs.Steps.{gives-refused, gives-accepted, settle-refused, settle-closes}
+use Rattle.sessions.proofs.Checks.{all-pass}
 
 -- the store of a kind, and its lengths
 abbrev pub store-of : Kind → Session → List ℕ
@@ -94,34 +90,6 @@ pub stored-fits : (w : ℕ) (u : Use) (id : List ℕ) (is : List (List ℕ)) →
 stored-fits w u id is e =
     let l : length id ≤ w = ltb-false w (length id) (or-false-right (empty id) (ltb w (length id)) (all-pass (use-checks w u id is) [] [] e .0)) in
     omega (arith, length-take (stored u (length id)) id, stored-small u (length id))
-
--- the part of an id that is stored, as a part of a slice
-pub stored-part : (u : Use) (id : List ℕ) (n : ℕ) → n ≡ stored u (length id) → take (n - 0) (drop 0 id) ≡ take (stored u (length id)) id
-stored-part u id n e = rw (sub-zero, e)
-
-module _ (k : Kind) (s : Session) (u : Use) (id : List ℕ) (acceptance : Acceptance) (time : ℕ) (r : Outcome) where
-  pub use-refused : (n : ℕ) → Settles id-max u id (ids-of k s) (Settled.Refused n) → r ≡ closed-by s n → GivesUse k s u id acceptance time r
-  use-refused n e q =
-      gives-refused (use-checks id-max u id (ids-of k s)) n (settle-refused (use-checks id-max u id (ids-of k s)) [] _ n e)
-      (settle-closes (use-checks id-max u id (ids-of k s)) [] n refl e) q
-
-  module _ (sized : Sized s) (valid : is-valid s ≡ true) where
-    pub use-kept : Settles id-max u id (ids-of k s) Settled.Kept → r ≡ accepted-by s acceptance time → GivesUse k s u id acceptance time r
-    use-kept e q =
-        let same : with-ids k s (used u id (ids-of k s)) ≡ s = ap (with-ids k s) (e .1) ∙ same-ids s sized valid k in
-        rw same (gives-accepted (use-checks id-max u id (ids-of k s)) acceptance s s time r (all-accepted (use-checks id-max u id (ids-of k s)) _ (all-pass (use-checks id-max u id (ids-of k s)) [] [] (e .0))) q)
-
-    pub use-put : (i : ℕ) (part : List ℕ) → Settles id-max u id (ids-of k s) (Settled.Put i) → part ≡ take (stored u (length id)) id
-        → r ≡ accepted-by (put-of k s i part) acceptance time → GivesUse k s u id acceptance time r
-    use-put i part (e, h, f) p q =
-        let put : put-of k s i part ≡ with-ids k s (used u id (ids-of k s)) =
-        ap (put-of k s i) p ∙ put-ids s sized valid k i (take (stored u (length id)) id) (omega (arith, h, count-ids s sized valid k)) (stored-fits id-max u id (ids-of k s) e) ∙ ap (with-ids k s) (sym f) in
-        gives-accepted (use-checks id-max u id (ids-of k s)) acceptance s (with-ids k s (used u id (ids-of k s))) time r
-        (all-accepted (use-checks id-max u id (ids-of k s)) _ (all-pass (use-checks id-max u id (ids-of k s)) [] [] e)) (q ∙ ap (λ z. accepted-by z acceptance time) put)
-
-    -- what putting it asks
-    pub put-asked : (i n : ℕ) → Settles id-max u id (ids-of k s) (Settled.Put i) → n ≡ stored u (length id) → (i < count-of k) × (length (take (n - 0) (drop 0 id)) ≤ id-max)
-    put-asked i n (e, h, f) p = (omega (arith, h, count-ids s sized valid k), rw (stored-part u id n p) (stored-fits id-max u id (ids-of k s) e))
 
 -- ids with one put in a place, as they are stored
 module _ (i : ℕ) (id store : List ℕ) (m : ℕ) (l : m ≡ length id) where

@@ -11,15 +11,16 @@ use Rattle.headers.specs.Block.{Entry, entries, listed}
 use Rattle.headers.specs.Answers.{Answer, accepted, refused, Check, settle, is-block}
 use Rattle.frames.specs.Grammar.{DISCONNECT, SUBSCRIBE, UNSUBSCRIBE}
 use Rattle.stores.specs.Searches.{first-from}
-use Rattle.sessions.specs.Stores.{live, used, use-checks, bad-length}
+use Rattle.sessions.specs.Stores.{live, used, bad-length, live-again, not-live, no-room}
 use Rattle.sessions.specs.Deliveries.{deliveries-max, label-max, auto-mode, mode-of, is-pending, settle-label, subscribe, unsubscribe, record-label}
 use Rattle.sessions.specs.Values.{HeartBeats, versions, heart-beats, heart-beat-max}
 use Rattle.sessions.specs.Opening.{shared-flags, none-shared, may-offer, interval, overdue}
-use Rattle.sessions.specs.Headers.{value-of, has, is-some, lacks, is, unknown, from-server, opens, needed, names, names-id, naming, mode-asked, settles}
+use Rattle.sessions.specs.Headers.{value-of, has, is-some, is, unknown, from-server, opens, needed-by, namings-by, IdUse, id-uses, changed-id}
+use Rattle.sessions.specs.Headers.{mode-asked, settles}
 use Rattle.sessions.specs.Sessions.{id-max, fresh-phase, open-phase, closed-phase, in-phase, fresh, ids-of, with-ids, with-deliveries, closed, opened}
-use Rattle.sessions.specs.Sessions.{heard, is-valid}
+use Rattle.sessions.specs.Sessions.{heard, spoken, is-valid}
 use Rattle.sessions.specs.Answers.{bit, acceptance-says}
-use Rattle.sessions.specs.declared.store.Use.{Use}
+use Rattle.sessions.specs.declared.command.Header.{Header}
 use Rattle.sessions.specs.declared.command.Header.the-variants.{AcceptVersion, HeartBeat, Id, Receipt}
 use Rattle.sessions.specs.declared.command.Kind.the-variants.{Subscriptions}
 use Rattle.sessions.specs.declared.delivery.Deliveries.{Deliveries}
@@ -79,17 +80,10 @@ opened-by s shared (some b) = opened s shared (interval (b .sends) (s .offers .w
 abbrev pub opening : Session → List Entry → Session
 opening s es = opened-by s (shared-by s (client-versions es)) (client-heart-beats es)
 
--- ---- the id that a frame names, if it names one
+-- ---- the ids that a frame names
 
-abbrev pub usage-of : ℕ → Use
-usage-of n = naming n .usage
-
-abbrev pub named-id : ℕ → List Entry → Option (List ℕ)
-named-id n es = cond (names-id (usage-of n)) (value-of (names (naming n .kind)) es) none
-
--- the ids of the kind that it names
-abbrev pub named-ids : Session → ℕ → List (List ℕ)
-named-ids s n = ids-of (naming n .kind) s
+abbrev pub uses-of : Session → ℕ → List Entry → List IdUse
+uses-of s n es = id-uses (namings-by (spoken s) n) es
 
 -- ---- a frame
 
@@ -97,13 +91,14 @@ named-ids s n = ids-of (naming n .kind) s
 abbrev pub out-of-phase : Session → ℕ → Bool
 out-of-phase s n = cond (opens n) (not (in-phase fresh-phase s)) (not (in-phase open-phase s))
 
--- 44 to 47: the checks of the id that a frame names; a frame that names none passes them
-abbrev pub id-checks : Session → ℕ → Option (List ℕ) → List Check
-id-checks s n none = []
-id-checks s n (some id) = use-checks id-max (usage-of n) id (named-ids s n)
-
-abbrev pub naming-checks : Session → ℕ → List Entry → List Check
-naming-checks s n es = id-checks s n (named-id n es)
+-- 44 to 47, each over all ids that a frame names, before the next number
+abbrev pub id-checks : Session → List IdUse → List Check
+id-checks s us =
+    record { fails = any (λ u. bad-length id-max (u .id)) us; number = 44 } ∷
+    record { fails = any (λ u. live-again (u .usage) (u .id) (ids-of (u .kind) s)) us; number = 45 } ∷
+    record { fails = any (λ u. not-live (u .usage) (u .id) (ids-of (u .kind) s)) us; number = 46 } ∷
+    record { fails = any (λ u. no-room (u .usage) (ids-of (u .kind) s)) us; number = 47 } ∷
+    []
 
 -- ---- the delivery that a frame names or the mode that it asks for
 
@@ -123,29 +118,46 @@ delivery-checks s n es =
     []
 
 -- "43 header missing"
-abbrev pub lacks-needed : ℕ → List Entry → Bool
-lacks-needed n es = lacks (needed n .first) es || lacks (needed n .second) es
+abbrev pub lacks-any : List Header → List Entry → Bool
+lacks-any hs es = any (λ h. not (has h es)) hs
 
--- "Checks in order": 38 an invalid record (document 01's unsound one); 39 an unknown command or malformed header
--- block (the sheet of document 01); "40 closed; 41 a server's command; 42 not open, or a second CONNECT/STOMP; 43
--- header missing; 44 the id that names a subscription or transaction is empty or over 32; 45 id already live; 46 not live; 47 all
--- places live; at CONNECT/STOMP 31, 32, 33 after 43": 31 accept-version malformed, 32 no version shared, 33 heart-beat malformed.
-abbrev pub entry-checks : Session → ℕ → List Entry → List Check
-entry-checks s n es =
-    record { fails = lacks-needed n es; number = 43 } ∷
-    record { fails = opens n && not (is-some (client-versions es)); number = 31 } ∷
-    record { fails = opens n && none-shared (shared-by s (client-versions es)); number = 32 } ∷
-    record { fails = opens n && not (is-some (client-heart-beats es)); number = 33 } ∷
-    (naming-checks s n es ++ delivery-checks s n es)
+abbrev pub lacks-needed : Session → ℕ → List Entry → Bool
+lacks-needed s n es = lacks-any (needed-by (spoken s) n) es
 
-abbrev pub frame-checks : Session → ℕ → List ℕ → List Check
-frame-checks s n block =
+-- "Checks in order", group by group: 38 an invalid record (document 01's unsound one); 39 an unknown command or malformed header block
+-- (the sheet of document 01)
+abbrev pub record-checks : Session → ℕ → List ℕ → List Check
+record-checks s n block =
     record { fails = not (is-valid s); number = 38 } ∷
     record { fails = unknown n || not (is-block block); number = 39 } ∷
+    []
+
+-- "40 closed; 41 a server's command; 42 not open, or a second CONNECT/STOMP"
+abbrev pub phase-checks : Session → ℕ → List Check
+phase-checks s n =
     record { fails = in-phase closed-phase s; number = 40 } ∷
     record { fails = from-server n; number = 41 } ∷
     record { fails = out-of-phase s n; number = 42 } ∷
-    entry-checks s n (listed (entries block))
+    []
+
+-- "43 header missing"
+abbrev pub header-checks : Session → ℕ → List Entry → List Check
+header-checks s n es = record { fails = lacks-needed s n es; number = 43 } ∷ []
+
+-- "at CONNECT/STOMP 31, 32, 33 after 43": 31 accept-version malformed, 32 no version shared, 33 heart-beat malformed
+abbrev pub opening-checks : Session → ℕ → List Entry → List Check
+opening-checks s n es =
+    record { fails = opens n && not (is-some (client-versions es)); number = 31 } ∷
+    record { fails = opens n && none-shared (shared-by s (client-versions es)); number = 32 } ∷
+    record { fails = opens n && not (is-some (client-heart-beats es)); number = 33 } ∷
+    []
+
+-- those that depend on the entries
+abbrev pub entry-checks : Session → ℕ → List Entry → List Check
+entry-checks s n es = header-checks s n es ++ (opening-checks s n es ++ (id-checks s (uses-of s n es) ++ delivery-checks s n es))
+
+abbrev pub frame-checks : Session → ℕ → List ℕ → List Check
+frame-checks s n block = record-checks s n block ++ (phase-checks s n ++ entry-checks s n (listed (entries block)))
 
 -- "A receipt is owed exactly if the frame is accepted, the header is there and the command is neither CONNECT nor STOMP"
 abbrev pub owes-receipt : ℕ → List Entry → Bool
@@ -161,10 +173,10 @@ no-receipt = record { receipt = false }
 unfoldable pub frame-answer : Session → ℕ → List ℕ → Answer
 frame-answer s n block = settle (frame-checks s n block) (acceptance-says (acceptance-of n (listed (entries block))))
 
--- the session with the id entered or freed
-abbrev pub naming-effect : Session → ℕ → Option (List ℕ) → Session
-naming-effect s n none = s
-naming-effect s n (some id) = with-ids (naming n .kind) s (used (usage-of n) id (named-ids s n))
+-- the session with an id entered or freed
+abbrev pub id-effect : Session → Option IdUse → Session
+id-effect s none = s
+id-effect s (some u) = with-ids (u .kind) s (used (u .usage) (u .id) (ids-of (u .kind) s))
 
 -- the deliveries after it: SUBSCRIBE keeps a mode for the place that it takes, UNSUBSCRIBE drops those of its place, ACK and NACK settle
 abbrev pub place-named : Session → Option (List ℕ) → Option ℕ
@@ -193,7 +205,7 @@ abbrev pub effect : Session → ℕ → List Entry → Session
 effect s n es =
     cond (opens n) (opening s es)
     (cond (is DISCONNECT n) (closed s)
-    (with-deliveries (naming-effect s n (named-id n es)) (delivery-effect s n es)))
+    (with-deliveries (id-effect s (changed-id (uses-of s n es))) (delivery-effect s n es)))
 
 -- "Accepted frames and beats set last-heard."
 unfoldable pub frame-session : Session → ℕ → List ℕ → ℕ → Session

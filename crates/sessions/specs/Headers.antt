@@ -4,25 +4,23 @@ use mathlib.Core.Option.{Option, none, some}
 use mathlib.Core.List.{List, [], _∷_}
 use Prim.Native.Nat.{ℕ}
 use lib.Dec.{eqb}
-use Rattle.headers.specs.Rows.{octets-of, same}
+use Rattle.headers.specs.Rows.{octets-of, same, first-of}
 use Rattle.headers.specs.Block.{Entry, first-value}
-use Rattle.frames.specs.Grammar.{Command, number, ABORT, ACK, BEGIN, COMMIT, CONNECT, CONNECTED, ERROR, MESSAGE, NACK, RECEIPT, SEND, STOMP, SUBSCRIBE}
-use Rattle.frames.specs.Grammar.{UNSUBSCRIBE}
+use Rattle.frames.specs.Grammar.{Version, Command, number, ABORT, ACK, BEGIN, COMMIT, CONNECT, CONNECTED, DISCONNECT, ERROR, MESSAGE, NACK, RECEIPT}
+use Rattle.frames.specs.Grammar.{SEND, STOMP, SUBSCRIBE, UNSUBSCRIBE}
 use Rattle.frames.specs.Encoding.{command-of}
-use Rattle.sessions.specs.Stores.{enters, wants-live}
+use Rattle.sessions.specs.Stores.{changes}
 use Rattle.sessions.specs.Deliveries.{auto-mode, client-mode, individual-mode}
 use Rattle.sessions.specs.declared.store.Use.{Use}
-use Rattle.sessions.specs.declared.store.Use.the-variants.{Nothing, Need, Enter, Free}
+use Rattle.sessions.specs.declared.store.Use.the-variants.{Need, Enter, Free}
 use Rattle.sessions.specs.declared.command.Header.{Header}
-use Rattle.sessions.specs.declared.command.Header.the-variants.{Absent, AcceptVersion, HeartBeat, Host, Destination, Id, Transaction, Receipt, Ack}
+use Rattle.sessions.specs.declared.command.Header.the-variants.{AcceptVersion, HeartBeat, Host, Destination, Id, Transaction, Receipt, Ack}
 use Rattle.sessions.specs.declared.command.Kind.{Kind}
 use Rattle.sessions.specs.declared.command.Kind.the-variants.{Subscriptions, Transactions}
-use Rattle.sessions.specs.declared.command.Needed.{Needed}
 use Rattle.sessions.specs.declared.command.Naming.{Naming}
 
--- the names of the headers; Absent stands for none
+-- the names of the headers
 abbrev pub name-of : Header → List ℕ
-name-of Absent = []
 name-of AcceptVersion = octets-of "accept-version"
 name-of HeartBeat = octets-of "heart-beat"
 name-of Host = octets-of "host"
@@ -43,18 +41,6 @@ is-some (some x) = true
 abbrev pub has : Header → List Entry → Bool
 has h es = is-some (value-of h es)
 
--- a needed header is missing; of none, it never is
-abbrev pub lacks : Header → List Entry → Bool
-lacks Absent es = false
-lacks AcceptVersion es = not (has AcceptVersion es)
-lacks HeartBeat es = not (has HeartBeat es)
-lacks Host es = not (has Host es)
-lacks Destination es = not (has Destination es)
-lacks Id es = not (has Id es)
-lacks Transaction es = not (has Transaction es)
-lacks Receipt es = not (has Receipt es)
-lacks Ack es = not (has Ack es)
-
 -- the command of a number
 abbrev pub is : Command → ℕ → Bool
 is c n = eqb n (number c)
@@ -71,45 +57,88 @@ from-server n = is CONNECTED n || (is ERROR n || (is MESSAGE n || is RECEIPT n))
 abbrev pub opens : ℕ → Bool
 opens n = is CONNECT n || is STOMP n
 
-abbrev pub one : Header → Needed
-one h = record { first = h; second = Absent }
-
-abbrev pub two : Header → Header → Needed
-two h k = record { first = h; second = k }
+-- ---- Two tables, by the protocol version and the command
 
 -- "Needed headers, checked in this order: CONNECT and STOMP accept-version, host; SEND destination; SUBSCRIBE destination, id;
 -- UNSUBSCRIBE, ACK, NACK id; BEGIN, COMMIT, ABORT transaction."
-abbrev pub needed : ℕ → Needed
-needed n =
-    cond (opens n) (two AcceptVersion Host)
-    (cond (is SEND n) (one Destination)
-    (cond (is SUBSCRIBE n) (two Destination Id)
-    (cond (is UNSUBSCRIBE n || (is ACK n || is NACK n)) (one Id)
-    (cond (is BEGIN n || (is COMMIT n || is ABORT n)) (one Transaction)
-    (one Absent)))))
+abbrev pub needed : Version → Command → List Header
+needed ver CONNECT = AcceptVersion ∷ Host ∷ []
+needed ver STOMP = AcceptVersion ∷ Host ∷ []
+needed ver SEND = Destination ∷ []
+needed ver SUBSCRIBE = Destination ∷ Id ∷ []
+needed ver UNSUBSCRIBE = Id ∷ []
+needed ver ACK = Id ∷ []
+needed ver NACK = Id ∷ []
+needed ver BEGIN = Transaction ∷ []
+needed ver COMMIT = Transaction ∷ []
+needed ver ABORT = Transaction ∷ []
+needed ver DISCONNECT = []
+needed ver CONNECTED = []
+needed ver ERROR = []
+needed ver MESSAGE = []
+needed ver RECEIPT = []
 
--- The header that names an id of a kind.
-abbrev pub names : Kind → Header
-names Subscriptions = Id
-names Transactions = Transaction
+-- an id that a command names: in which header, of which kind, and what becomes of it
+abbrev pub subscription : Use → Naming
+subscription u = record { header = Id; kind = Subscriptions; usage = u }
 
--- a use is of an id: of a new one or a live one
-abbrev pub names-id : Use → Bool
-names-id u = enters u || wants-live u
+abbrev pub transaction : Use → Naming
+transaction u = record { header = Transaction; kind = Transactions; usage = u }
 
-abbrev pub naming-of : Kind → Use → Naming
-naming-of k u = record { kind = k; usage = u }
+-- The ids that a command names: SUBSCRIBE and BEGIN enter one, UNSUBSCRIBE, COMMIT and ABORT free one; "SEND, ACK and NACK may carry
+-- transaction, which must be open". "The id of ACK and NACK is only required."
+abbrev pub namings : Version → Command → List Naming
+namings ver SUBSCRIBE = subscription Enter ∷ []
+namings ver UNSUBSCRIBE = subscription Free ∷ []
+namings ver BEGIN = transaction Enter ∷ []
+namings ver COMMIT = transaction Free ∷ []
+namings ver ABORT = transaction Free ∷ []
+namings ver SEND = transaction Need ∷ []
+namings ver ACK = transaction Need ∷ []
+namings ver NACK = transaction Need ∷ []
+namings ver CONNECT = []
+namings ver STOMP = []
+namings ver DISCONNECT = []
+namings ver CONNECTED = []
+namings ver ERROR = []
+namings ver MESSAGE = []
+namings ver RECEIPT = []
 
--- What a frame does with which id: SUBSCRIBE and BEGIN enter one, UNSUBSCRIBE, COMMIT and ABORT free one; "SEND, ACK and NACK may
--- carry transaction, which must be open". "The id of ACK and NACK is only required."
-abbrev pub naming : ℕ → Naming
-naming n =
-    cond (is SUBSCRIBE n) (naming-of Subscriptions Enter)
-    (cond (is UNSUBSCRIBE n) (naming-of Subscriptions Free)
-    (cond (is BEGIN n) (naming-of Transactions Enter)
-    (cond (is COMMIT n || is ABORT n) (naming-of Transactions Free)
-    (cond (is SEND n || (is ACK n || is NACK n)) (naming-of Transactions Need)
-    (naming-of Transactions Nothing)))))
+-- the same by the command's number; an unknown number needs nothing and names no id
+abbrev pub listed-by : {A : Type 0} → (Command → List A) → Option Command → List A
+listed-by table none = []
+listed-by table (some c) = table c
+
+abbrev pub needed-by : Version → ℕ → List Header
+needed-by ver n = listed-by (needed ver) (command-of n)
+
+abbrev pub namings-by : Version → ℕ → List Naming
+namings-by ver n = listed-by (namings ver) (command-of n)
+
+-- ---- The ids that a frame names
+
+-- an id that a frame names: its kind, what becomes of it, and the id
+pub record IdUse : Type 0 where
+  pub kind : Kind
+  pub usage : Use
+  pub id : List ℕ
+
+-- a header that is not there names no id
+abbrev pub id-use : Naming → Option (List ℕ) → Option IdUse
+id-use g none = none
+id-use g (some id) = some (record { kind = g .kind; usage = g .usage; id = id })
+
+abbrev pub put-before : {A : Type 0} → Option A → List A → List A
+put-before none xs = xs
+put-before (some x) xs = x ∷ xs
+
+abbrev pub id-uses : List Naming → List Entry → List IdUse
+id-uses [] es = []
+id-uses (g ∷ gs) es = put-before (id-use g (value-of (g .header) es)) (id-uses gs es)
+
+-- the one that is entered or freed, if one is: no command has two
+abbrev pub changed-id : List IdUse → Option IdUse
+changed-id us = first-of (λ u. changes (u .usage)) us
 
 -- The ack mode that a SUBSCRIBE asks for: "from the ack header (auto, client, client-individual; absent means auto)"; none where the
 -- first value of the header is another word, or empty.

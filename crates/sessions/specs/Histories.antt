@@ -9,9 +9,9 @@ use lib.Dec.{eqb}
 use Rattle.headers.specs.Rows.{same}
 use Rattle.headers.specs.Block.{Entry, entries, listed}
 use Rattle.headers.specs.Answers.{Answer, accepted, refused}
-use Rattle.frames.specs.Grammar.{number, ACK, DISCONNECT, NACK, SUBSCRIBE, UNSUBSCRIBE}
-use Rattle.sessions.specs.Headers.{value-of, is, naming, mode-asked}
-use Rattle.sessions.specs.Calls.{frame-answer, frame-session, heart-beat-answer, heart-beat-session, named-id, deliver-answer, deliver-session}
+use Rattle.frames.specs.Grammar.{v1-2, number, ACK, DISCONNECT, NACK, SUBSCRIBE, UNSUBSCRIBE}
+use Rattle.sessions.specs.Headers.{value-of, is, namings-by, IdUse, id-uses, changed-id, mode-asked}
+use Rattle.sessions.specs.Calls.{frame-answer, frame-session, heart-beat-answer, heart-beat-session, deliver-answer, deliver-session}
 use Rattle.sessions.specs.Calls.{mode-or-auto}
 use Rattle.sessions.specs.Accounts.{Event, subscribed, unsubscribed, delivered, acked, nacked, closed, nothing}
 use Rattle.sessions.specs.declared.command.Header.the-variants.{Id}
@@ -57,19 +57,22 @@ by-use Free before = false
 by-use Need before = before
 by-use Nothing before = before
 
--- whether a frame that names this id, or none, names the id of the kind
-abbrev pub named-as : Kind → List ℕ → ℕ → Option (List ℕ) → Bool
-named-as k id n none = false
-named-as k id n (some x) = same-kind k (naming n .kind) && same x id
+-- the ids that a frame names, in 1.2, which every session speaks
+abbrev pub told-uses : ℕ → List Entry → List IdUse
+told-uses n es = id-uses (namings-by v1-2 n) es
+
+-- whether an id of a kind is live after this id, or none, was entered or freed
+abbrev pub live-changed : Kind → List ℕ → Bool → Option IdUse → Bool
+live-changed k id before none = before
+live-changed k id before (some u) = cond (same-kind k (u .kind) && same (u .id) id) (by-use (u .usage) before) before
 
 abbrev pub is-accepted : Answer → Bool
 is-accepted (accepted values) = true
 is-accepted (refused number) = false
 
--- whether an id is live after one call: an accepted frame that names it uses it, and no other call changes it
+-- whether an id is live after one call: an accepted frame that enters it or frees it says so, and no other call changes it
 abbrev pub live-by : Kind → List ℕ → Bool → Answer → Call → Bool
-live-by k id before a (frame n block time) =
-    cond (is-accepted a && named-as k id n (named-id n (listed (entries block)))) (by-use (naming n .usage) before) before
+live-by k id before a (frame n block time) = cond (is-accepted a) (live-changed k id before (changed-id (told-uses n (listed (entries block))))) before
 live-by k id before a (heart-beat time) = before
 live-by k id before a (deliver x label) = before
 

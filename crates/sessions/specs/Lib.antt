@@ -5,6 +5,7 @@ pub mod Accounts
 pub mod Values
 pub mod Opening
 pub mod Headers
+pub mod Notes
 pub mod Sessions
 pub mod Answers
 pub mod Calls

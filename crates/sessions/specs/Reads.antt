@@ -1,20 +1,14 @@
 -- What the readers of header values and blocks give, in the code's types. Assumes nothing.
-use mathlib.Core.Path.{_≡_}
 use mathlib.Core.Bool.{Bool, cond, _||_}
 use mathlib.Core.Option.{Option, none, some}
 use mathlib.Core.List.{List, [], _∷_}
-use Prim.Native.Nat.{ℕ, _-_, _≤_}
-use lib.ListN.{length, take, drop}
+use Prim.Native.Nat.{ℕ}
 use Rattle.headers.specs.Rows.{same}
-use Rattle.headers.specs.Block.{entries, listed}
 use Rattle.sessions.specs.Values.{HeartBeats}
 use Rattle.sessions.specs.Opening.{flag}
-use Rattle.sessions.specs.Headers.{value-of}
 use Rattle.sessions.specs.declared.value.VersionsRead.{VersionsRead}
 use Rattle.sessions.specs.declared.value.HeartBeatsRead.{HeartBeatsRead}
 use Rattle.sessions.specs.declared.value.ModeRead.{ModeRead}
-use Rattle.sessions.specs.declared.locate.Located.{Located}
-use Rattle.sessions.specs.declared.command.Header.{Header}
 
 -- the version 1.d, by the digit d
 abbrev pub version : ℕ → List ℕ
@@ -33,11 +27,3 @@ heart-beats-say r = cond (r .valid) (some (record { sends = r .sends; wants = r 
 abbrev pub mode-says : ModeRead → Option ℕ
 mode-says (ModeRead.Mode m) = some m
 mode-says ModeRead.Unknown = none
-
--- where a header's first value stands
-abbrev pub value-at : List ℕ → Located → List ℕ
-value-at block r = take (r .end - r .start) (drop (r .start) block)
-
-pub record Locates (block : List ℕ) (h : Header) (r : Located) : Type 0 where
-  pub inside : (r .start ≤ r .end) × (r .end ≤ length block)
-  pub first : cond (r .present) (some (value-at block r)) none ≡ value-of h (listed (entries block))

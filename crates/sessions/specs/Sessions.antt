@@ -5,6 +5,7 @@ use mathlib.Core.List.{List}
 use Prim.Native.Nat.{ℕ, _*_}
 use lib.ListN.{length, replicate}
 use lib.Dec.{eqb, leb}
+use Rattle.frames.specs.Grammar.{Version, v1-2}
 use Rattle.sessions.specs.Stores.{ids, laid, lengths, valid-store}
 use Rattle.sessions.specs.Deliveries.{deliveries-max, label-max, modes-max, no-deliveries, emptied, valid-deliveries}
 use Rattle.sessions.specs.Values.{heart-beat-max}
@@ -104,6 +105,10 @@ ids-of Transactions s = ids id-max (s .transactions .ids) (s .transactions .lens
 abbrev pub with-ids : Kind → Session → List (List ℕ) → Session
 with-ids Subscriptions s is = with-subscriptions s (record { ids = laid id-max is; lens = lengths is })
 with-ids Transactions s is = with-transactions s (record { ids = laid id-max is; lens = lengths is })
+
+-- the protocol version that the frames of a session are in: 1.2, the only one that it may offer
+abbrev pub spoken : Session → Version
+spoken s = v1-2
 
 -- ---- A valid record, which document 01 calls not unsound: 38 is given for "unknown phase, length over 32, two equal live ids of one
 -- kind, non-zero unused octets, offer or interval over the limit, marks that making refuses unless closed". The marks are the

@@ -6,23 +6,26 @@ use mathlib.Core.Option.{Option, none, some}
 use mathlib.Core.List.{List, [], _∷_, _++_}
 use Prim.Native.Nat.{ℕ, _≤_, _<_}
 use lib.ListN.{length, set}
-use lib.Dec.{eqb, leb}
+use lib.Dec.{eqb, leb, ltb}
 use Rattle.headers.specs.Rows.{empty}
 use Rattle.headers.specs.Block.{Entry}
 use Rattle.headers.specs.Answers.{Check, settle}
-use Rattle.sessions.specs.Stores.{used, use-checks, bad-length}
+use Rattle.sessions.specs.Stores.{enters, wants-live, changes, bad-length}
 use Rattle.sessions.specs.Deliveries.{deliveries-max, label-max, auto-mode, mode-of, is-pending, subscribe, unsubscribe, record-label}
 use Rattle.sessions.specs.Deliveries.{known-modes, idle-modes, valid-labels, valid-places}
 use Rattle.sessions.specs.Opening.{none-shared}
-use Rattle.sessions.specs.Headers.{is-some, from-server, opens, mode-asked, value-of}
-use Rattle.sessions.specs.Sessions.{subscriptions-max, transactions-max, id-max, fresh-phase, open-phase, closed-phase, ids-of, with-ids, with-subscriptions, with-transactions}
+use Rattle.sessions.specs.Headers.{is-some, from-server, opens, mode-asked, value-of, IdUse, id-use, changed-id}
+use Rattle.sessions.specs.Sessions.{subscriptions-max, transactions-max, id-max, fresh-phase, open-phase, closed-phase, ids-of, with-subscriptions, with-transactions}
 use Rattle.sessions.specs.Sessions.{with-deliveries, closed, heard, is-valid}
 use Rattle.sessions.specs.Answers.{acceptance-says, answer-says, delivery-says}
-use Rattle.sessions.specs.Calls.{left-by, shared-by, client-versions, client-heart-beats, opening, named-id, naming-effect, naming-checks}
+use Rattle.sessions.specs.Calls.{left-by, shared-by, client-versions, client-heart-beats, opening, uses-of, id-effect, id-checks}
 use Rattle.sessions.specs.Calls.{delivery-checks, delivery-effect, entry-checks, acceptance-of, effect, is-no-label, free-place, place-named}
 use Rattle.sessions.specs.Calls.{mode-or-auto, settle-named, recorded-by}
-use Rattle.sessions.specs.Places.{put-in}
+use Rattle.sessions.specs.Places.{put-in, Settles}
 use Rattle.sessions.specs.declared.store.Use.{Use}
+use Rattle.sessions.specs.declared.store.Settled.{Settled}
+use Rattle.sessions.specs.declared.command.Naming.{Naming}
+use Rattle.sessions.specs.declared.command.Namings.{Namings}
 use Rattle.sessions.specs.declared.command.Header.the-variants.{Id}
 use Rattle.sessions.specs.declared.command.Kind.{Kind}
 use Rattle.sessions.specs.declared.command.Kind.the-variants.{Subscriptions, Transactions}
@@ -73,30 +76,59 @@ abbrev pub put-of : Kind → Session → ℕ → List ℕ → Session
 put-of Subscriptions s k id = with-subscriptions s (put-subscription (s .subscriptions) k id)
 put-of Transactions s k id = with-transactions s (put-transaction (s .transactions) k id)
 
--- an id of a kind used
-abbrev pub GivesUse : Kind → Session → Use → List ℕ → Acceptance → ℕ → Outcome → Type 0
-GivesUse k s u id acceptance time r = Gives (use-checks id-max u id (ids-of k s)) acceptance s (heard (with-ids k s (used u id (ids-of k s))) time) r
+-- what the store makes of an id that a frame names, or of none
+abbrev pub SettlesUse : Session → Option IdUse → Settled → Type 0
+SettlesUse s none r = r ≡ Settled.Kept
+SettlesUse s (some u) r = Settles id-max (u .usage) (u .id) (ids-of (u .kind) s) r
+
+-- its number, 0 where it is not refused; and the lower of two, where 0 is none
+abbrev pub settled-number : Settled → ℕ
+settled-number (Settled.Refused k) = k
+settled-number Settled.Kept = 0
+settled-number (Settled.Put k) = 0
+
+abbrev pub lower : ℕ → ℕ → ℕ
+lower a b = cond (eqb a 0) b (cond (eqb b 0) a (cond (ltb b a) b a))
+
+-- a use is of an id: of a new one or a live one
+abbrev pub names-id : Use → Bool
+names-id u = enters u || wants-live u
+
+-- the ids that a command names, as the code has them: at most two, of which only the first is entered or freed
+abbrev pub naming-list : Naming → List Naming → List Naming
+naming-list g gs = cond (names-id (g .usage)) (g ∷ gs) gs
+
+abbrev pub listed-namings : Namings → List Naming
+listed-namings r = naming-list (r .first) (naming-list (r .second) [])
+
+pub record GivesNamings (gs : List Naming) (r : Namings) : Type 0 where
+  pub are : listed-namings r ≡ gs
+  pub second-stays : changes (r .second .usage) ≡ false
+
+-- the id that a naming names, if it names one
+abbrev pub use-named : Naming → List Entry → Option IdUse
+use-named g es = cond (names-id (g .usage)) (id-use g (value-of (g .header) es)) none
 
 -- the opening frame: 31, 32, 33
-abbrev pub opening-checks : Session → List Entry → List Check
-opening-checks s es =
+abbrev pub opening-only : Session → List Entry → List Check
+opening-only s es =
     record { fails = not (is-some (client-versions es)); number = 31 } ∷
     record { fails = none-shared (shared-by s (client-versions es)); number = 32 } ∷
     record { fails = not (is-some (client-heart-beats es)); number = 33 } ∷
     []
 
 abbrev pub GivesOpening : Session → List Entry → Acceptance → ℕ → Outcome → Type 0
-GivesOpening s es acceptance time r = Gives (opening-checks s es) acceptance s (heard (opening s es) time) r
+GivesOpening s es acceptance time r = Gives (opening-only s es) acceptance s (heard (opening s es) time) r
 
--- the id that a frame names: 44 to 47
-abbrev pub GivesNaming : Session → ℕ → List Entry → Acceptance → ℕ → Outcome → Type 0
-GivesNaming s n es acceptance time r = Gives (naming-checks s n es) acceptance s (heard (naming-effect s n (named-id n es)) time) r
+-- the ids that a frame names: 44 to 47
+abbrev pub GivesUses : Session → List IdUse → Acceptance → ℕ → Outcome → Type 0
+GivesUses s us acceptance time r = Gives (id-checks s us) acceptance s (heard (id-effect s (changed-id us)) time) r
 
 -- and the delivery that it names or the mode that it asks for: 49 and 60
 abbrev pub GivesDelivery : Session → ℕ → List Entry → Acceptance → ℕ → Outcome → Type 0
 GivesDelivery s n es acceptance time r =
-    Gives (naming-checks s n es ++ delivery-checks s n es) acceptance s
-    (heard (with-deliveries (naming-effect s n (named-id n es)) (delivery-effect s n es)) time) r
+    Gives (id-checks s (uses-of s n es) ++ delivery-checks s n es) acceptance s
+    (heard (with-deliveries (id-effect s (changed-id (uses-of s n es))) (delivery-effect s n es)) time) r
 
 -- all that depends on the entries: from 43 on
 abbrev pub GivesEntries : Session → ℕ → List Entry → ℕ → Outcome → Type 0

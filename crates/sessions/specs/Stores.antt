@@ -67,14 +67,30 @@ wants-live Free = true
 wants-live Need = true
 wants-live Nothing = false
 
+-- it enters or frees one
+abbrev pub changes : Use → Bool
+changes Enter = true
+changes Free = true
+changes Need = false
+changes Nothing = false
+
 -- "44 the id that names a subscription or transaction is empty or over 32; 45 id already live; 46 not live; 47 all places live"
 abbrev pub bad-length : ℕ → List ℕ → Bool
 bad-length w id = empty id || ltb w (length id)
 
+abbrev pub live-again : Use → List ℕ → List (List ℕ) → Bool
+live-again u id ids = enters u && live id ids
+
+abbrev pub not-live : Use → List ℕ → List (List ℕ) → Bool
+not-live u id ids = wants-live u && not (live id ids)
+
+abbrev pub no-room : Use → List (List ℕ) → Bool
+no-room u ids = enters u && not (any empty ids)
+
 abbrev pub use-checks : ℕ → Use → List ℕ → List (List ℕ) → List Check
 use-checks w u id ids =
     record { fails = bad-length w id; number = 44 } ∷
-    record { fails = enters u && live id ids; number = 45 } ∷
-    record { fails = wants-live u && not (live id ids); number = 46 } ∷
-    record { fails = enters u && not (any empty ids); number = 47 } ∷
+    record { fails = live-again u id ids; number = 45 } ∷
+    record { fails = not-live u id ids; number = 46 } ∷
+    record { fails = no-room u ids; number = 47 } ∷
     []

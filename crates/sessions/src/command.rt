@@ -1,8 +1,9 @@
-// Which headers a command needs, what it does with an id, and in which phase it may come.
+// Which ids a command names, and in which phase it may come.
 ghost use mathlib.Core.Path.{_≡_};
-ghost use Rattle.sessions.specs.Headers.{unknown, from-server, opens as opens-by, settles as settles-by, one as one-header, needed as needed-names};
-ghost use Rattle.sessions.specs.Headers.{names, naming-of, naming as naming-by, names-id};
-ghost use Rattle.sessions.specs.Steps.{phase-number};
+ghost use mathlib.Core.List.{[]};
+ghost use Rattle.frames.specs.Grammar.{v1-2};
+ghost use Rattle.sessions.specs.Headers.{unknown, from-server, opens as opens-by, settles as settles-by, subscription, transaction, namings-by};
+ghost use Rattle.sessions.specs.Steps.{phase-number, names-id, naming-list, GivesNamings};
 use crate::commands;
 use crate::refusals;
 use crate::session::Session;
@@ -15,9 +16,8 @@ pub(crate) fn is_unknown(command: u32) -> bool
     (command == 0) | (commands::UNSUBSCRIBE < command)
 }
 
-// The headers that a session looks at, and none of them.
+// The headers that a session looks at.
 pub(crate) enum Header {
-    Absent,
     AcceptVersion,
     HeartBeat,
     Host,
@@ -34,16 +34,17 @@ pub(crate) enum Kind {
     Transactions,
 }
 
-// The headers that a command needs, in their order.
-pub(crate) struct Needed {
-    pub first: Header,
-    pub second: Header,
-}
-
-// What a command does with an id of which kind.
+// An id that a command names: in which header, of which kind, and what becomes of it.
 pub(crate) struct Naming {
+    pub header: Header,
     pub kind: Kind,
     pub usage: Use,
+}
+
+// The ids that a command names: at most two, of which only the first is entered or freed. Where fewer are named, the use is Nothing.
+pub(crate) struct Namings {
+    pub first: Naming,
+    pub second: Naming,
 }
 
 // Whether only a server sends the command.
@@ -69,90 +70,56 @@ pub(crate) fn settles(command: u32) -> bool
     (command == commands::ACK) | (command == commands::NACK)
 }
 
-pub(crate) fn needed_by(command: u32) -> Needed
-    ensures { λ r. ⌜ r ≡ needed-names command ⌝ }
+fn subscription(usage: Use) -> Naming
+    ensures { λ r. ⌜ r ≡ subscription usage ⌝ }
 {
-    if (command == commands::CONNECT) | (command == commands::STOMP) {
-        return Needed {
-            first: Header::AcceptVersion,
-            second: Header::Host,
-        };
+    Naming {
+        header: Header::Id,
+        kind: Kind::Subscriptions,
+        usage,
     }
-    if command == commands::SEND {
-        return one(Header::Destination);
-    }
-    if command == commands::SUBSCRIBE {
-        return Needed {
-            first: Header::Destination,
-            second: Header::Id,
-        };
-    }
-    if (command == commands::UNSUBSCRIBE)
-        | ((command == commands::ACK) | (command == commands::NACK))
-    {
-        return one(Header::Id);
-    }
-    if (command == commands::BEGIN)
-        | ((command == commands::COMMIT) | (command == commands::ABORT))
-    {
-        return one(Header::Transaction);
-    }
-    one(Header::Absent)
-}
-
-fn one(h: Header) -> Needed
-    ensures { λ r. ⌜ r ≡ one-header h ⌝ }
-{
-    Needed {
-        first: h,
-        second: Header::Absent,
-    }
-}
-
-pub(crate) fn naming_of(command: u32) -> Naming
-    ensures { λ r. ⌜ r ≡ naming-by command ⌝ }
-{
-    if command == commands::SUBSCRIBE {
-        return Naming {
-            kind: Kind::Subscriptions,
-            usage: Use::Enter,
-        };
-    }
-    if command == commands::UNSUBSCRIBE {
-        return Naming {
-            kind: Kind::Subscriptions,
-            usage: Use::Free,
-        };
-    }
-    if command == commands::BEGIN {
-        return transaction(Use::Enter);
-    }
-    if (command == commands::COMMIT) | (command == commands::ABORT) {
-        return transaction(Use::Free);
-    }
-    if (command == commands::SEND) | ((command == commands::ACK) | (command == commands::NACK)) {
-        return transaction(Use::Need);
-    }
-    transaction(Use::Nothing)
 }
 
 fn transaction(usage: Use) -> Naming
-    ensures { λ r. ⌜ r ≡ naming-of Kind.Transactions usage ⌝ }
+    ensures { λ r. ⌜ r ≡ transaction usage ⌝ }
 {
     Naming {
+        header: Header::Transaction,
         kind: Kind::Transactions,
         usage,
     }
 }
 
-// The header that names an id of a kind.
-pub(crate) fn header_of(kind: Kind) -> Header
-    ensures { λ r. ⌜ r ≡ names kind ⌝ }
+// One id, or none.
+fn only(first: Naming) -> Namings
+    ensures { λ r. ⌜ GivesNamings (naming-list first []) r ⌝ }
 {
-    match kind {
-        Kind::Subscriptions => Header::Id,
-        Kind::Transactions => Header::Transaction,
+    Namings {
+        first,
+        second: transaction(Use::Nothing),
     }
+}
+
+// The ids that a command names.
+pub(crate) fn namings_of(command: u32) -> Namings
+    ensures { λ r. ⌜ GivesNamings (namings-by v1-2 command) r ⌝ }
+{
+    if command == commands::SUBSCRIBE {
+        return only(subscription(Use::Enter));
+    }
+    if command == commands::UNSUBSCRIBE {
+        return only(subscription(Use::Free));
+    }
+    if command == commands::BEGIN {
+        return only(transaction(Use::Enter));
+    }
+    if (command == commands::COMMIT) | (command == commands::ABORT) {
+        return only(transaction(Use::Free));
+    }
+    if (command == commands::SEND) | ((command == commands::ACK) | (command == commands::NACK)) {
+        return only(transaction(Use::Need));
+    }
+    only(transaction(Use::Nothing))
 }
 
 // Whether a use is of an id at all.

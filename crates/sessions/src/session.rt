@@ -2,31 +2,33 @@
 ghost use mathlib.Core.Path.{_≡_};
 ghost use mathlib.Core.Bool.{true, _&&_};
 ghost use mathlib.Core.Option.{some};
+ghost use mathlib.Core.List.{[]};
 ghost use Prim.Native.Nat.{_*_, _≤_, _<_};
 ghost use lib.ListN.{length};
 ghost use Rattle.headers.specs.Block.{entries, listed};
-ghost use Rattle.headers.specs.Answers.{is-block};
+ghost use Rattle.stores.specs.Searches.{search-says};
 ghost use Rattle.sessions.specs.Stores.{valid-store};
 ghost use Rattle.sessions.specs.Opening.{highest, interval};
 ghost use Rattle.sessions.specs.Sessions.{id-max, subscriptions-max, fresh, ids-of, closed, opened, valid-numbers};
 ghost use Rattle.sessions.specs.Sessions.{is-valid, with-deliveries};
 ghost use Rattle.sessions.specs.Answers.{answer-says, making-says, timed-out-says, delivery-says};
-ghost use Rattle.sessions.specs.Headers.{has};
+ghost use Rattle.sessions.specs.Headers.{has, put-before, changed-id};
 ghost use Rattle.sessions.specs.Calls.{making-answer, made, frame-answer, frame-session, heart-beat-answer, heart-beat-session};
-ghost use Rattle.sessions.specs.Calls.{timed-out-answer, deliver-answer, deliver-session, free-place, place-named, label-named};
+ghost use Rattle.sessions.specs.Calls.{timed-out-answer, deliver-answer, deliver-session, free-place, place-named, label-named, uses-of, id-effect};
 ghost use Rattle.sessions.specs.Deliveries.{subscribe, unsubscribe, record-label};
 ghost use Rattle.sessions.specs.Held.{held-deliveries, nth, nothing-told, told-of, pending-answer};
-ghost use Rattle.stores.specs.Searches.{search-says};
 ghost use Rattle.sessions.specs.Places.{Settles};
+ghost use Rattle.sessions.specs.Notes.{AllNoted};
 ghost use Rattle.sessions.specs.Steps.{kept-by, closed-by, accepted-by, count-of, put-of, outcome-with, unrecorded-by, recorded-as};
-ghost use Rattle.sessions.specs.Steps.{GivesUse, GivesOpening, GivesNaming, GivesEntries, GivesMode, GivesDropped, GivesLabel, RecordsAt, MayRecord};
-ghost use Rattle.sessions.specs.Steps.{Untouched};
+ghost use Rattle.sessions.specs.Steps.{SettlesUse, settled-number, use-named, GivesUses, GivesOpening, GivesEntries, GivesMode, GivesDropped};
+ghost use Rattle.sessions.specs.Steps.{GivesLabel, RecordsAt, MayRecord, Untouched};
 ghost use Rattle.sessions.specs.declared.command.Header.the-variants.{Id};
 use crate::command::Header;
 use crate::command::Kind;
 use crate::command::Naming;
 use crate::commands;
 use crate::delivery::Deliveries;
+use crate::notes::Notes;
 use crate::parts::Agreed;
 use crate::parts::Offers;
 use crate::parts::SubscriptionIds;
@@ -346,11 +348,11 @@ impl Session {
     }
 
     // The opening frame, with every header that it needs.
-    fn open(self, block: &[u8], acceptance: Acceptance, time: u32) -> Outcome
-        requires { ⌜ is-block (now block) ≡ true ⌝ }
+    fn open(self, notes: Notes, block: &[u8], acceptance: Acceptance, time: u32) -> Outcome
+        requires { ⌜ AllNoted (now block) notes ⌝ }
         ensures { λ r. ⌜ GivesOpening self (listed (entries (now (block .entry)))) acceptance time r ⌝ }
     {
-        let client = crate::locate::client_versions(block);
+        let client = crate::locate::client_versions(notes, block);
         if !client.valid {
             return self.refused(refusals::BAD_VERSIONS);
         }
@@ -360,7 +362,7 @@ impl Session {
         if crate::value::is_none_shared(shared) {
             return self.refused(refusals::NO_VERSION);
         }
-        let heart_beats = crate::locate::client_heart_beats(block);
+        let heart_beats = crate::locate::client_heart_beats(notes, block);
         if !heart_beats.valid {
             return self.refused(refusals::BAD_HEART_BEAT);
         }
@@ -404,41 +406,78 @@ impl Session {
         }
     }
 
-    // A frame that names an id.
-    fn use_id(self, naming: Naming, id: &[u8], acceptance: Acceptance, time: u32) -> Outcome
-        requires { ⌜ is-valid self ≡ true ⌝ }
-        ensures { λ r. ⌜ GivesUse (naming .kind) self (naming .usage) (now (id .entry)) acceptance time r ⌝ }
+    // What the store makes of an id that a frame may name.
+    fn settle_naming(self, naming: Naming, notes: Notes, block: &[u8]) -> Settled
+        requires { ⌜ (is-valid self ≡ true) × AllNoted (now block) notes ⌝ }
+        ensures { λ r. ⌜ SettlesUse self (use-named naming (listed (entries (now (block .entry))))) r ⌝ }
     {
-        let kind = naming.kind;
         let usage = naming.usage;
-        match self.settle(kind, id, usage) {
-            Settled::Refused(n) => self.refused(n),
-            Settled::Kept => self.accepted(acceptance, time),
+        if !crate::command::names_id(usage) {
+            return Settled::Kept;
+        }
+        let header = naming.header;
+        let l = crate::locate::locate(notes, block, header);
+        if !l.present {
+            return Settled::Kept;
+        }
+        let start = l.start;
+        let end = l.end;
+        let kind = naming.kind;
+        self.settle(kind, &block[start..end], usage)
+    }
+
+    // The session with an id entered or freed, as the store settled it.
+    fn with_settled(self, naming: Naming, settled: Settled, notes: Notes, block: &[u8]) -> Session
+        requires { ⌜
+            (is-valid self ≡ true) × AllNoted (now block) notes × SettlesUse self (use-named naming (listed (entries (now block)))) settled
+            ⌝ }
+        ensures { λ r. ⌜
+            (settled-number settled ≡ 0
+            → r ≡ id-effect self (changed-id (put-before (use-named naming (listed (entries (now (block .entry))))) [])))
+            ⌝ }
+    {
+        match settled {
+            Settled::Refused(n) => self,
+            Settled::Kept => self,
             Settled::Put(k) => {
-                let n = crate::store::stored_length(usage, id.len());
-                self.with_id(kind, k, &id[0..n]).accepted(acceptance, time)
+                let header = naming.header;
+                let l = crate::locate::locate(notes, block, header);
+                let usage = naming.usage;
+                let start = l.start;
+                let end = l.end;
+                let kind = naming.kind;
+                let n = start + crate::store::stored_length(usage, end - start);
+                self.with_id(kind, k, &block[start..n])
             }
         }
     }
 
-    // A frame that may name an id.
-    fn look_up_id(self, command: u32, block: &[u8], acceptance: Acceptance, time: u32) -> Outcome
-        requires { ⌜ (is-valid self ≡ true) × (is-block (now block) ≡ true) ⌝ }
-        ensures { λ r. ⌜ GivesNaming self command (listed (entries (now (block .entry)))) acceptance time r ⌝ }
+    // The ids that a frame names: the lowest number of those that are refused, or the session with an id entered or freed.
+    fn use_ids(
+        self,
+        command: u32,
+        notes: Notes,
+        block: &[u8],
+        acceptance: Acceptance,
+        time: u32,
+    ) -> Outcome
+        requires { ⌜ (is-valid self ≡ true) × AllNoted (now block) notes ⌝ }
+        ensures { λ r. ⌜ GivesUses self (uses-of self command (listed (entries (now (block .entry))))) acceptance time r ⌝ }
     {
-        let naming = crate::command::naming_of(command);
-        let usage = naming.usage;
-        if !crate::command::names_id(usage) {
-            return self.accepted(acceptance, time);
+        let namings = crate::command::namings_of(command);
+        let first = namings.first;
+        let second = namings.second;
+        let settled = self.settle_naming(first, notes, block);
+        let other = self.settle_naming(second, notes, block);
+        let number = crate::store::lower(
+            crate::store::number_of(settled),
+            crate::store::number_of(other),
+        );
+        if number != 0 {
+            return self.refused(number);
         }
-        let kind = naming.kind;
-        let l = crate::locate::locate(block, crate::command::header_of(kind));
-        if !l.present {
-            return self.accepted(acceptance, time);
-        }
-        let start = l.start;
-        let end = l.end;
-        self.use_id(naming, &block[start..end], acceptance, time)
+        self.with_settled(first, settled, notes, block)
+            .accepted(acceptance, time)
     }
 
     // An outcome that was accepted, with a mode for the subscription that was entered in the first free place. A free place has auto.
@@ -460,15 +499,15 @@ impl Session {
     }
 
     // A SUBSCRIBE whose id was settled: the ack mode that it asks for, or 49.
-    fn keep_mode(self, named: Outcome, block: &[u8]) -> Outcome
-        requires { ⌜ (is-valid self ≡ true) × (is-block (now block) ≡ true) × Untouched self named ⌝ }
+    fn keep_mode(self, named: Outcome, notes: Notes, block: &[u8]) -> Outcome
+        requires { ⌜ (is-valid self ≡ true) × AllNoted (now block) notes × Untouched self named ⌝ }
         ensures { λ r. ⌜ GivesMode self (listed (entries (now (block .entry)))) named r ⌝ }
     {
         let answer = named.answer;
         if let SessionAnswer::Refused(n) = answer {
             return named;
         }
-        match crate::locate::mode_asked(block) {
+        match crate::locate::mode_asked(notes, block) {
             ModeRead::Mode(mode) => self.with_mode(named, mode),
             ModeRead::Unknown => self.refused(refusals::UNKNOWN_MODE),
         }
@@ -501,15 +540,15 @@ impl Session {
     }
 
     // An UNSUBSCRIBE whose id was settled: the deliveries of the subscription are dropped.
-    fn drop_deliveries(self, named: Outcome, block: &[u8]) -> Outcome
-        requires { ⌜ (is-valid self ≡ true) × (is-block (now block) ≡ true) × (has Id (listed (entries (now block))) ≡ true) × Untouched self named ⌝ }
+    fn drop_deliveries(self, named: Outcome, notes: Notes, block: &[u8]) -> Outcome
+        requires { ⌜ (is-valid self ≡ true) × AllNoted (now block) notes × (has Id (listed (entries (now block))) ≡ true) × Untouched self named ⌝ }
         ensures { λ r. ⌜ GivesDropped self (listed (entries (now (block .entry)))) named r ⌝ }
     {
         let answer = named.answer;
         if let SessionAnswer::Refused(n) = answer {
             return named;
         }
-        let l = crate::locate::locate(block, Header::Id);
+        let l = crate::locate::locate(notes, block, Header::Id);
         let start = l.start;
         let end = l.end;
         self.without_deliveries(named, &block[start..end])
@@ -532,40 +571,40 @@ impl Session {
     }
 
     // An ACK or NACK whose transaction was settled: the delivery that its id names is settled, or 60.
-    fn settle_delivery(self, named: Outcome, block: &[u8]) -> Outcome
-        requires { ⌜ (is-valid self ≡ true) × (is-block (now block) ≡ true) × (has Id (listed (entries (now block))) ≡ true) ⌝ }
+    fn settle_delivery(self, named: Outcome, notes: Notes, block: &[u8]) -> Outcome
+        requires { ⌜ (is-valid self ≡ true) × AllNoted (now block) notes × (has Id (listed (entries (now block))) ≡ true) ⌝ }
         ensures { λ r. ⌜ GivesLabel self (label-named (listed (entries (now (block .entry))))) named r ⌝ }
     {
-        let l = crate::locate::locate(block, Header::Id);
+        let l = crate::locate::locate(notes, block, Header::Id);
         let start = l.start;
         let end = l.end;
         self.settle_label(named, &block[start..end])
     }
 
     // A frame of a known command in its phase, with a well-formed block, of a valid session.
-    fn act(self, command: u32, block: &[u8], time: u32) -> Outcome
-        requires { ⌜ (is-valid self ≡ true) × (is-block (now block) ≡ true) ⌝ }
+    fn act(self, command: u32, notes: Notes, block: &[u8], time: u32) -> Outcome
+        requires { ⌜ (is-valid self ≡ true) × AllNoted (now block) notes ⌝ }
         ensures { λ r. ⌜ GivesEntries self command (listed (entries (now (block .entry)))) time r ⌝ }
     {
-        if crate::locate::lacks_needed(command, block) {
+        if crate::locate::lacks_needed(command, notes) {
             return self.refused(refusals::MISSING);
         }
-        let acceptance = crate::locate::acceptance(command, block);
+        let acceptance = crate::locate::acceptance(command, notes);
         if crate::command::opens(command) {
-            return self.open(block, acceptance, time);
+            return self.open(notes, block, acceptance, time);
         }
         if command == commands::DISCONNECT {
             return self.closed().accepted(acceptance, time);
         }
-        let named = self.look_up_id(command, block, acceptance, time);
+        let named = self.use_ids(command, notes, block, acceptance, time);
         if command == commands::SUBSCRIBE {
-            return self.keep_mode(named, block);
+            return self.keep_mode(named, notes, block);
         }
         if command == commands::UNSUBSCRIBE {
-            return self.drop_deliveries(named, block);
+            return self.drop_deliveries(named, notes, block);
         }
         if crate::command::settles(command) {
-            return self.settle_delivery(named, block);
+            return self.settle_delivery(named, notes, block);
         }
         named
     }
@@ -596,14 +635,15 @@ impl Session {
         if !(numbers & (ids & (deliveries & ((self.phase == Session::OPEN) | (count == 0))))) {
             return self.kept(refusals::INVALID);
         }
-        if crate::command::is_unknown(command) | !headers::is_valid(block) {
+        let notes = crate::notes::note(block);
+        if crate::command::is_unknown(command) | !notes.valid {
             return self.kept(refusals::MALFORMED);
         }
         let number = crate::command::phase_refusal(self.phase, command);
         if number != 0 {
             return self.refused(number);
         }
-        self.act(command, block, time)
+        self.act(command, notes, block, time)
     }
     // No delivery recorded, the session as it was.
     fn unrecorded(self, number: u32) -> Recording

@@ -8,6 +8,7 @@ ghost use Rattle.headers.specs.Rows.{same};
 ghost use Rattle.stores.specs.Searches.{first-from, search-says};
 ghost use Rattle.sessions.specs.Stores.{ids, short, clean, distinct, valid-store};
 ghost use Rattle.sessions.specs.Places.{Fits, Clean, Keyed, again, when-needed, when-freed, when-entered, stored, put-in, Settles};
+ghost use Rattle.sessions.specs.Steps.{settled-number, lower};
 use crate::refusals;
 use stores::Search;
 
@@ -220,6 +221,30 @@ pub(crate) fn settle(
         Use::Enter => entered(find(store, lens, count, width, id), find_free(lens)),
         Use::Free => freed(find(store, lens, count, width, id)),
     }
+}
+
+// The number of what was refused, or 0.
+pub(crate) fn number_of(settled: Settled) -> u32
+    ensures { λ r. ⌜ r ≡ settled-number settled ⌝ }
+{
+    match settled {
+        Settled::Refused(n) => n,
+        Settled::Kept => 0,
+        Settled::Put(k) => 0,
+    }
+}
+
+// The lower of two numbers, where 0 is none.
+pub(crate) fn lower(a: u32, b: u32) -> u32
+    ensures { λ r. ⌜ r ≡ lower a b ⌝ }
+{
+    if a == 0 {
+        return b;
+    }
+    if b == 0 {
+        return a;
+    }
+    if b < a { b } else { a }
 }
 
 // How many octets of an id its place gets.

@@ -1,27 +1,74 @@
--- `locate::lacks_needed` meets its contract.
-use mathlib.Core.Path.{sym, ap, _∙_}
-use denote.Ref.{now}
-use Rattle.headers.specs.Block.{entries, listed}
-use Rattle.sessions.specs.Headers.{lacks}
+-- `locate::lacks_needed` meets its contract: each test that led there picks the headers.
+use mathlib.Core.Path.{_≡_, refl, sym, _∙_}
+use mathlib.Core.Bool.{Bool, true, false, _||_}
+use borrow.Author.Tests.{eq-eqb, ne-eqb}
+use Rattle.frames.specs.Grammar.{v1-2}
+use Rattle.sessions.proofs.Tables.{needed-tests}
 use borrow.Author.Needs.{needs}
 use Rattle.sessions.proofs.locate.lacks_needed.Statement.{statement}
 use Rattle.sessions.proofs.locate.lacks_needed.Tie as tie
 
-needed-by-requires : tie.Need-needed-by-requires
-needed-by-requires c κs = search needs
+or-no : (t : Bool) → t || false ≡ t
+or-no true = refl
+or-no false = refl
+
+opens-requires : tie.Need-opens-requires
+opens-requires c κs = search needs
 
 lacks-requires : tie.Need-lacks-requires
 lacks-requires c κs = search needs
 
-returns : tie.Need-returns
-returns c = sym (rw (sym (ap (λ z. lacks (z .first) (listed (entries (now (c .before .before .before .before .args .block))))) (c .before .before .needed-by .ensures)) ∙ sym (c .before .lacks .ensures) ∙ c .if1 .taken))
-
 lacks-requires-2 : tie.Need-lacks-requires-2
 lacks-requires-2 c κs = search needs
 
+returns : tie.Need-returns
+returns c = λ block all. rw (needed-tests v1-2 (c .before .before .before .before .args .command), sym (c .before .before .before .opens .ensures) ∙ c .before .before .if1 .taken, c .before .lacks .ensures block all, c .lacks2 .ensures block all, or-no)
+
+lacks-requires-3 : tie.Need-lacks-requires-3
+lacks-requires-3 c κs = search needs
+
 returns-2 : tie.Need-returns-2
-returns-2 c = c .lacks2 .ensures ∙ sym (rw (sym (ap (λ z. lacks (z .first) (listed (entries (now (c .before .before .before .before .before .args .block))))) (c .before .before .before .needed-by .ensures)) ∙ sym (c .before .before .lacks .ensures) ∙ c .before .if1 .left) (sym (ap (λ z. lacks (z .second) (listed (entries (now (c .before .before .before .before .before .args .block))))) (c .before .before .before .needed-by .ensures))))
+returns-2 c = λ block all. rw (needed-tests v1-2 (c .before .before .before .before .args .command), sym (c .before .before .before .opens .ensures) ∙ c .before .before .if1 .left, eq-eqb _ _ (c .before .if2 .taken), c .lacks3 .ensures block all, or-no)
+
+lacks-requires-4 : tie.Need-lacks-requires-4
+lacks-requires-4 c κs = search needs
+
+lacks-requires-5 : tie.Need-lacks-requires-5
+lacks-requires-5 c κs = search needs
+
+returns-3 : tie.Need-returns-3
+returns-3 c = λ block all. rw (needed-tests v1-2 (c .before .before .before .before .before .before .args .command), sym (c .before .before .before .before .before .opens .ensures) ∙ c .before .before .before .before .if1 .left, ne-eqb _ _ (c .before .before .before .if2 .left), eq-eqb _ _ (c .before .before .if3 .taken), c .before .lacks4 .ensures block all, c .lacks5 .ensures block all, or-no)
+
+lacks-requires-6 : tie.Need-lacks-requires-6
+lacks-requires-6 c κs = search needs
+
+returns-4 : tie.Need-returns-4
+returns-4 c = λ block all. rw (needed-tests v1-2 (c .before .before .before .before .before .before .args .command), sym (c .before .before .before .before .before .opens .ensures) ∙ c .before .before .before .before .if1 .left, ne-eqb _ _ (c .before .before .before .if2 .left), ne-eqb _ _ (c .before .before .if3 .left), c .before .if4 .taken, c .lacks6 .ensures block all, or-no)
+
+lacks-requires-7 : tie.Need-lacks-requires-7
+lacks-requires-7 c κs = search needs
+
+returns-5 : tie.Need-returns-5
+returns-5 c = λ block all. rw (needed-tests v1-2 (c .before .before .before .before .before .before .before .args .command), sym (c .before .before .before .before .before .before .opens .ensures) ∙ c .before .before .before .before .before .if1 .left, ne-eqb _ _ (c .before .before .before .before .if2 .left), ne-eqb _ _ (c .before .before .before .if3 .left), c .before .before .if4 .left, c .before .if5 .taken, c .lacks7 .ensures block all, or-no)
+
+returns-6 : tie.Need-returns-6
+returns-6 c = λ block all. rw (needed-tests v1-2 (c .before .before .before .before .before .before .args .command), sym (c .before .before .before .before .before .opens .ensures) ∙ c .before .before .before .before .if1 .left, ne-eqb _ _ (c .before .before .before .if2 .left), ne-eqb _ _ (c .before .before .if3 .left), c .before .if4 .left, c .if5 .left)
 
 pub lacks-needed-spec : {M : Type 1} → statement M
 lacks-needed-spec =
-    tie.close (tie.spec needed-by-requires lacks-requires returns lacks-requires-2 returns-2)
+    tie.close
+    (tie.spec
+    opens-requires
+    lacks-requires
+    lacks-requires-2
+    returns
+    lacks-requires-3
+    returns-2
+    lacks-requires-4
+    lacks-requires-5
+    returns-3
+    lacks-requires-6
+    returns-4
+    lacks-requires-7
+    returns-5
+    returns-6)

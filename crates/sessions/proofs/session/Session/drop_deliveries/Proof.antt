@@ -4,7 +4,7 @@ use denote.Ref.{now}
 use Rattle.headers.specs.Block.{entries, listed}
 use Rattle.sessions.proofs.Steps.{drop-refused, drop-done}
 use Rattle.sessions.proofs.Locating.{located-there}
-use Rattle.sessions.specs.Reads.{value-at}
+use Rattle.sessions.specs.Notes.{value-at}
 use Rattle.sessions.specs.Steps.{untouched}
 use borrow.Author.Needs.{needs}
 use Rattle.sessions.proofs.session.Session.drop_deliveries.Statement.{statement}
