@@ -111,20 +111,28 @@ fn write_deliveries(d: Deliveries) {
     io::write_all(STDOUT_FILENO, &count);
 }
 
+fn write_subscriptions(s: SubscriptionIds) {
+    let ids = s.ids;
+    let lens = s.lens;
+    io::write_all(STDOUT_FILENO, &ids);
+    io::write_all(STDOUT_FILENO, &lens);
+}
+
+fn write_transactions(t: TransactionIds) {
+    let ids = t.ids;
+    let lens = t.lens;
+    io::write_all(STDOUT_FILENO, &ids);
+    io::write_all(STDOUT_FILENO, &lens);
+}
+
 // The record, 2,880 octets.
 fn write_record(s: Session) {
     let head = head_of(s);
-    let subscriptions = s.subscriptions;
-    let transactions = s.transactions;
-    let subs = subscriptions.ids;
-    let sub_lens = subscriptions.lens;
-    let txs = transactions.ids;
-    let tx_lens = transactions.lens;
     io::write_all(STDOUT_FILENO, &head);
-    io::write_all(STDOUT_FILENO, &subs);
-    io::write_all(STDOUT_FILENO, &sub_lens);
-    io::write_all(STDOUT_FILENO, &txs);
-    io::write_all(STDOUT_FILENO, &tx_lens);
+    let subscriptions = s.subscriptions;
+    write_subscriptions(subscriptions);
+    let transactions = s.transactions;
+    write_transactions(transactions);
     let deliveries = s.deliveries;
     write_deliveries(deliveries);
 }
