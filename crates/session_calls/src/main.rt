@@ -14,8 +14,8 @@ use listing::calls::read_front;
 use sessions::delivery::Deliveries;
 use sessions::parts::Agreed;
 use sessions::parts::Offers;
-use sessions::parts::SubscriptionIds;
-use sessions::parts::TransactionIds;
+use sessions::parts::SubscriptionStore;
+use sessions::parts::TransactionStore;
 use sessions::refusals;
 use sessions::session::DeliveryAnswer;
 use sessions::session::MakingAnswer;
@@ -98,11 +98,10 @@ fn head_of(s: Session) -> [u8; 27] {
 }
 
 // The labels, their lengths, the places of their subscriptions, the ack modes and the count: 2,193 octets.
-fn write_deliveries(d: Deliveries) {
+fn write_deliveries(d: Deliveries, modes: [u8; Session::SUBSCRIPTIONS]) {
     let labels = d.labels;
     let lens = d.lens;
     let places = d.places;
-    let modes = d.modes;
     let count = [d.count];
     io::write_all(STDOUT_FILENO, &labels);
     io::write_all(STDOUT_FILENO, &lens);
@@ -111,14 +110,14 @@ fn write_deliveries(d: Deliveries) {
     io::write_all(STDOUT_FILENO, &count);
 }
 
-fn write_subscriptions(s: SubscriptionIds) {
+fn write_subscriptions(s: SubscriptionStore) {
     let ids = s.ids;
     let lens = s.lens;
     io::write_all(STDOUT_FILENO, &ids);
     io::write_all(STDOUT_FILENO, &lens);
 }
 
-fn write_transactions(t: TransactionIds) {
+fn write_transactions(t: TransactionStore) {
     let ids = t.ids;
     let lens = t.lens;
     io::write_all(STDOUT_FILENO, &ids);
@@ -128,13 +127,12 @@ fn write_transactions(t: TransactionIds) {
 // The record, 2,880 octets.
 fn write_record(s: Session) {
     let head = head_of(s);
-    io::write_all(STDOUT_FILENO, &head);
     let subscriptions = s.subscriptions;
+    io::write_all(STDOUT_FILENO, &head);
     write_subscriptions(subscriptions);
-    let transactions = s.transactions;
-    write_transactions(transactions);
-    let deliveries = s.deliveries;
-    write_deliveries(deliveries);
+    write_transactions(s.transactions);
+    let modes = subscriptions.modes;
+    write_deliveries(s.deliveries, modes);
 }
 
 fn say(text: &[u8]) {
@@ -347,9 +345,10 @@ fn pending(session: Session, head: &[u8; 27]) -> State {
     answered(session)
 }
 
-// The deliveries of a record, and whether they were whole.
+// The deliveries and the ack modes of a record, and whether they were whole.
 struct DeliveriesRead {
     deliveries: Deliveries,
+    modes: [u8; Session::SUBSCRIPTIONS],
     whole: bool,
 }
 
@@ -367,11 +366,11 @@ fn read_deliveries() -> DeliveriesRead {
         labels,
         lens,
         places,
-        modes,
         count: count[0],
     };
     DeliveriesRead {
         deliveries,
+        modes,
         whole: has_labels & has_places,
     }
 }
@@ -390,6 +389,7 @@ fn set(session: Session, head: &[u8; 27]) -> State {
         return cut(session);
     }
     let deliveries = read.deliveries;
+    let modes = read.modes;
     let offered = flags_at(head, 9);
     let shared = flags_at(head, 12);
     let after = Session {
@@ -403,11 +403,12 @@ fn set(session: Session, head: &[u8; 27]) -> State {
             outbound: number_at(head, 19),
             versions: shared,
         },
-        subscriptions: SubscriptionIds {
+        subscriptions: SubscriptionStore {
             ids: subs,
             lens: sub_lens,
+            modes,
         },
-        transactions: TransactionIds {
+        transactions: TransactionStore {
             ids: txs,
             lens: tx_lens,
         },

@@ -19,10 +19,10 @@ use Rattle.frames.specs.Grammar.{number, DISCONNECT}
 use Rattle.sessions.specs.Values.{HeartBeats}
 use Rattle.sessions.specs.Headers.{IdUse, changed-id, is, unknown, opens}
 use Rattle.sessions.specs.Sessions.{closed-phase, with-ids, with-phase, with-deliveries, closed, heard, is-valid}
-use Rattle.sessions.specs.Deliveries.{record-label}
-use Rattle.sessions.proofs.Pending.{emptied-same}
+use Rattle.sessions.proofs.Pending.{none-same}
 use Rattle.sessions.proofs.Kept.{Kept}
-use Rattle.sessions.specs.Calls.{left-by, shared-by, client-versions, client-heart-beats, opened-by, uses-of, frame-answer, id-effect, effect, frame-session, heart-beat-answer, heart-beat-session, place-named, recorded-by, deliver-answer, deliver-session}
+use Rattle.sessions.specs.Calls.{left-by, shared-by, client-versions, client-heart-beats, opened-by, uses-of, frame-answer, id-effect, effect}
+use Rattle.sessions.specs.Calls.{frame-session, heart-beat-answer, heart-beat-session, recorded-by, recording, deliver-answer, deliver-session}
 use Rattle.sessions.specs.Histories.{Call, frame, heart-beat, deliver, may-close, answer-to, next, after, Closes, by-number, by-disconnect}
 use Rattle.sessions.specs.declared.command.Kind.{Kind}
 use Rattle.sessions.specs.declared.command.Kind.the-variants.{Subscriptions, Transactions}
@@ -76,7 +76,7 @@ module _ (s : Session) (open-yet : s .phase ≢ closed-phase) where
       by (accepted v) e = λ h. absurd (open-yet h)
   closing (deliver id label) = by (deliver-answer s id label)
     where
-      by : (A : Answer) → (recorded-by A s (with-deliveries s (record-label (place-named s (some id)) label (s .deliveries)))) .phase ≡ closed-phase → Closes s (deliver id label)
+      by : (A : Answer) → (recorded-by A s (recording s id label)) .phase ≡ closed-phase → Closes s (deliver id label)
       by (refused k) h = absurd (open-yet h)
       by (accepted v) h = absurd (open-yet h)
 
@@ -121,7 +121,8 @@ module _ (s : Session) (h : s .phase ≡ closed-phase) where
     -- closed once more, it is the same: it holds no delivery
     closed-again : closed s ≡ s
     closed-again =
-        ap₂ (λ p d. with-deliveries (with-phase s p) d) (sym h) (emptied-same (s .subscriptions .lens) (s .deliveries) (kept .holds .sized) (kept .holds .valid) none-left)
+        ap₂ (λ p d. with-deliveries (with-phase s p) d) (sym h)
+        (none-same (s .subscriptions .lens) (s .subscriptions .modes) (s .deliveries) (kept .holds .sized) (kept .holds .valid) none-left)
 
     -- a refusal leaves it as it is
     pub closed-kept : (left : Session) (k : ℕ) → left-by (refused k) s left ≡ s
@@ -138,7 +139,7 @@ module _ (s : Session) (h : s .phase ≡ closed-phase) where
         ap (λ A. left-by A s (heard s time)) closed-heart-beat
         ∙ cond-case (λ A. left-by A s (heard s time) ≡ s) (not (is-valid s)) (λ e. closed-kept (heard s time) 38) (λ e. closed-kept (heard s time) 40)
     closed-next (deliver id label) =
-        let left : Session = with-deliveries s (record-label (place-named s (some id)) label (s .deliveries)) in
+        let left : Session = recording s id label in
         ap (λ A. recorded-by A s left) (closed-deliver id label) ∙ cond-case (λ A. recorded-by A s left ≡ s) (not (is-valid s)) (λ e. refl) (λ e. refl)
 
     -- nor does any history change it, or what it answers

@@ -2,7 +2,8 @@
 --     find-fits, find-pending                  the search for a label
 --     settled-client, settled-individual       what an ACK or NACK leaves
 --     dropped-none, dropped-some               what an UNSUBSCRIBE leaves
---     dropped-idle, subscribed-auto            a SUBSCRIBE and an UNSUBSCRIBE that change nothing of the deliveries
+--     dropped-idle, modes-idle, entered-auto   an UNSUBSCRIBE and a SUBSCRIBE that change no mode and no delivery
+--     outcome-same, outcome-entered, outcome-freed, outcome-settled    what the outcomes are, with other modes and deliveries
 --     says-at, says-nowhere                    where a search ended
 --     free-is, place-inside                    the places of subscriptions
 --     label-found, label-missed                60
@@ -26,12 +27,15 @@ use Rattle.stores.specs.Searches.{first-from, search-says, is-at}
 use Rattle.sessions.specs.Stores.{ids, laid, live, bad-length}
 use Rattle.sessions.specs.Places.{Fits}
 use Rattle.stores.specs.Compaction.{kept}
-use Rattle.sessions.specs.Deliveries.{deliveries-max, label-max, auto-mode, client-mode, Pending, paired, pending, places-of, labels-of, labelled, is-pending, mode-of, goes-with, settled, settled-as, settle-label, without, with-pending, with-modes, emptied, subscribe, unsubscribe, record-label, acknowledging, idle-modes, Laid}
+use Rattle.sessions.specs.Deliveries.{deliveries-max, label-max, auto-mode, client-mode, Pending, paired, pending, places-of, labels-of, labelled}
+use Rattle.sessions.specs.Deliveries.{is-pending, mode-of, settled, settled-as, settle-label, without, deliveries-of, with-mode, dropped}
+use Rattle.sessions.specs.Deliveries.{record-label, acknowledging, idle-modes, Laid}
 use Rattle.sessions.specs.Accounts.{Delivery}
 use Rattle.sessions.specs.Sessions.{subscriptions-max, id-max, open-phase, in-phase, ids-of, with-deliveries, is-valid, SizedDeliveries}
 use Rattle.sessions.specs.Held.{delivery-of, held-deliveries, nth, nothing-told, told-of, pending-answer}
-use Rattle.sessions.specs.Calls.{free-place, place-named, is-no-label, is-auto, deliver-checks, deliver-answer, deliver-session, recorded-by}
-use Rattle.sessions.specs.Steps.{outcome-with, Records, RecordsAt, MayRecord, unrecorded-by, recorded-as, label-checks}
+use Rattle.sessions.specs.Calls.{free-place, place-named, is-no-label, is-auto, deliver-checks, deliver-answer, deliver-session, recording}
+use Rattle.sessions.specs.Steps.{outcome-modes, outcome-deliveries, outcome-with, Unchanged, Records, RecordsAt, MayRecord, unrecorded-by}
+use Rattle.sessions.specs.Steps.{recorded-as, recording-at, label-checks}
 use Rattle.sessions.specs.Answers.{delivery-says}
 use Rattle.stores.specs.declared.search.Search.{Search}
 use Rattle.sessions.specs.declared.command.Kind.the-variants.{Subscriptions}
@@ -44,7 +48,7 @@ use Rattle.sessions.specs.declared.session.PendingAt.{PendingAt}
 use Rattle.stores.proofs.Searching.{told-any}
 use Rattle.sessions.proofs.Settling.{first-free}
 use Rattle.sessions.proofs.Stores.{place-padded, lengths-ids, valid-clean}
-use Rattle.sessions.proofs.Pending.{emptied-laid, held-idle, places-ack, holds-laid}
+use Rattle.sessions.proofs.Pending.{none-laid, idle, places-ack, holds-laid}
 use Rattle.sessions.proofs.Taking.{fits, alike, places-are, labels-are, store-same, lens-same, dropped-kept, client-kept, individual-kept}
 use Rattle.sessions.proofs.Validating.{no-lens}
 use Rattle.headers.proofs.Rows.{and-left, and-right, and-false, or-false-right, empty-eqb, empty-zero}
@@ -102,7 +106,7 @@ module _ (d : Deliveries) (sized : SizedDeliveries d) (l : Laid d) where
   pub label-at : (i : ℕ) → getD (pending d) i none-pending .label ≡ getD (ids label-max (take (d .count * label-max) (d .labels)) (take (d .count) (d .lens))) i []
   label-at i = sym (List·getD-map (λ (p : Pending). p .label) (pending d) i none-pending) ∙ ap (λ (z : List (List ℕ)). getD z i []) (labels-are d sized l)
 
-  module _ (x : List ℕ) (i : ℕ) (found : first-from (labelled x) 0 (pending d) ≡ some i) (of : ℕ) (there : of ≡ getD (d .places) i 0) where
+  module _ (ms x : List ℕ) (i : ℕ) (found : first-from (labelled x) 0 (pending d) ≡ some i) (of : ℕ) (there : of ≡ getD (d .places) i 0) where
     named-there : (i < length (pending d)) × (first-of (labelled x) (pending d) ≡ some (getD (pending d) i none-pending))
     named-there =
         let (j, a, b, c) = first-nth (labelled x) none-pending 0 i (pending d) found in
@@ -118,38 +122,39 @@ module _ (d : Deliveries) (sized : SizedDeliveries d) (l : Laid d) where
         some-same : {A : Type 0} {a b : A} → some a ≡ some b → a ≡ b
         some-same h = cc
 
-    settled-is : (t : Bool) → eqb (getD (d .modes) of auto-mode) client-mode ≡ t → settle-label x d ≡ with-pending d (settled (labelled x) (λ (p : Pending). t && eqb (p .place) of) (pending d))
+    settled-is : (t : Bool) → eqb (mode-of ms of) client-mode ≡ t
+        → settle-label ms x d ≡ deliveries-of (settled (labelled x) (λ (p : Pending). t && eqb (p .place) of) (pending d))
     settled-is t h =
-        ap (settled-as x d) (named-there .1)
-        ∙ ap₂ (λ u k. with-pending d (settled (labelled x) (λ (p : Pending). u && eqb (p .place) k) (pending d))) (ap (λ k. eqb (mode-of d k) client-mode) named-place ∙ h) named-place
+        ap (settled-as ms x d) (named-there .1)
+        ∙ ap₂ (λ u k. deliveries-of (settled (labelled x) (λ (p : Pending). u && eqb (p .place) k) (pending d)))
+        (ap (λ k. eqb (mode-of ms k) client-mode) named-place ∙ h) named-place
 
-    pub settled-client : getD (d .modes) of 0 ≡ 1 → with-pending d (kept (record { from = 0; to = i + 1; of = of }) 0 (places-of (pending d)) (pending d)) ≡ settle-label x d
+    -- those that stay where the ones with numbers from here to there go
+    abbrev staying : ℕ → ℕ → Deliveries
+    staying a b = deliveries-of (kept (record { from = a; to = b; of = of }) 0 (places-of (pending d)) (pending d))
+
+    pub settled-client : getD ms of 0 ≡ 1 → staying 0 (i + 1) ≡ settle-label ms x d
     settled-client h =
-        ap (λ m. with-pending d (kept (record { from = 0; to = m; of = of }) 0 (places-of (pending d)) (pending d))) (add-one i)
-        ∙ ap (with-pending d) (client-kept x of i 0 (pending d) found of-named)
-        ∙ sym (settled-is true (eq-eqb (getD (d .modes) of 0) 1 h))
+        ap (staying 0) (add-one i) ∙ ap deliveries-of (client-kept x of i 0 (pending d) found of-named) ∙ sym (settled-is true (eq-eqb (getD ms of 0) 1 h))
 
-    pub settled-individual : (getD (d .modes) of 0 ≡ 1 → ⊥) → with-pending d (kept (record { from = i; to = i + 1; of = of }) 0 (places-of (pending d)) (pending d)) ≡ settle-label x d
+    pub settled-individual : (getD ms of 0 ≡ 1 → ⊥) → staying i (i + 1) ≡ settle-label ms x d
     settled-individual h =
-        ap (λ m. with-pending d (kept (record { from = i; to = m; of = of }) 0 (places-of (pending d)) (pending d))) (add-one i)
-        ∙ ap (with-pending d) (individual-kept x of i 0 (pending d) found of-named)
-        ∙ sym (settled-is false (ne-eqb (getD (d .modes) of 0) 1 h))
+        ap (staying i) (add-one i) ∙ ap deliveries-of (individual-kept x of i 0 (pending d) found of-named) ∙ sym (settled-is false (ne-eqb (getD ms of 0) 1 h))
 
   -- ---- what an UNSUBSCRIBE leaves
 
-  pub dropped-none : (k : ℕ) → d .count ≡ 0 → with-modes d (set (d .modes) k auto-mode) ≡ unsubscribe (some k) d
-  unfolding with-pending laid
+  pub dropped-none : (k : ℕ) → d .count ≡ 0 → d ≡ dropped (some k) d
+  unfolding deliveries-of laid
   dropped-none k e =
       let none : pending d ≡ [] = ap (λ n. paired (take n (d .places)) (ids label-max (take (n * label-max) (d .labels)) (take n (d .lens)))) e in
-      ap (λ z. with-modes z (set (d .modes) k auto-mode)) (sym (emptied-laid d sized (l .labels-zero) (l .lens-zero) (l .places-zero) e))
-      ∙ ap (λ ps. with-modes (with-pending d (without (λ (p : Pending). eqb (p .place) k) ps)) (set (d .modes) k auto-mode)) (sym none)
+      sym (none-laid d sized (l .labels-zero) (l .lens-zero) (l .places-zero) e)
+      ∙ ap (λ ps. deliveries-of (without (λ (p : Pending). eqb (p .place) k) ps)) (sym none)
 
-  pub dropped-some : (k n of : ℕ) (r : Deliveries) → n ≡ d .count → of ≡ k → r ≡ with-pending d (kept (record { from = 0; to = n; of = of }) 0 (places-of (pending d)) (pending d))
-      → with-modes r (set (r .modes) k auto-mode) ≡ unsubscribe (some k) d
-  unfolding with-pending
-  dropped-some k n of r e o q =
-      ap (λ (z : Deliveries). with-modes z (set (z .modes) k auto-mode))
-      (q ∙ ap (with-pending d) (ap (λ z. kept (record { from = 0; to = n; of = z }) 0 (places-of (pending d)) (pending d)) o ∙ dropped-kept n k 0 (pending d) (omega (arith, pending-count, e))))
+  pub dropped-some : (k n of : ℕ) → n ≡ d .count → of ≡ k
+      → deliveries-of (kept (record { from = 0; to = n; of = of }) 0 (places-of (pending d)) (pending d)) ≡ dropped (some k) d
+  dropped-some k n of e o =
+      ap deliveries-of (ap (λ z. kept (record { from = 0; to = n; of = z }) 0 (places-of (pending d)) (pending d)) o
+      ∙ dropped-kept n k 0 (pending d) (omega (arith, pending-count, e)))
 
 -- ---- modes that stay
 
@@ -170,17 +175,40 @@ zero-at [] k h = refl
 zero-at (x ∷ xs) zero h = eqb-true x 0 (and-left (eqb x 0) (is-zero xs) h)
 zero-at (x ∷ xs) (suc k) h = zero-at xs k (and-right (eqb x 0) (is-zero xs) h)
 
--- an UNSUBSCRIBE where there is no delivery and every mode is auto
-pub dropped-idle : (d : Deliveries) → SizedDeliveries d → Laid d → (o : Option ℕ) → eqb (d .count) 0 && is-zero (d .modes) ≡ true → unsubscribe o d ≡ d
-dropped-idle d sized l none h = refl
-dropped-idle d sized l (some k) h =
-    let count-is : d .count ≡ 0 = eqb-true (d .count) 0 (and-left (eqb (d .count) 0) (is-zero (d .modes)) h) in
-    let mode-is : getD (d .modes) k auto-mode ≡ auto-mode = zero-at (d .modes) k (and-right (eqb (d .count) 0) (is-zero (d .modes)) h) in
-    sym (dropped-none d sized l k count-is) ∙ ap (with-modes d) (set-same (d .modes) k auto-mode mode-is)
+-- an UNSUBSCRIBE where there is no delivery, and one where every mode is auto
+pub dropped-idle : (d : Deliveries) → SizedDeliveries d → Laid d → (o : Option ℕ) → d .count ≡ 0 → d ≡ dropped o d
+dropped-idle d sized l none e = refl
+dropped-idle d sized l (some k) e = dropped-none d sized l k e
 
--- an outcome with the deliveries that it has
-pub outcome-same : (named : Outcome) (d : Deliveries) → named .session .deliveries ≡ d → named ≡ outcome-with named d
-outcome-same named d e = ap (outcome-with named) e
+pub modes-idle : (ms : List ℕ) (o : Option ℕ) → is-zero ms ≡ true → ms ≡ with-mode o auto-mode ms
+modes-idle ms none h = refl
+modes-idle ms (some k) h = sym (set-same ms k auto-mode (zero-at ms k h))
+
+-- ---- an outcome whose session has the modes and the deliveries that were
+
+module _ (s : Session) (named : Outcome) (same-yet : Unchanged s (named .session)) where
+  pub outcome-same : named ≡ outcome-with named (s .subscriptions .modes) (s .deliveries)
+  outcome-same = ap₂ (outcome-with named) (same-yet .modes-same) (same-yet .deliveries-same)
+
+  -- a mode set in a free place
+  pub outcome-entered : (k m : ℕ) → free-place s ≡ some k
+      → outcome-modes named (set (named .session .subscriptions .modes) k m)
+      ≡ outcome-with named (with-mode (free-place s) m (s .subscriptions .modes)) (s .deliveries)
+  outcome-entered k m f =
+      ap₂ (λ ms d. outcome-with named (set ms k m) d) (same-yet .modes-same) (same-yet .deliveries-same)
+      ∙ ap (λ o. outcome-with named (with-mode o m (s .subscriptions .modes)) (s .deliveries)) (sym f)
+
+  -- the mode and the deliveries of a place dropped
+  pub outcome-freed : (o : Option ℕ) (k : ℕ) → o ≡ some k
+      → outcome-with named (set (named .session .subscriptions .modes) k auto-mode) (dropped (some k) (s .deliveries))
+      ≡ outcome-with named (with-mode o auto-mode (s .subscriptions .modes)) (dropped o (s .deliveries))
+  outcome-freed o k f =
+      ap (λ ms. outcome-with named (set ms k auto-mode) (dropped (some k) (s .deliveries))) (same-yet .modes-same)
+      ∙ ap (λ z. outcome-with named (with-mode z auto-mode (s .subscriptions .modes)) (dropped z (s .deliveries))) (sym f)
+
+  -- other deliveries
+  pub outcome-settled : (d : Deliveries) → outcome-deliveries named d ≡ outcome-with named (s .subscriptions .modes) d
+  outcome-settled d = ap (λ ms. outcome-with named ms d) (same-yet .modes-same)
 
 -- ---- where a search ended
 
@@ -194,22 +222,23 @@ says-nowhere r o e h = sym e ∙ ap search-says h
 
 module _ (s : Session) (kept : Kept s) where
   pub laid-of : Laid (s .deliveries)
-  laid-of = holds-laid (s .subscriptions .lens) (s .deliveries) (kept .holds)
+  laid-of = holds-laid (s .subscriptions .lens) (s .subscriptions .modes) (s .deliveries) (kept .holds)
 
   -- the first free place, by the lengths
   pub free-is : free-place s ≡ first-from (λ l. eqb l 0) 0 (s .subscriptions .lens)
   free-is = first-free id-max subscriptions-max 0 (s .subscriptions .ids) (s .subscriptions .lens) (subscriptions-fit s (kept .ids))
 
   -- a free place has mode auto
-  pub subscribed-auto : subscribe (free-place s) auto-mode (s .deliveries) ≡ s .deliveries
-  subscribed-auto = by (free-place s) refl
+  pub entered-auto : s .subscriptions .modes ≡ with-mode (free-place s) auto-mode (s .subscriptions .modes)
+  entered-auto = by (free-place s) refl
     where
-      by : (o : Option ℕ) → free-place s ≡ o → subscribe o auto-mode (s .deliveries) ≡ s .deliveries
+      by : (o : Option ℕ) → free-place s ≡ o → s .subscriptions .modes ≡ with-mode o auto-mode (s .subscriptions .modes)
       by none e = refl
       by (some k) e =
-          ap (with-modes (s .deliveries)) (set-same (s .deliveries .modes) k auto-mode
-          (idle-at (s .subscriptions .lens) (s .deliveries .modes) k (held-idle (s .subscriptions .lens) (s .deliveries) (kept .holds .sized) (kept .holds .valid))
-          (omega (arith, first-passes empty [] k (ids-of Subscriptions s) e .0, held-long s (kept .ids) Subscriptions, kept .ids .sized .subscriptions .lens-long)) (lens-free s kept k e)))
+          sym (set-same (s .subscriptions .modes) k auto-mode
+          (idle-at (s .subscriptions .lens) (s .subscriptions .modes) k (idle (s .subscriptions .lens) (s .subscriptions .modes) (s .deliveries) (kept .holds))
+          (omega (arith, first-passes empty [] k (ids-of Subscriptions s) e .0, held-long s (kept .ids) Subscriptions, kept .ids .sized .subscriptions .lens-long))
+          (lens-free s kept k e)))
 
   -- a place that a search found is one
   pub place-inside : (p : List ℕ → Bool) (k : ℕ) → first-from p 0 (ids-of Subscriptions s) ≡ some k → k < subscriptions-max
@@ -231,29 +260,29 @@ module _ (s : Session) (k : ℕ) (label : List ℕ) where
   abbrev new : ℕ → List Pending
   new p = record { place = p; label = label } ∷ []
 
-  pub recorded-pending : (p : ℕ) (d : Deliveries) → eqb (mode-of (s .deliveries) k) auto-mode ≡ false → p ≡ k → d ≡ with-pending (s .deliveries) (pending (s .deliveries) ++ new p)
-      → recorded-as (with-deliveries s d) ≡ recorded-as (with-deliveries s (record-label (some k) label (s .deliveries)))
+  pub recorded-pending : (p : ℕ) (d : Deliveries) → eqb (mode-of (s .subscriptions .modes) k) auto-mode ≡ false → p ≡ k
+      → d ≡ deliveries-of (pending (s .deliveries) ++ new p) → recorded-as (with-deliveries s d) ≡ recorded-as (recording-at s k label)
   recorded-pending p d h e q =
       ap (λ z. recorded-as (with-deliveries s z))
-      (q ∙ ap (λ z. with-pending (s .deliveries) (pending (s .deliveries) ++ new z)) e
-      ∙ ap (λ t. cond t (s .deliveries) (with-pending (s .deliveries) (pending (s .deliveries) ++ new k))) (sym h))
+      (q ∙ ap (λ z. deliveries-of (pending (s .deliveries) ++ new z)) e
+      ∙ ap (λ t. cond t (s .deliveries) (deliveries-of (pending (s .deliveries) ++ new k))) (sym h))
 
-  pub recorded-auto : eqb (mode-of (s .deliveries) k) auto-mode ≡ true → recorded-as s ≡ recorded-as (with-deliveries s (record-label (some k) label (s .deliveries)))
-  recorded-auto h =
-      ap (λ t. recorded-as (with-deliveries s (cond t (s .deliveries) (with-pending (s .deliveries) (pending (s .deliveries) ++ new k))))) (sym h)
+  pub recorded-auto : eqb (mode-of (s .subscriptions .modes) k) auto-mode ≡ true → recorded-as s ≡ recorded-as (recording-at s k label)
+  recorded-auto h = ap (λ t. recorded-as (with-deliveries s (cond t (s .deliveries) (deliveries-of (pending (s .deliveries) ++ new k))))) (sym h)
 
 -- ---- a delivery, by the place of its subscription
 
 pub records-placed : (s : Session) (id label : List ℕ) (k : ℕ) (r : Recording) → place-named s (some id) ≡ some k → RecordsAt s k label r
     → Records (record { fails = bad-length label-max label || is-pending label (s .deliveries); number = 62 } ∷
     record { fails = not (is-auto s (place-named s (some id))) && leb deliveries-max (s .deliveries .count); number = 61 } ∷ []) s
-    (with-deliveries s (record-label (place-named s (some id)) label (s .deliveries))) r
+    (recording s id label) r
 records-placed s id label k r e g =
     subst (λ o. Records (record { fails = bad-length label-max label || is-pending label (s .deliveries); number = 62 } ∷
-    record { fails = not (is-auto s o) && leb deliveries-max (s .deliveries .count); number = 61 } ∷ []) s (with-deliveries s (record-label o label (s .deliveries))) r) (sym e) g
+    record { fails = not (is-auto s o) && leb deliveries-max (s .deliveries .count); number = 61 } ∷ []) s
+    (with-deliveries s (record-label (s .subscriptions .modes) o label (s .deliveries))) r) (sym e) g
 
 pub deliver-gives : (s : Session) (id label : List ℕ) (r : Recording)
-    → Records (deliver-checks s id label) s (with-deliveries s (record-label (place-named s (some id)) label (s .deliveries))) r
+    → Records (deliver-checks s id label) s (recording s id label) r
     → (delivery-says (r .answer) ≡ deliver-answer s id label) × (r .session ≡ deliver-session s id label)
 unfolding deliver-answer deliver-session
 deliver-gives s id label r g = (g .answered, g .left)
@@ -271,22 +300,22 @@ module _ (s : Session) (k : ℕ) (label : List ℕ) (r : Recording) where
     at-pending h q = records-refused _ 62 _ (ap₂ (_||_) (label-bad false fine) h) q
 
     module _ (new : is-pending label (s .deliveries) ≡ false) where
-      pub at-full : not (eqb (mode-of (s .deliveries) k) auto-mode) && leb 64 (s .deliveries .count) ≡ true → r ≡ unrecorded-by s 61 → RecordsAt s k label r
+      pub at-full : not (eqb (mode-of (s .subscriptions .modes) k) auto-mode) && leb 64 (s .deliveries .count) ≡ true → r ≡ unrecorded-by s 61 → RecordsAt s k label r
       at-full h q = records-on _ _ (ap₂ (_||_) (label-bad false fine) new) (records-refused _ 61 _ h q)
 
-      pub at-done : not (eqb (mode-of (s .deliveries) k) auto-mode) && leb 64 (s .deliveries .count) ≡ false
-          → r ≡ recorded-as (with-deliveries s (record-label (some k) label (s .deliveries))) → RecordsAt s k label r
+      pub at-done : not (eqb (mode-of (s .subscriptions .modes) k) auto-mode) && leb 64 (s .deliveries .count) ≡ false
+          → r ≡ recorded-as (recording-at s k label) → RecordsAt s k label r
       at-done h q = records-on _ _ (ap₂ (_||_) (label-bad false fine) new) (records-on _ _ h (records-done q))
 
   -- what recording relies on
   pub may-record : is-valid s ≡ true → k < subscriptions-max → eqb (length label) 0 || ltb 32 (length label) ≡ false
-      → not (eqb (mode-of (s .deliveries) k) auto-mode) && leb 64 (s .deliveries .count) ≡ false → MayRecord s k label
+      → not (eqb (mode-of (s .subscriptions .modes) k) auto-mode) && leb 64 (s .deliveries .count) ≡ false → MayRecord s k label
   may-record v p fine h =
       record {
         valid = v;
         place = p;
         fits = ltb-false 32 (length label) (or-false-right (eqb (length label) 0) (ltb 32 (length label)) fine);
-        room = λ e. leb-false 64 (s .deliveries .count) (and-false (not (eqb (mode-of (s .deliveries) k) auto-mode)) (leb 64 (s .deliveries .count)) h (ap not e));
+        room = λ e. leb-false 64 (s .deliveries .count) (and-false (not (eqb (mode-of (s .subscriptions .modes) k) auto-mode)) (leb 64 (s .deliveries .count)) h (ap not e));
       }
 
 -- 38, 63 and 64
@@ -370,12 +399,12 @@ module _ (s : Session) (kept : Kept s) (i : ℕ) where
   told-held v = ap (λ t. cond t (told-of (nth i (held-deliveries s))) (nothing-told PendingAnswer.Invalid)) (sym v)
 
   module _ (h : i < s .deliveries .count) (k : ℕ) (at : k ≡ getD (s .deliveries .places) i 0) where
-    acks : acknowledging (s .subscriptions .lens) (few .modes) k ≡ true
+    acks : acknowledging (s .subscriptions .lens) (s .subscriptions .modes) k ≡ true
     acks =
-        ap (acknowledging (s .subscriptions .lens) (few .modes)) (at ∙ sym (getD-take (few .count) (few .places) i 0 h))
-        ∙ every-at (acknowledging (s .subscriptions .lens) (few .modes)) i (take (few .count) (few .places))
+        ap (acknowledging (s .subscriptions .lens) (s .subscriptions .modes)) (at ∙ sym (getD-take (few .count) (few .places) i 0 h))
+        ∙ every-at (acknowledging (s .subscriptions .lens) (s .subscriptions .modes)) i (take (few .count) (few .places))
         (omega (arith, h, length-take-le (few .count) (few .places) (omega (arith, laid-few .few, kept .holds .sized .places-long))))
-        (places-ack (s .subscriptions .lens) few (kept .holds .sized) (kept .holds .valid))
+        (places-ack (s .subscriptions .lens) (s .subscriptions .modes) few (kept .holds .sized) (kept .holds .valid))
 
     -- the place is one of a subscription
     pub told-place : k < subscriptions-max
@@ -384,7 +413,7 @@ module _ (s : Session) (kept : Kept s) (i : ℕ) where
         by : (t : Bool) → leb subscriptions-max k ≡ t → k < subscriptions-max
         by false e = leb-false subscriptions-max k e
         by true e =
-            absurd (true≢false (sym acks ∙ sym (no-lens (s .subscriptions .lens) (few .modes) k (omega (arith, leb-true subscriptions-max k e, kept .ids .sized .subscriptions .lens-long)))))
+            absurd (true≢false (sym acks ∙ sym (no-lens (s .subscriptions .lens) (s .subscriptions .modes) k (omega (arith, leb-true subscriptions-max k e, kept .ids .sized .subscriptions .lens-long)))))
 
     abbrev sub : List ℕ
     sub = getD (ids-of Subscriptions s) k []
@@ -425,10 +454,10 @@ module _ (s : Session) (kept : Kept s) (i : ℕ) where
       «label_len» = m;
     }
 
-    pub told-at : telling (take 32 (drop (k * 32) (s .subscriptions .ids))) (getD (s .subscriptions .lens) k 0) (getD (few .modes) k 0) (take 32 (drop (i * 32) (few .labels))) (getD (few .lens) i 0)
+    pub told-at : telling (take 32 (drop (k * 32) (s .subscriptions .ids))) (getD (s .subscriptions .lens) k 0) (getD (s .subscriptions .modes) k 0) (take 32 (drop (i * 32) (few .labels))) (getD (few .lens) i 0)
         ≡ told-of (nth i (held-deliveries s))
     told-at =
-        ap₂ (λ a b. telling a b (getD (few .modes) k 0) (take 32 (drop (i * 32) (few .labels))) (getD (few .lens) i 0)) (sym sub-octets) (sym sub-length)
-        ∙ ap₂ (λ a b. telling (padded id-max sub) (length sub) (getD (few .modes) k 0) a b) (sym label-octets) (sym label-length)
+        ap₂ (λ a b. telling a b (getD (s .subscriptions .modes) k 0) (take 32 (drop (i * 32) (few .labels))) (getD (few .lens) i 0)) (sym sub-octets) (sym sub-length)
+        ∙ ap₂ (λ a b. telling (padded id-max sub) (length sub) (getD (s .subscriptions .modes) k 0) a b) (sym label-octets) (sym label-length)
         ∙ ap₂ (λ (p : ℕ) (l : List ℕ). told-of (some (delivery-of s (record { place = p; label = l })))) (at ∙ sym (place-at few (kept .holds .sized) laid-few i h)) (sym (label-at few (kept .holds .sized) laid-few i))
         ∙ ap told-of (sym (nth-map (delivery-of s) none-pending i (pending few) (omega (arith, h, pending-count few (kept .holds .sized) laid-few))))

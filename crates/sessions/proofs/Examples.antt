@@ -2,22 +2,27 @@
 --     lives-hold               every row's claim
 --     flags-and-clock-hold     the clock, and the flags that no row shows
 --     pending-asked-hold       the question for a pending delivery
-use mathlib.Core.Path.{refl}
+use mathlib.Core.Path.{_≡_, refl, ap}
+use mathlib.Core.Bool.{false}
+use mathlib.Core.List.{List, [], _∷_}
+use Prim.Native.Nat.{ℕ}
 use Rattle.headers.specs.Rows.{All}
-use Rattle.headers.specs.Block.{entries, entries-within, at-record}
+use Rattle.headers.specs.Block.{entries, listed, image, entries-within, at-record}
 use Rattle.headers.specs.Numbers.{evaluate, numeral, amount}
-use Rattle.headers.specs.Answers.{is-block}
+use Rattle.headers.specs.Answers.{refused, is-block}
 use Rattle.headers.specs.Parts.{split}
+use Rattle.frames.specs.Grammar.{number, SEND}
 use Rattle.stores.specs.Searches.{first-from, replaced}
 use Rattle.sessions.specs.Stores.{ids, laid, clean, distinct, valid-store}
-use Rattle.sessions.specs.Deliveries.{with-pending, valid-deliveries}
+use Rattle.sessions.specs.Deliveries.{client-mode, deliveries-of, valid-modes, valid-pending}
 use Rattle.sessions.specs.Values.{is-item, versions, heart-beats}
-use Rattle.sessions.specs.Sessions.{is-valid}
+use Rattle.sessions.specs.Sessions.{heard, is-valid}
 use Rattle.sessions.specs.Calls.{made, making-answer, frame-answer, frame-session, heart-beat-answer, heart-beat-session, timed-out-answer}
-use Rattle.sessions.specs.Calls.{deliver-answer, deliver-session}
+use Rattle.sessions.specs.Calls.{left-by, effect, deliver-answer, deliver-session}
 use Rattle.sessions.specs.Accounts.{fate, accounts}
 use Rattle.sessions.specs.Held.{pending-answer}
-use Rattle.sessions.specs.Examples.{Holds, lives, FlagsAndClock, PendingAsked}
+use Rattle.sessions.specs.declared.session.Session.{Session}
+use Rattle.sessions.specs.Examples.{Holds, lives, entry, invalid, with-place, FlagsAndClock, PendingAsked}
 use Rattle.sessions.specs.Examples.{intervals, clocks, makings, versions-counted, versions-malformed, heart-beats-malformed}
 use Rattle.sessions.specs.Examples.{missing-headers, accepted-frames, repeated-headers, server-commands, out-of-turn, bad-lengths}
 use Rattle.sessions.specs.Examples.{live-ids, full-stores, kept-and-closed, record-ids, record-numbers, modes-asked, settled-deliveries}
@@ -33,8 +38,37 @@ unfolding is-block entries entries-within at-record evaluate numeral amount vers
 blocks = tt
 
 unfoldable stores : Unit {0}
-unfolding valid-store ids clean distinct laid replaced first-from with-pending valid-deliveries
+unfolding valid-store ids clean distinct laid replaced first-from deliveries-of valid-modes valid-pending
 stores = tt
+
+-- ---- An invalid record, by the test alone: every call on it is refused with 38, and leaves it as it is
+
+module _ (s : Session) (h : is-valid s ≡ false) where
+  beat-answer : heart-beat-answer s ≡ refused 38
+  unfolding heart-beat-answer
+  beat-answer = rw h
+
+  frame-38 : (n : ℕ) (block : List ℕ) → frame-answer s n block ≡ refused 38
+  unfolding frame-answer
+  frame-38 n block = rw h
+
+  asked-38 : timed-out-answer s 1 ≡ refused 38
+  unfolding timed-out-answer
+  asked-38 = rw h
+
+  beat-left : heart-beat-session s 1 ≡ s
+  unfolding heart-beat-session
+  beat-left = ap (λ A. left-by A s (heard s 1)) beat-answer
+
+  frame-left : (n : ℕ) (block : List ℕ) → frame-session s n block 1 ≡ s
+  unfolding frame-session
+  frame-left n block = ap (λ A. left-by A s (heard (effect s n (listed (entries block))) 1)) (frame-38 n block)
+
+  invalid-holds : Holds (invalid s)
+  unfolding fate accounts
+  invalid-holds =
+      let block = image (entry "destination" "/d" ∷ []) in
+      rw (beat-left, frame-left 0 [], frame-left (number SEND) block, beat-answer, frame-38 0 [], frame-38 (number SEND) block, asked-38)
 
 -- ---- A refl for each row
 
@@ -130,9 +164,17 @@ dropped-deliveries-hold : All Holds dropped-deliveries
 unfolding dropped-deliveries calls blocks stores
 dropped-deliveries-hold = (refl, (refl, (refl, (refl, tt))))
 
+unknown-mode : is-valid (with-place 1 1 3) ≡ false
+unfolding calls stores
+unknown-mode = refl
+
+mode-of-none : is-valid (with-place 0 0 client-mode) ≡ false
+unfolding calls stores
+mode-of-none = refl
+
 record-modes-hold : All Holds record-modes
 unfolding record-modes calls blocks stores
-record-modes-hold = (refl, (refl, (refl, (refl, tt))))
+record-modes-hold = (refl, (invalid-holds (with-place 1 1 3) unknown-mode, (invalid-holds (with-place 0 0 client-mode) mode-of-none, (refl, tt))))
 
 record-labels-hold : All Holds record-labels
 unfolding record-labels calls blocks stores

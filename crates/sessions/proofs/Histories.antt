@@ -18,15 +18,17 @@ use Rattle.frames.specs.Grammar.{number, CONNECT, DISCONNECT, STOMP}
 use Rattle.sessions.specs.Stores.{ids, live, used, use-checks}
 use Rattle.sessions.specs.Values.{HeartBeats}
 use Rattle.sessions.specs.Headers.{IdUse, changed-id, is, opens}
-use Rattle.sessions.specs.Sessions.{subscriptions-max, transactions-max, id-max, ids-of, with-ids, with-deliveries, closed, heard}
-use Rattle.sessions.specs.Deliveries.{record-label}
-use Rattle.sessions.specs.Calls.{left-by, making-answer, made-by, made, shared-by, client-versions, client-heart-beats, opened-by, uses-of, id-checks, frame-answer, id-effect, effect, frame-session, heart-beat-answer, heart-beat-session, delivery-effect, place-named, recorded-by, deliver-answer, deliver-session}
+use Rattle.sessions.specs.Sessions.{subscriptions-max, transactions-max, id-max, ids-of, with-ids, with-modes, with-deliveries, closed, heard}
+use Rattle.sessions.specs.Calls.{left-by, making-answer, made-by, made, shared-by, client-versions, client-heart-beats, opened-by, uses-of}
+use Rattle.sessions.specs.Calls.{id-checks, frame-answer, id-effect, effect, frame-session, heart-beat-answer, heart-beat-session, modes-effect}
+use Rattle.sessions.specs.Calls.{delivery-effect, recorded-by, recording, deliver-answer, deliver-session}
 use Rattle.sessions.specs.Histories.{Call, frame, heart-beat, deliver, answer-to, next, after, same-kind, by-use, told-uses, live-changed, live-by, live-after}
 use Rattle.sessions.specs.declared.store.Use.{Use}
 use Rattle.sessions.specs.declared.command.Kind.{Kind}
 use Rattle.sessions.specs.declared.command.Kind.the-variants.{Subscriptions, Transactions}
-use Rattle.sessions.specs.declared.parts.SubscriptionIds.{SubscriptionIds}
-use Rattle.sessions.specs.declared.parts.TransactionIds.{TransactionIds}
+use Rattle.sessions.specs.declared.delivery.Deliveries.{Deliveries}
+use Rattle.sessions.specs.declared.parts.SubscriptionStore.{SubscriptionStore}
+use Rattle.sessions.specs.declared.parts.TransactionStore.{TransactionStore}
 use Rattle.sessions.specs.declared.session.Session.{Session}
 use Rattle.sessions.proofs.Rows.{or-either}
 use Rattle.sessions.proofs.Checks.{Passes, Passed, frame-passed, changed-settles, left-case}
@@ -36,8 +38,13 @@ use Rattle.sessions.proofs.Kept.{Kept, kept-next, kept-made}
 
 -- sessions with the same stores have the same ids
 ids-same : (k : Kind) (r s : Session) → SameStores r s → ids-of k r ≡ ids-of k s
-ids-same Subscriptions r s (a, b) = ap (λ (x : SubscriptionIds). ids id-max (x .ids) (x .lens)) a
-ids-same Transactions r s (a, b) = ap (λ (x : TransactionIds). ids id-max (x .ids) (x .lens)) b
+ids-same Subscriptions r s (a, b) = ap (λ (x : SubscriptionStore). ids id-max (x .ids) (x .lens)) a
+ids-same Transactions r s (a, b) = ap (λ (x : TransactionStore). ids id-max (x .ids) (x .lens)) b
+
+-- other modes and deliveries leave them
+ids-named : (k : Kind) (r : Session) (ms : List ℕ) (d : Deliveries) → ids-of k (with-deliveries (with-modes r ms) d) ≡ ids-of k r
+ids-named Subscriptions r ms d = refl
+ids-named Transactions r ms d = refl
 
 -- the ids of a kind, laid out, are the session's
 ids-with : (k : Kind) (s : Session) (is : List (List ℕ)) → are-short id-max is ≡ true → ids-of k (with-ids k s is) ≡ is
@@ -90,7 +97,8 @@ module _ (s : Session) (h : Held s) (k : Kind) (id : List ℕ) (some-id : id ≢
       (λ o. ap (live id) (ids-opened (shared-by s (client-versions es)) (client-heart-beats es)) ∙ sym (ap (named-live s k id) (opening-names n es o)))
       (λ o. cond-case (λ r. live id (ids-of k r) ≡ named-live s k id (told-uses n es)) (is DISCONNECT n)
       (λ d. ap (live id) (ids-same k (closed s) s (refl, refl)) ∙ sym (ap (named-live s k id) (closing-names n es d)))
-      (λ d. ap (live id) (ids-same k (with-deliveries (id-effect s (changed-id (uses-of s n es))) (delivery-effect s n es)) (id-effect s (changed-id (uses-of s n es))) (refl, refl)) ∙ live-uses (uses-of s n es) (p .named) (changed-id (uses-of s n es)) refl))
+      (λ d. ap (live id) (ids-named k (id-effect s (changed-id (uses-of s n es))) (modes-effect s n es) (delivery-effect s n es))
+      ∙ live-uses (uses-of s n es) (p .named) (changed-id (uses-of s n es)) refl))
     where
       ids-opened : (shared : List Bool) (o : Option HeartBeats) → ids-of k (opened-by s shared o) ≡ ids-of k s
       ids-opened shared none = refl
@@ -124,7 +132,7 @@ module _ (s : Session) (h : Held s) (k : Kind) (id : List ℕ) (some-id : id ≢
   live-deliver x label = by (deliver-answer s x label)
     where
       after : Session
-      after = with-deliveries s (record-label (place-named s (some x)) label (s .deliveries))
+      after = recording s x label
 
       by : (A : Answer) → live id (ids-of k (recorded-by A s after)) ≡ live id (ids-of k s)
       by (accepted v) = ap (live id) (ids-same k after s (refl, refl))

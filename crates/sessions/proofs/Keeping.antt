@@ -1,5 +1,5 @@
--- The numbers and ids of a session stay valid: made, and after each call. Its deliveries too: Kept. Assumes nothing.
---     Valid, valid-record, record-valid                     the test of a record, taken apart
+-- The numbers and ids of a session stay valid: made, and after each call. Its modes and deliveries too: Kept. Assumes nothing.
+--     Valid, valid-record, record-modes, record-valid       the test of a record, taken apart
 --     SameStores                                            two sessions have the same ids where they lie
 --     Held                                                  a session with valid numbers and ids, whose arrays of ids have their sizes
 --     held-long, held-short, held-distinct                  its ids of a kind: how many places, none too long, no two the same
@@ -10,7 +10,7 @@ use mathlib.Core.Option.{Option, none, some}
 use mathlib.Core.List.{List, [], _∷_}
 use Prim.Native.Nat.{ℕ, _*_, _≤_}
 use native.Mathlib.Omega.{arith}
-use lib.ListN.{length, replicate, length-map, length-replicate}
+use lib.ListN.{length, replicate, length-map, length-replicate, length-set}
 use lib.Dec.{eqb, leb, ltb}
 use borrow.Author.Tests.{leb-true, le-leb, eqb-true, not-false, ltb-false}
 use Rattle.headers.specs.Rows.{All}
@@ -19,25 +19,28 @@ use Rattle.headers.specs.Block.{Entry, entries, listed}
 use Rattle.headers.specs.Answers.{Answer, accepted, refused, settle}
 use Rattle.headers.proofs.Rows.{cond-case, and-left, and-right, or-false-left, or-false-right}
 use Rattle.headers.proofs.Decimals.{amount-record}
-use Rattle.frames.specs.Grammar.{DISCONNECT}
+use Rattle.frames.specs.Grammar.{DISCONNECT, SUBSCRIBE, UNSUBSCRIBE}
 use Rattle.headers.specs.Parts.{split}
 use Rattle.sessions.specs.Stores.{distinct, valid-store, used, use-checks}
 use Rattle.sessions.specs.Places.{Fits}
 use Rattle.sessions.specs.Values.{HeartBeats, heart-beat-max, both, heart-beats-in, heart-beats}
 use Rattle.sessions.specs.Opening.{may-offer, interval}
-use Rattle.sessions.specs.Headers.{IdUse, changed-id, value-of, is, opens}
+use Rattle.sessions.specs.Headers.{IdUse, changed-id, value-of, mode-asked, is, opens}
 use Rattle.sessions.specs.Sessions.{subscriptions-max, transactions-max, id-max, fresh-phase, open-phase, closed-phase, in-phase, fresh}
-use Rattle.sessions.specs.Sessions.{ids-of, with-subscriptions, with-transactions, with-ids, with-phase, with-deliveries, closed, heard}
+use Rattle.sessions.specs.Sessions.{ids-of, with-subscriptions, with-transactions, with-ids, with-modes, with-phase, with-deliveries, closed, heard}
 use Rattle.sessions.specs.Sessions.{right-flags, valid-offers, valid-agreed, valid-numbers, valid-subscriptions, valid-transactions, valid-ids}
 use Rattle.sessions.specs.Sessions.{right-deliveries, is-valid, Sized, SizedSubscriptions, SizedTransactions}
-use Rattle.sessions.specs.declared.parts.SubscriptionIds.{SubscriptionIds}
-use Rattle.sessions.specs.declared.parts.TransactionIds.{TransactionIds}
-use Rattle.sessions.specs.Calls.{making-checks, making-answer, made-by, made, shared-by, heart-beats-of, client-versions, client-heart-beats, opened-by, uses-of, id-checks, frame-answer, id-effect, delivery-effect, effect, frame-session, deliver-answer, deliver-session, recorded-by, place-named, heart-beat-answer, heart-beat-session}
-use Rattle.sessions.specs.Deliveries.{record-label}
+use Rattle.sessions.specs.declared.parts.SubscriptionStore.{SubscriptionStore}
+use Rattle.sessions.specs.declared.parts.TransactionStore.{TransactionStore}
+use Rattle.sessions.specs.Calls.{making-checks, making-answer, made-by, made, shared-by, heart-beats-of, client-versions, client-heart-beats}
+use Rattle.sessions.specs.Calls.{opened-by, uses-of, id-checks, frame-answer, id-effect, free-place, mode-or-auto, modes-effect, delivery-effect}
+use Rattle.sessions.specs.Calls.{named-effect, effect, frame-session, deliver-answer, deliver-session, recorded-by, recording, place-named}
+use Rattle.sessions.specs.Calls.{heart-beat-answer, heart-beat-session}
+use Rattle.sessions.specs.Deliveries.{auto-mode, valid-modes, with-mode, record-label}
 use Rattle.sessions.specs.Steps.{count-of}
 use Rattle.sessions.specs.declared.delivery.Deliveries.{Deliveries}
 use Rattle.sessions.specs.declared.store.Use.{Use}
-use Rattle.sessions.specs.declared.command.Header.the-variants.{HeartBeat}
+use Rattle.sessions.specs.declared.command.Header.the-variants.{HeartBeat, Id}
 use Rattle.sessions.specs.declared.command.Kind.{Kind}
 use Rattle.sessions.specs.declared.command.Kind.the-variants.{Subscriptions, Transactions}
 use Rattle.sessions.specs.declared.session.Session.{Session}
@@ -68,20 +71,29 @@ valid-record s h =
     let (offers, intervals) = pair (valid-offers (s .offers)) _ small in
     let (sends, wants) = pair (leb (s .offers .sends) heart-beat-max) _ offers in
     let (inbound, outbound) = pair (leb (s .agreed .inbound) heart-beat-max) _ intervals in
-    let (subscriptions, transactions) = pair (valid-store id-max (s .subscriptions .ids) (s .subscriptions .lens)) _ stores in
+    let (subscriptions, transactions) = pair (valid-subscriptions (s .subscriptions)) _ stores in
     record {
       known = leb-true (s .phase) closed-phase phase;
       offers = (leb-true (s .offers .sends) heart-beat-max sends, leb-true (s .offers .wants) heart-beat-max wants);
       intervals = (leb-true (s .agreed .inbound) heart-beat-max inbound, leb-true (s .agreed .outbound) heart-beat-max outbound);
       flags = flags;
-      subscriptions = subscriptions;
+      subscriptions = and-left (valid-store id-max (s .subscriptions .ids) (s .subscriptions .lens)) _ subscriptions;
       transactions = transactions;
     }
 
-pub record-valid : (s : Session) → Valid s → right-deliveries s ≡ true → is-valid s ≡ true
+-- the modes of a valid one
+pub record-modes : (s : Session) → is-valid s ≡ true → valid-modes (s .subscriptions .lens) (s .subscriptions .modes) ≡ true
 unfolding is-valid
-record-valid s v o =
-    ap₂ (_&&_) (ap₂ (_&&_) (le-leb (s .phase) closed-phase (v .known)) (ap₂ (_&&_) small (v .flags))) (ap₂ (_&&_) (ap₂ (_&&_) (v .subscriptions) (v .transactions)) o)
+record-modes s h =
+    let stores = and-left (valid-ids s) (right-deliveries s) (and-right (valid-numbers s) _ h) in
+    and-right (valid-store id-max (s .subscriptions .ids) (s .subscriptions .lens)) _ (and-left (valid-subscriptions (s .subscriptions)) _ stores)
+
+pub record-valid : (s : Session) → Valid s → valid-modes (s .subscriptions .lens) (s .subscriptions .modes) ≡ true → right-deliveries s ≡ true
+    → is-valid s ≡ true
+unfolding is-valid
+record-valid s v m o =
+    ap₂ (_&&_) (ap₂ (_&&_) (le-leb (s .phase) closed-phase (v .known)) (ap₂ (_&&_) small (v .flags)))
+    (ap₂ (_&&_) (ap₂ (_&&_) (ap₂ (_&&_) (v .subscriptions) m) (v .transactions)) o)
   where
     small : valid-offers (s .offers) && valid-agreed (s .agreed) ≡ true
     small =
@@ -168,7 +180,7 @@ module _ (s : Session) (h : Held s) where
           offers = offers;
           intervals = intervals;
           flags = flags;
-          subscriptions = ap valid-subscriptions a ∙ h .valid .subscriptions;
+          subscriptions = ap (λ (x : SubscriptionStore). valid-store id-max (x .ids) (x .lens)) a ∙ h .valid .subscriptions;
           transactions = ap valid-transactions b ∙ h .valid .transactions;
         };
       }
@@ -195,7 +207,7 @@ module _ (s : Session) (h : Held s) where
       (fresh-flags f)
 
   -- with other stores
-  stored : {subscriptions : SubscriptionIds} {transactions : TransactionIds} → valid-subscriptions subscriptions ≡ true
+  stored : {subscriptions : SubscriptionStore} {transactions : TransactionStore} → valid-store id-max (subscriptions .ids) (subscriptions .lens) ≡ true
       → valid-transactions transactions ≡ true → Valid (with-transactions (with-subscriptions s subscriptions) transactions)
   stored a b =
       record {
@@ -211,7 +223,11 @@ module _ (s : Session) (h : Held s) where
   held-with Subscriptions is l m d =
       record {
         sized = record {
-          subscriptions = record { ids-long = length-laid id-max is m ∙ ap (_* id-max) l; lens-long = length-map is length ∙ l };
+          subscriptions = record {
+            ids-long = length-laid id-max is m ∙ ap (_* id-max) l;
+            lens-long = length-map is length ∙ l;
+            modes-long = h .sized .subscriptions .modes-long;
+          };
           transactions = h .sized .transactions;
         };
         valid = stored (laid-valid id-max is m d) (h .valid .transactions);
@@ -239,17 +255,45 @@ module _ (s : Session) (h : Held s) where
       by none e = h
       by (some u) e = held-used (u .kind) (u .usage) (u .id) (changed-settles s us u p e)
 
+  held-modes : (ms : List ℕ) → length ms ≡ subscriptions-max → Held (with-modes s ms)
+  held-modes ms long =
+      record {
+        sized = record {
+          subscriptions = record { ids-long = h .sized .subscriptions .ids-long; lens-long = h .sized .subscriptions .lens-long; modes-long = long };
+          transactions = h .sized .transactions;
+        };
+        valid = stored (h .valid .subscriptions) (h .valid .transactions);
+      }
+
   pub held-deliveries : (d : Deliveries) → Held (with-deliveries s d)
   held-deliveries d = held-by (with-deliveries s d) (refl, refl) (h .valid .known) (h .valid .offers) (h .valid .intervals) (h .valid .flags)
 
+-- modes with one set are as many
+mode-long : (o : Option ℕ) (m : ℕ) (ms : List ℕ) → length (with-mode o m ms) ≡ length ms
+mode-long none m ms = refl
+mode-long (some k) m ms = length-set ms k m
+
 module _ (s : Session) (h : Held s) where
+  modes-long : (n : ℕ) (es : List Entry) → length (modes-effect s n es) ≡ subscriptions-max
+  modes-long n es =
+      cond-case (λ ms. length ms ≡ subscriptions-max) (is SUBSCRIBE n) (λ a. mode-long (free-place s) (mode-or-auto (mode-asked es)) _ ∙ long)
+      (λ a. cond-case (λ ms. length ms ≡ subscriptions-max) (is UNSUBSCRIBE n) (λ b. mode-long (place-named s (value-of Id es)) auto-mode _ ∙ long) (λ b. long))
+    where
+      long : length (s .subscriptions .modes) ≡ subscriptions-max
+      long = h .sized .subscriptions .modes-long
+
+  pub held-named : (n : ℕ) (es : List Entry) → Passed s n es → Held (named-effect s n es)
+  held-named n es p =
+      let named = id-effect s (changed-id (uses-of s n es)) in
+      held-deliveries (with-modes named (modes-effect s n es))
+      (held-modes named (held-changed s h (uses-of s n es) (p .named)) (modes-effect s n es) (modes-long n es)) (delivery-effect s n es)
+
   pub held-effect : (n : ℕ) (es : List Entry) → Passed s n es → Held (effect s n es)
   held-effect n es p =
       cond-case Held (opens n)
       (λ o. held-opened s h (not-false (in-phase fresh-phase s) (sym (ap (λ t. cond t (not (in-phase fresh-phase s)) (not (in-phase open-phase s))) o) ∙ p .in-turn))
       (shared-by s (client-versions es)) (client-heart-beats es) (of-small (value-of HeartBeat es)))
-      (λ o. cond-case Held (is DISCONNECT n) (λ d. held-closed s h)
-      (λ d. held-deliveries (id-effect s (changed-id (uses-of s n es))) (held-changed s h (uses-of s n es) (p .named)) (delivery-effect s n es)))
+      (λ o. cond-case Held (is DISCONNECT n) (λ d. held-closed s h) (λ d. held-named n es p))
 
 pub held-frame : (s : Session) (n : ℕ) (block : List ℕ) (time : ℕ) → Held s → Held (frame-session s n block time)
 unfolding frame-session
@@ -265,8 +309,8 @@ pub held-deliver : (s : Session) (id label : List ℕ) → Held s → Held (deli
 unfolding deliver-session
 held-deliver s id label h = by (deliver-answer s id label)
   where
-    by : (A : Answer) → Held (recorded-by A s (with-deliveries s (record-label (place-named s (some id)) label (s .deliveries))))
-    by (accepted v) = held-deliveries s h (record-label (place-named s (some id)) label (s .deliveries))
+    by : (A : Answer) → Held (recorded-by A s (recording s id label))
+    by (accepted v) = held-deliveries s h (record-label (s .subscriptions .modes) (place-named s (some id)) label (s .deliveries))
     by (refused k) = h
 
 -- ---- a session that is made
@@ -279,6 +323,7 @@ held-fresh sends wants offered phase a b known flags =
         subscriptions = record {
           ids-long = length-replicate {A = ℕ} (subscriptions-max * id-max) 0;
           lens-long = length-replicate {A = ℕ} subscriptions-max 0;
+          modes-long = length-replicate {A = ℕ} subscriptions-max auto-mode;
         };
         transactions = record {
           ids-long = length-replicate {A = ℕ} (transactions-max * id-max) 0;

@@ -9,35 +9,41 @@ use mathlib.Core.Option.{Option, none, some}
 use mathlib.Core.List.{List, [], _∷_, _++_}
 use Prim.Native.Nat.{ℕ, _+_, _<_}
 use native.Mathlib.Omega.{arith}
-use lib.ListN.{length, getD, set, replicate, length-replicate, List·getD-map}
+use lib.ListN.{length, getD, set, replicate, List·getD-map}
 use lib.Dec.{eqb, leb, ltb}
 use borrow.Author.Tests.{eqb-true, not-false, leb-false, ltb-false, le-leb, ne-eqb}
 use Rattle.headers.specs.Rows.{octets-of, any, empty, same, first-of}
 use Rattle.headers.specs.Block.{Entry, entries, listed}
 use Rattle.headers.specs.Answers.{Answer, accepted, refused, settle}
-use Rattle.headers.proofs.Rows.{cond-case, and-left, and-right, or-false-left, or-false-right, same-eq, or-yes, and-false, empty-zero, empty-eqb, every-replicate}
+use Rattle.headers.proofs.Rows.{cond-case, and-left, and-right, or-false-left, or-false-right, same-eq, or-yes, and-false, empty-zero, empty-eqb}
 use Rattle.frames.specs.Grammar.{DISCONNECT, SUBSCRIBE, UNSUBSCRIBE}
 use Rattle.stores.specs.Searches.{replaced, first-from}
-use Rattle.sessions.specs.Stores.{ids, lengths, clean, distinct, valid-store, live, used, use-checks, bad-length}
+use Rattle.sessions.specs.Stores.{lengths, live, used, use-checks, bad-length}
 use Rattle.sessions.specs.Values.{HeartBeats}
 use Rattle.sessions.proofs.Tables.{transaction-named}
 use Rattle.sessions.specs.Headers.{IdUse, changed-id, value-of, has, is, opens, mode-named, mode-asked, settles, is-some}
-use Rattle.sessions.specs.Deliveries.{individual-mode, auto-mode, label-max, Pending, pending, labelled, is-pending, mode-of, goes-with, with-pending, settled-as, subscribe, unsubscribe, record-label, valid-deliveries, no-deliveries}
-use Rattle.sessions.specs.Sessions.{spoken, id-max, fresh-phase, open-phase, in-phase, fresh, ids-of, with-ids, with-deliveries, closed, heard, valid-numbers, valid-ids, right-deliveries, is-valid, Sized, SizedDeliveries}
-use Rattle.sessions.specs.Calls.{out-of-phase, lacks-needed, opening, shared-by, client-versions, client-heart-beats, opened-by, uses-of, frame-answer, id-effect, effect, frame-session, heart-beat-answer, heart-beat-session, place-named, free-place, mode-or-auto, settle-named, label-named, delivery-effect, deliver-checks, deliver-answer, recorded-by, deliver-session, is-auto, making-answer, made-by, made}
+use Rattle.sessions.specs.Deliveries.{individual-mode, auto-mode, label-max, Pending, pending, labelled, is-pending, mode-of, goes-with}
+use Rattle.sessions.specs.Deliveries.{deliveries-of, settled-as, with-mode, dropped, record-label, valid-modes, valid-deliveries, no-deliveries}
+use Rattle.sessions.specs.Sessions.{spoken, id-max, fresh-phase, open-phase, in-phase, fresh, ids-of, with-ids, with-modes, with-deliveries}
+use Rattle.sessions.specs.Sessions.{no-subscriptions, closed, heard, valid-numbers, valid-ids, right-deliveries, is-valid, Sized, SizedDeliveries}
+use Rattle.sessions.specs.Calls.{out-of-phase, lacks-needed, opening, shared-by, client-versions, client-heart-beats, opened-by, uses-of}
+use Rattle.sessions.specs.Calls.{frame-answer, id-effect, effect, frame-session, heart-beat-answer, heart-beat-session, place-named, free-place}
+use Rattle.sessions.specs.Calls.{mode-or-auto, settle-named, label-named, modes-effect, delivery-effect, named-effect, deliver-checks}
+use Rattle.sessions.specs.Calls.{deliver-answer, recorded-by, recording, deliver-session, is-auto, making-answer, made-by, made}
 use Rattle.sessions.specs.Histories.{Call, frame, heart-beat, deliver, next, after}
 use Rattle.sessions.specs.declared.command.Header.the-variants.{Id, Ack, Destination, HeartBeat}
 use Rattle.sessions.specs.declared.command.Kind.{Kind}
 use Rattle.sessions.specs.declared.command.Kind.the-variants.{Subscriptions, Transactions}
 use Rattle.sessions.specs.declared.store.Use.the-variants.{Enter, Free}
 use Rattle.sessions.specs.declared.delivery.Deliveries.{Deliveries}
-use Rattle.sessions.specs.declared.parts.SubscriptionIds.{SubscriptionIds}
+use Rattle.sessions.specs.declared.parts.SubscriptionStore.{SubscriptionStore}
 use Rattle.sessions.specs.declared.session.Session.{Session}
 use Rattle.sessions.proofs.Checks.{Passed, frame-passed, Delivered, deliver-passed, subscribe-changes, subscribe-settles, unsubscribe-changes, unsubscribe-settles, left-case}
 use Rattle.stores.proofs.Searching.{is-some as finds, found-at, any-first, first-at}
 use Rattle.sessions.proofs.Stores.{lengths-ids, lengths-set, use-some, use-live, use-room, zeros-ids}
-use Rattle.sessions.proofs.Pending.{Holds, Proper, holds-emptied, holds-settled, holds-snoc, holds-unsubscribed, holds-subscribed}
-use Rattle.sessions.proofs.Keeping.{Held, valid-record, record-valid, subscriptions-fit, held-closed, held-heard, held-opened, held-effect, held-made, held-deliveries, held-changed, OfSome, Small, of-small}
+use Rattle.sessions.proofs.Pending.{Holds, Proper, holds-none, holds-settled, holds-snoc, holds-dropped, holds-subscribed}
+use Rattle.sessions.proofs.Keeping.{Held, valid-record, record-modes, record-valid, subscriptions-fit, held-closed, held-heard, held-opened}
+use Rattle.sessions.proofs.Keeping.{held-named, held-made, held-deliveries, OfSome, Small, of-small}
 
 -- two sessions with the same subscriptions
 abbrev pub SameSubscriptions : Session → Session → Type 0
@@ -71,27 +77,32 @@ some-first p xs h = by (first-from p 0 xs) refl
 
 pub record Kept (s : Session) : Type 0 where
   pub ids : Held s
-  pub holds : Holds (s .subscriptions .lens) (s .deliveries)
+  pub holds : Holds (s .subscriptions .lens) (s .subscriptions .modes) (s .deliveries)
   pub only-open : in-phase open-phase s || eqb (s .deliveries .count) 0 ≡ true
 
 pub kept-valid : (s : Session) → Kept s → is-valid s ≡ true
-kept-valid s k = record-valid s (k .ids .valid) (ap₂ (_&&_) (k .holds .valid) (k .only-open))
+kept-valid s k = record-valid s (k .ids .valid) (k .holds .modes) (ap₂ (_&&_) (k .holds .valid) (k .only-open))
 
 pub kept-of : (s : Session) → Sized s → SizedDeliveries (s .deliveries) → is-valid s ≡ true → Kept s
 unfolding is-valid
 kept-of s z y v =
     let o = and-right (valid-ids s) (right-deliveries s) (and-right (valid-numbers s) (valid-ids s && right-deliveries s) v) in
-    let a = valid-deliveries (s .subscriptions .lens) (s .deliveries) in
+    let a = valid-deliveries (s .subscriptions) (s .deliveries) in
     let b = in-phase open-phase s || eqb (s .deliveries .count) 0 in
     record {
       ids = record { sized = z; valid = valid-record s v };
-      holds = record { sized = y; valid = and-left a b o };
+      holds = record { sized = y; modes = record-modes s v; valid = and-left a b o };
       only-open = and-right a b o;
     }
 
 module _ (s : Session) (kept : Kept s) where
   pub kept-closed : Kept (closed s)
-  kept-closed = record { ids = held-closed s (kept .ids); holds = holds-emptied (s .subscriptions .lens) (s .deliveries) (kept .holds) .0; only-open = or-yes (in-phase open-phase (closed s)) }
+  kept-closed =
+      record {
+        ids = held-closed s (kept .ids);
+        holds = holds-none (s .subscriptions .lens) (s .subscriptions .modes) (kept .holds .modes) .0;
+        only-open = or-yes (in-phase open-phase (closed s));
+      }
 
   pub kept-heard : (time : ℕ) → Kept (heard s time)
   kept-heard time = record { ids = held-heard s (kept .ids) time; holds = kept .holds; only-open = kept .only-open }
@@ -123,9 +134,9 @@ module _ (s : Session) (kept : Kept s) where
 
   -- ---- a frame that may name an id
 
-  -- what each effect leaves: the ids' lengths and the deliveries go together
+  -- what each effect leaves: the ids' lengths, the modes and the deliveries go together
   abbrev Together : ℕ → List Entry → Type 0
-  Together n es = Holds ((id-effect s (changed-id (uses-of s n es))) .subscriptions .lens) (delivery-effect s n es)
+  Together n es = Holds ((id-effect s (changed-id (uses-of s n es))) .subscriptions .lens) (modes-effect s n es) (delivery-effect s n es)
 
   mode-known : (o : Option (List ℕ)) (m : Option ℕ) → mode-named o ≡ m → leb (mode-or-auto m) individual-mode ≡ true
   mode-known none m e = ap (λ z. leb (mode-or-auto z) individual-mode) (sym e)
@@ -146,28 +157,37 @@ module _ (s : Session) (kept : Kept s) where
   pub free-there : (id : List ℕ) → settle (use-checks id-max Free id (ids-of Subscriptions s)) [] ≡ accepted [] → (k : ℕ) × (place-named s (some id) ≡ some k)
   free-there id e = some-first (λ x. same x id) (ids-of Subscriptions s) (not-false (live id (ids-of Subscriptions s)) (use-live id-max Free id (ids-of Subscriptions s) [] [] e))
 
-  together-subscribe : (es : List Entry) (id : List ℕ) (m : ℕ) → leb m individual-mode ≡ true → settle (use-checks id-max Enter id (ids-of Subscriptions s)) [] ≡ accepted []
-      → Holds (lengths (used Enter id (ids-of Subscriptions s))) (subscribe (free-place s) m (s .deliveries))
-  together-subscribe es id m known e =
+  -- the modes, and what is left of the deliveries
+  abbrev ms : List ℕ
+  ms = s .subscriptions .modes
+
+  abbrev left : Option ℕ → Deliveries
+  left o = dropped o (s .deliveries)
+
+  together-subscribe : (id : List ℕ) (m : ℕ) → leb m individual-mode ≡ true → settle (use-checks id-max Enter id (ids-of Subscriptions s)) [] ≡ accepted []
+      → Holds (lengths (used Enter id (ids-of Subscriptions s))) (with-mode (free-place s) m ms) (s .deliveries)
+  together-subscribe id m known e =
       let (k, f) = enter-place id e in
-      subst (λ z. Holds z (subscribe (free-place s) m (s .deliveries))) (sym (lens-put empty id k f))
-      (subst (λ o. Holds (set (s .subscriptions .lens) k (length id)) (subscribe o m (s .deliveries))) (sym f)
-      (holds-subscribed (s .subscriptions .lens) (s .deliveries) (kept .holds) k (length id) m (lens-free k f) (some-long id (use-some id-max Enter id (ids-of Subscriptions s) [] [] e)) known))
+      subst (λ z. Holds z (with-mode (free-place s) m ms) (s .deliveries)) (sym (lens-put empty id k f))
+      (subst (λ o. Holds (set (s .subscriptions .lens) k (length id)) (with-mode o m ms) (s .deliveries)) (sym f)
+      (holds-subscribed (s .subscriptions .lens) ms (s .deliveries) (kept .holds) k (length id) m (lens-free k f)
+      (some-long id (use-some id-max Enter id (ids-of Subscriptions s) [] [] e)) known))
 
   together-unsubscribe : (id : List ℕ) → settle (use-checks id-max Free id (ids-of Subscriptions s)) [] ≡ accepted []
-      → Holds (lengths (used Free id (ids-of Subscriptions s))) (unsubscribe (place-named s (some id)) (s .deliveries))
+      → Holds (lengths (used Free id (ids-of Subscriptions s))) (with-mode (place-named s (some id)) auto-mode ms) (left (place-named s (some id)))
   together-unsubscribe id e =
       let (k, f) = free-there id e in
-      subst (λ z. Holds z (unsubscribe (place-named s (some id)) (s .deliveries))) (sym (lens-put (λ x. same x id) [] k f))
-      (subst (λ o. Holds (set (s .subscriptions .lens) k 0) (unsubscribe o (s .deliveries))) (sym f) (holds-unsubscribed (s .subscriptions .lens) (s .deliveries) (kept .holds) k .0))
+      subst (λ z. Holds z (with-mode (place-named s (some id)) auto-mode ms) (left (place-named s (some id)))) (sym (lens-put (λ x. same x id) [] k f))
+      (subst (λ o. Holds (set (s .subscriptions .lens) k 0) (with-mode o auto-mode ms) (left o)) (sym f)
+      (holds-dropped (s .subscriptions .lens) ms (s .deliveries) (kept .holds) k .0))
 
-  together-settled : (o : Option (List ℕ)) → Holds (s .subscriptions .lens) (settle-named o (s .deliveries))
+  together-settled : (o : Option (List ℕ)) → Holds (s .subscriptions .lens) ms (settle-named ms o (s .deliveries))
   together-settled none = kept .holds
   together-settled (some l) = by (first-of (labelled l) (pending (s .deliveries)))
     where
-      by : (o : Option Pending) → Holds (s .subscriptions .lens) (settled-as l (s .deliveries) o)
+      by : (o : Option Pending) → Holds (s .subscriptions .lens) ms (settled-as ms l (s .deliveries) o)
       by none = kept .holds
-      by (some p) = holds-settled (s .subscriptions .lens) (s .deliveries) (kept .holds) (labelled l) (goes-with (s .deliveries) p) .0
+      by (some p) = holds-settled (s .subscriptions .lens) ms (s .deliveries) (kept .holds) (labelled l) (goes-with ms p) .0
 
   -- ids of transactions leave the subscriptions as they are
   pub other-lens : (n : ℕ) (es : List Entry) → is SUBSCRIBE n ≡ false → is UNSUBSCRIBE n ≡ false → SameSubscriptions (id-effect s (changed-id (uses-of s n es))) s
@@ -196,48 +216,50 @@ module _ (s : Session) (kept : Kept s) where
   together : (n : ℕ) (es : List Entry) → Passed s n es → Together n es
   together n es p = by (is SUBSCRIBE n) (is UNSUBSCRIBE n) refl refl
     where
-      others : is SUBSCRIBE n ≡ false → is UNSUBSCRIBE n ≡ false → Holds (s .subscriptions .lens) (cond (settles n) (settle-named (label-named es) (s .deliveries)) (s .deliveries)) → Together n es
+      others : is SUBSCRIBE n ≡ false → is UNSUBSCRIBE n ≡ false
+          → Holds (s .subscriptions .lens) ms (cond (settles n) (settle-named ms (label-named es) (s .deliveries)) (s .deliveries)) → Together n es
       others a b h =
-          subst (λ z. Holds z (delivery-effect s n es)) (sym (ap (λ (x : SubscriptionIds). x .lens) (other-lens n es a b)))
-          (subst (λ t. Holds (s .subscriptions .lens) (cond t (subscribe (free-place s) (mode-or-auto (mode-asked es)) (s .deliveries)) (cond (is UNSUBSCRIBE n) (unsubscribe (place-named s (value-of Id es)) (s .deliveries)) (cond (settles n) (settle-named (label-named es) (s .deliveries)) (s .deliveries))))) (sym a)
-          (subst (λ t. Holds (s .subscriptions .lens) (cond t (unsubscribe (place-named s (value-of Id es)) (s .deliveries)) (cond (settles n) (settle-named (label-named es) (s .deliveries)) (s .deliveries)))) (sym b) h))
+          let modes-stay : modes-effect s n es ≡ ms = rw (a, b) in
+          let left-is : delivery-effect s n es ≡ cond (settles n) (settle-named ms (label-named es) (s .deliveries)) (s .deliveries) = rw b in
+          subst (λ z. Holds z (modes-effect s n es) (delivery-effect s n es)) (sym (ap (λ (x : SubscriptionStore). x .lens) (other-lens n es a b)))
+          (subst (λ z. Holds (s .subscriptions .lens) z (delivery-effect s n es)) (sym modes-stay) (subst (Holds (s .subscriptions .lens) ms) (sym left-is) h))
 
       entering : n ≡ 14 → Passed s 14 es → Together 14 es
       entering e q =
           let (id, v) = subscribe-id es (q .needs) in
-          subst (λ o. Holds ((id-effect s o) .subscriptions .lens) (delivery-effect s 14 es)) (sym (subscribe-changes s es id v))
-          (together-subscribe es id (mode-or-auto (mode-asked es)) (mode-known (value-of Ack es) (mode-asked es) refl) (subscribe-settles s es id v q))
+          subst (λ o. Holds ((id-effect s o) .subscriptions .lens) (modes-effect s 14 es) (s .deliveries)) (sym (subscribe-changes s es id v))
+          (together-subscribe id (mode-or-auto (mode-asked es)) (mode-known (value-of Ack es) (mode-asked es) refl) (subscribe-settles s es id v q))
 
       freeing : n ≡ 15 → Passed s 15 es → Together 15 es
       freeing e q =
           let (id, v) = unsubscribe-id es (q .needs) in
-          subst (λ o. Holds ((id-effect s o) .subscriptions .lens) (unsubscribe (place-named s (value-of Id es)) (s .deliveries))) (sym (unsubscribe-changes s es id v))
-          (subst (λ o. Holds (lengths (used Free id (ids-of Subscriptions s))) (unsubscribe (place-named s o) (s .deliveries))) (sym v)
+          subst (λ o. Holds ((id-effect s o) .subscriptions .lens) (modes-effect s 15 es) (delivery-effect s 15 es)) (sym (unsubscribe-changes s es id v))
+          (subst (λ o. Holds (lengths (used Free id (ids-of Subscriptions s))) (with-mode (place-named s o) auto-mode ms) (left (place-named s o))) (sym v)
           (together-unsubscribe id (unsubscribe-settles s es id v q)))
 
       by : (a b : Bool) → is SUBSCRIBE n ≡ a → is UNSUBSCRIBE n ≡ b → Together n es
       by true b e f = let k : n ≡ 14 = eqb-true n 14 e in subst (λ z. Passed s z es → Together z es) (sym k) (entering k) p
       by false true e f = let k : n ≡ 15 = eqb-true n 15 f in subst (λ z. Passed s z es → Together z es) (sym k) (freeing k) p
-      by false false e f = others e f (cond-case (Holds (s .subscriptions .lens)) (settles n) (λ t. together-settled (label-named es)) (λ t. kept .holds))
+      by false false e f = others e f (cond-case (Holds (s .subscriptions .lens) ms) (settles n) (λ t. together-settled (label-named es)) (λ t. kept .holds))
 
   -- a frame that is not the opening one comes in an open session
   open-yet : (n : ℕ) → opens n ≡ false → out-of-phase s n ≡ false → in-phase open-phase s ≡ true
   open-yet n o t = not-false (in-phase open-phase s) (sym (ap (λ z. cond z (not (in-phase fresh-phase s)) (not (in-phase open-phase s))) o) ∙ t)
 
   pub kept-effect : (n : ℕ) (es : List Entry) → Passed s n es → Kept (effect s n es)
-  kept-effect n es p = by (opens n) (is DISCONNECT n) refl refl (held-effect s (kept .ids) n es p)
+  kept-effect n es p = by (opens n) (is DISCONNECT n) refl refl
     where
-      by : (a b : Bool) → opens n ≡ a → is DISCONNECT n ≡ b → Held (effect s n es)
-          → Kept (cond a (opening s es) (cond b (closed s) (with-deliveries (id-effect s (changed-id (uses-of s n es))) (delivery-effect s n es))))
-      by true b o d h =
+      by : (a b : Bool) → opens n ≡ a → is DISCONNECT n ≡ b → Kept (cond a (opening s es) (cond b (closed s) (named-effect s n es)))
+      by true b o d =
           kept-opened (not-false (in-phase fresh-phase s) (sym (ap (λ t. cond t (not (in-phase fresh-phase s)) (not (in-phase open-phase s))) o) ∙ p .in-turn))
           (shared-by s (client-versions es)) (client-heart-beats es) (of-small (value-of HeartBeat es))
-      by false true o d h = kept-closed
-      by false false o d h =
+      by false true o d = kept-closed
+      by false false o d =
           record {
-            ids = held-deliveries (id-effect s (changed-id (uses-of s n es))) (held-changed s (kept .ids) (uses-of s n es) (p .named)) (delivery-effect s n es);
+            ids = held-named s (kept .ids) n es p;
             holds = together n es p;
-            only-open = ap (_|| eqb (delivery-effect s n es .count) 0) (ap (λ z. eqb z open-phase) (changed-phase s (changed-id (uses-of s n es))) ∙ open-yet n o (p .in-turn));
+            only-open = ap (_|| eqb (delivery-effect s n es .count) 0)
+                (ap (λ z. eqb z open-phase) (changed-phase s (changed-id (uses-of s n es))) ∙ open-yet n o (p .in-turn));
           }
 
   -- ---- a delivery
@@ -268,13 +290,13 @@ module _ (s : Session) (kept : Kept s) where
           let long : length id ≡ 0 = ap length (sym deliver-at) ∙ sym (List·getD-map length (ids-of Subscriptions s) k []) ∙ ap (λ z. getD z k 0) lens-are ∙ z in
           true≢false (sym (empty-zero id long) ∙ deliver-id)
 
-      module _ (a : eqb (mode-of (s .deliveries) k) auto-mode ≡ false) where
+      module _ (a : eqb (mode-of ms k) auto-mode ≡ false) where
         room : s .deliveries .count < 64
         room =
             leb-false 64 (s .deliveries .count)
             (and-false (not (is-auto s (place-named s (some id)))) (leb 64 (s .deliveries .count)) (passed .room) (ap (λ o. not (is-auto s o)) f ∙ ap not a))
 
-        sound : Proper (s .subscriptions .lens) (s .deliveries .modes) (record { place = k; label = label })
+        sound : Proper (s .subscriptions .lens) ms (record { place = k; label = label })
         sound =
             record {
               short = le-leb (length label) label-max (ltb-false label-max (length label) (or-false-right (empty label) (ltb label-max (length label)) good-label));
@@ -282,29 +304,32 @@ module _ (s : Session) (kept : Kept s) where
               acks = ap₂ (λ x y. not x && not y) (ne-eqb (getD (s .subscriptions .lens) k 0) 0 there) a;
             }
 
-        pub deliver-entered : Holds (s .subscriptions .lens) (with-pending (s .deliveries) (pending (s .deliveries) ++ (record { place = k; label = label } ∷ [])))
-            × (pending (with-pending (s .deliveries) (pending (s .deliveries) ++ (record { place = k; label = label } ∷ []))) ≡ pending (s .deliveries) ++ (record { place = k; label = label } ∷ []))
+        abbrev more : List Pending
+        more = pending (s .deliveries) ++ (record { place = k; label = label } ∷ [])
+
+        pub deliver-entered : Holds (s .subscriptions .lens) ms (deliveries-of more) × (pending (deliveries-of more) ≡ more)
         deliver-entered =
-            holds-snoc (s .subscriptions .lens) (s .deliveries) (kept .holds) (record { place = k; label = label }) room sound
+            holds-snoc (s .subscriptions .lens) ms (s .deliveries) (kept .holds) (record { place = k; label = label }) room sound
             (or-false-right (bad-length label-max label) (is-pending label (s .deliveries)) (passed .new-label))
 
-  kept-with : in-phase open-phase s ≡ true → (d : Deliveries) → Holds (s .subscriptions .lens) d → Kept (with-deliveries s d)
+  kept-with : in-phase open-phase s ≡ true → (d : Deliveries) → Holds (s .subscriptions .lens) ms d → Kept (with-deliveries s d)
   kept-with o d h = record { ids = held-deliveries s (kept .ids) d; holds = h; only-open = ap (_|| eqb (d .count) 0) o }
 
-  kept-recorded : (id label v : List ℕ) → settle (deliver-checks s id label) [] ≡ accepted v → Kept (with-deliveries s (record-label (place-named s (some id)) label (s .deliveries)))
+  kept-recorded : (id label v : List ℕ) → settle (deliver-checks s id label) [] ≡ accepted v → Kept (recording s id label)
   kept-recorded id label v e = placed (place-named s (some id)) refl
     where
-      placed : (o : Option ℕ) → place-named s (some id) ≡ o → Kept (with-deliveries s (record-label o label (s .deliveries)))
+      placed : (o : Option ℕ) → place-named s (some id) ≡ o → Kept (with-deliveries s (record-label ms o label (s .deliveries)))
       placed none f = kept-with (deliver-open id label v e) (s .deliveries) (kept .holds)
       placed (some k) f =
-          cond-case (λ d. Kept (with-deliveries s d)) (eqb (mode-of (s .deliveries) k) auto-mode) (λ a. kept-with (deliver-open id label v e) (s .deliveries) (kept .holds))
-          (λ a. kept-with (deliver-open id label v e) (with-pending (s .deliveries) (pending (s .deliveries) ++ (record { place = k; label = label } ∷ []))) (deliver-entered id label v e k f a .0))
+          cond-case (λ d. Kept (with-deliveries s d)) (eqb (mode-of ms k) auto-mode) (λ a. kept-with (deliver-open id label v e) (s .deliveries) (kept .holds))
+          (λ a. kept-with (deliver-open id label v e) (deliveries-of (pending (s .deliveries) ++ (record { place = k; label = label } ∷ [])))
+          (deliver-entered id label v e k f a .0))
 
   pub kept-deliver : (id label : List ℕ) → Kept (deliver-session s id label)
   unfolding deliver-session deliver-answer
   kept-deliver id label = by (deliver-answer s id label) refl
     where
-      by : (A : Answer) → settle (deliver-checks s id label) [] ≡ A → Kept (recorded-by A s (with-deliveries s (record-label (place-named s (some id)) label (s .deliveries))))
+      by : (A : Answer) → settle (deliver-checks s id label) [] ≡ A → Kept (recorded-by A s (recording s id label))
       by (refused k) e = kept
       by (accepted v) e = kept-recorded id label v e
 
@@ -331,11 +356,12 @@ kept-after s (c ∷ cs) k = kept-after (next s c) cs (kept-next s c k)
 
 -- ---- a session that is made
 
-pub made-none : (sends wants : ℕ) (offered : List Bool) → (made sends wants offered .deliveries ≡ no-deliveries) × (made sends wants offered .subscriptions .lens ≡ replicate 16 0)
+pub made-none : (sends wants : ℕ) (offered : List Bool)
+    → (made sends wants offered .deliveries ≡ no-deliveries) × (made sends wants offered .subscriptions ≡ no-subscriptions)
 unfolding made
 made-none sends wants offered = by (making-answer sends wants offered)
   where
-    by : (A : Answer) → (made-by A sends wants offered .deliveries ≡ no-deliveries) × (made-by A sends wants offered .subscriptions .lens ≡ replicate 16 0)
+    by : (A : Answer) → (made-by A sends wants offered .deliveries ≡ no-deliveries) × (made-by A sends wants offered .subscriptions ≡ no-subscriptions)
     by (accepted v) = (refl, refl)
     by (refused k) = (refl, refl)
 
@@ -347,20 +373,14 @@ made-ids sends wants offered = by (making-answer sends wants offered)
     by (accepted v) = zeros-ids id-max 16
     by (refused k) = zeros-ids id-max 16
 
-none-holds : Holds (replicate 16 0) no-deliveries
-unfolding valid-deliveries valid-store clean ids distinct
-none-holds =
-    record {
-      sized = record { labels-long = length-replicate {A = ℕ} 2048 0; lens-long = length-replicate {A = ℕ} 64 0; places-long = length-replicate {A = ℕ} 64 0; modes-long = length-replicate {A = ℕ} 16 0 };
-      valid = ap₂ (λ a b. (a && true) && (b && true)) (every-replicate (λ x. eqb x 0) 2048 0 refl) (every-replicate (λ x. eqb x 0) 64 0 refl);
-    }
-
 pub kept-made : (sends wants : ℕ) (offered : List Bool) → Kept (made sends wants offered)
+unfolding valid-modes
 kept-made sends wants offered =
-    let (d, l) = made-none sends wants offered in
+    let (d, t) = made-none sends wants offered in
     record {
       ids = held-made sends wants offered;
-      holds = subst (λ z. Holds z (made sends wants offered .deliveries)) (sym l) (subst (Holds (replicate 16 0)) (sym d) none-holds);
+      holds = subst (λ (z : SubscriptionStore). Holds (z .lens) (z .modes) (made sends wants offered .deliveries)) (sym t)
+          (subst (Holds (no-subscriptions .lens) (no-subscriptions .modes)) (sym d) (holds-none (no-subscriptions .lens) (no-subscriptions .modes) refl .0));
       only-open = ap (λ (z : Deliveries). in-phase open-phase (made sends wants offered) || eqb (z .count) 0) d ∙ or-yes (in-phase open-phase (made sends wants offered));
     }
 

@@ -15,7 +15,9 @@ use Rattle.headers.proofs.Rows.{and-left, and-right, cond-case, every-replicate
 use Rattle.stores.specs.Places.{is-zero}
 use Rattle.sessions.specs.Stores.{ids, laid, lengths, distinct, live, valid-store}
 use Rattle.sessions.specs.Sessions.{SizedDeliveries}
-use Rattle.sessions.specs.Deliveries.{deliveries-max, label-max, auto-mode, individual-mode, Pending, paired, pending, labels-of, places-of, filled, labelled, with-pending, with-modes, without, settled, emptied, unsubscribe, Laid, known-modes, idle-modes, valid-labels, acknowledging, valid-places, valid-modes, valid-pending, valid-deliveries}
+use Rattle.sessions.specs.Deliveries.{deliveries-max, label-max, auto-mode, individual-mode, Pending, paired, pending, labels-of, places-of}
+use Rattle.sessions.specs.Deliveries.{filled, labelled, deliveries-of, no-deliveries, without, settled, dropped, Laid}
+use Rattle.sessions.specs.Deliveries.{known-modes, idle-modes, valid-labels, acknowledging, valid-places, valid-modes, valid-pending}
 use Rattle.sessions.specs.Places.{Fits}
 use Rattle.sessions.specs.declared.delivery.Deliveries.{Deliveries}
 use Rattle.sessions.proofs.Rows.{same-apart}
@@ -51,22 +53,26 @@ module _ (ps : List Pending) (few : length ps ≤ 64) (short : are-short label-m
   places-long : length (places-of ps) ≡ length ps
   places-long = length-map ps (λ (p : Pending). p .place)
 
-  pub pending-with : (d : Deliveries) → pending (with-pending d ps) ≡ ps
-  unfolding with-pending
-  pending-with d =
-      ap₂ paired (filled-front 64 (length ps) (places-of ps) places-long)
-      (ap₂ (ids label-max) (filled-front 2048 (length ps * label-max) (laid label-max (labels-of ps)) octets-long) (filled-front 64 (length ps) (lengths (labels-of ps)) lens-long)
-      ∙ ids-laid label-max (labels-of ps) short)
-      ∙ paired-again ps
+  labels-front : take (length ps * label-max) (filled 2048 (laid label-max (labels-of ps))) ≡ laid label-max (labels-of ps)
+  labels-front = filled-front 2048 (length ps * label-max) (laid label-max (labels-of ps)) octets-long
 
-  pub sized-with : (d : Deliveries) → length (d .modes) ≡ 16 → SizedDeliveries (with-pending d ps)
-  unfolding with-pending
-  sized-with d h =
+  lens-front : take (length ps) (filled 64 (lengths (labels-of ps))) ≡ lengths (labels-of ps)
+  lens-front = filled-front 64 (length ps) (lengths (labels-of ps)) lens-long
+
+  places-front : take (length ps) (filled 64 (places-of ps)) ≡ places-of ps
+  places-front = filled-front 64 (length ps) (places-of ps) places-long
+
+  pub pending-with : pending (deliveries-of ps) ≡ ps
+  unfolding deliveries-of
+  pending-with = ap₂ paired places-front (ap₂ (ids label-max) labels-front lens-front ∙ ids-laid label-max (labels-of ps) short) ∙ paired-again ps
+
+  pub sized-with : SizedDeliveries (deliveries-of ps)
+  unfolding deliveries-of
+  sized-with =
       record {
         labels-long = filled-long 2048 (laid label-max (labels-of ps)) (omega (arith, octets-long));
         lens-long = filled-long 64 (lengths (labels-of ps)) (omega (arith, lens-long));
         places-long = filled-long 64 (places-of ps) (omega (arith, places-long));
-        modes-long = h;
       }
 
   there-lengths : every (λ (x : List ℕ). not (eqb (length x) 0)) (labels-of ps) ≡ true → every (λ l. not (eqb l 0)) (lengths (labels-of ps)) ≡ true
@@ -77,20 +83,19 @@ module _ (ps : List Pending) (few : length ps ≤ 64) (short : are-short label-m
       by (x ∷ xs) h = ap₂ (_&&_) (and-left (not (eqb (length x) 0)) (every (λ (y : List ℕ). not (eqb (length y) 0)) xs) h) (by xs (and-right (not (eqb (length x) 0)) (every (λ (y : List ℕ). not (eqb (length y) 0)) xs) h))
 
   -- such a record is valid where its labels are there and distinct, and each is of a subscription that acknowledges
-  pub valid-with : (lens : List ℕ) (d : Deliveries) → known-modes (d .modes) ≡ true → idle-modes lens (d .modes) ≡ true
-      → every (λ (x : List ℕ). not (eqb (length x) 0)) (labels-of ps) ≡ true → distinct (labels-of ps) ≡ true
-      → every (acknowledging lens (d .modes)) (places-of ps) ≡ true → valid-deliveries lens (with-pending d ps) ≡ true
-  unfolding with-pending valid-deliveries
-  valid-with lens d known idle there apart places =
-      ap₂ (_&&_) (le-leb (length ps) 64 few) (ap₂ (_&&_) (ap₂ (_&&_) known idle) (ap₂ (_&&_) labels
-      (ap₂ (_&&_) (ap (every (acknowledging lens (d .modes))) (filled-front 64 (length ps) (places-of ps) places-long) ∙ places) (filled-behind 64 (length ps) (places-of ps) places-long))))
+  pub valid-with : (lens ms : List ℕ) → every (λ (x : List ℕ). not (eqb (length x) 0)) (labels-of ps) ≡ true → distinct (labels-of ps) ≡ true
+      → every (acknowledging lens ms) (places-of ps) ≡ true → valid-pending lens ms (deliveries-of ps) ≡ true
+  unfolding deliveries-of valid-pending
+  valid-with lens ms there apart places =
+      ap₂ (_&&_) (le-leb (length ps) 64 few) (ap₂ (_&&_) labels
+      (ap₂ (_&&_) (ap (every (acknowledging lens ms)) places-front ∙ places) (filled-behind 64 (length ps) (places-of ps) places-long)))
     where
       labels : valid-labels (length ps) (filled 2048 (laid label-max (labels-of ps))) (filled 64 (lengths (labels-of ps))) ≡ true
       labels =
-          ap₂ (_&&_) (ap₂ (valid-store label-max) (filled-front 2048 (length ps * label-max) (laid label-max (labels-of ps)) octets-long) (filled-front 64 (length ps) (lengths (labels-of ps)) lens-long)
-          ∙ laid-valid label-max (labels-of ps) short apart)
-          (ap₂ (_&&_) (ap (every (λ l. not (eqb l 0))) (filled-front 64 (length ps) (lengths (labels-of ps)) lens-long) ∙ there-lengths there)
-          (ap₂ (_&&_) (filled-behind 2048 (length ps * label-max) (laid label-max (labels-of ps)) octets-long) (filled-behind 64 (length ps) (lengths (labels-of ps)) lens-long)))
+          ap₂ (_&&_) (ap₂ (valid-store label-max) labels-front lens-front ∙ laid-valid label-max (labels-of ps) short apart)
+          (ap₂ (_&&_) (ap (every (λ l. not (eqb l 0))) lens-front ∙ there-lengths there)
+          (ap₂ (_&&_) (filled-behind 2048 (length ps * label-max) (laid label-max (labels-of ps)) octets-long)
+          (filled-behind 64 (length ps) (lengths (labels-of ps)) lens-long)))
 
 -- ---- what the pending deliveries of a valid record are
 
@@ -151,23 +156,27 @@ apart-distinct (p ∷ ps) (a, more) =
     ap₂ (_&&_) (ap (λ t. empty (p .label) || not t) (any-map (λ x. same x (p .label)) (λ (q : Pending). q .label) ps ∙ a) ∙ or-yes (empty (p .label))) (apart-distinct ps more)
 
 -- deliveries that are good, laid out, are valid
-pub good-with : (lens : List ℕ) (d : Deliveries) (ps : List Pending) → known-modes (d .modes) ≡ true → idle-modes lens (d .modes) ≡ true → Good lens (d .modes) ps
-    → (valid-deliveries lens (with-pending d ps) ≡ true) × (pending (with-pending d ps) ≡ ps)
-good-with lens d ps known idle g =
-    let short : are-short label-max (labels-of ps) ≡ true = every-map (λ (x : List ℕ). leb (length x) label-max) (λ (p : Pending). p .label) ps ∙ all-every (λ (p : Pending). leb (length (p .label)) label-max) ps (all-with (λ p s. s .short) ps (g .each)) in (
-      valid-with ps (g .few) short lens d known idle
-          (every-map (λ (x : List ℕ). not (eqb (length x) 0)) (λ (p : Pending). p .label) ps ∙ all-every (λ (p : Pending). not (eqb (length (p .label)) 0)) ps (all-with (λ p s. s .there) ps (g .each)))
-          (apart-distinct ps (g .apart))
-          (every-map (acknowledging lens (d .modes)) (λ (p : Pending). p .place) ps ∙ all-every (λ (p : Pending). acknowledging lens (d .modes) (p .place)) ps (all-with (λ p s. s .acks) ps (g .each))),
-      pending-with ps (g .few) short d,
-    )
+module _ (lens ms : List ℕ) (ps : List Pending) (g : Good lens ms ps) where
+  good-short : are-short label-max (labels-of ps) ≡ true
+  good-short =
+      every-map (λ (x : List ℕ). leb (length x) label-max) (λ (p : Pending). p .label) ps
+      ∙ all-every (λ (p : Pending). leb (length (p .label)) label-max) ps (all-with (λ p s. s .short) ps (g .each))
 
-good-short : (lens ms : List ℕ) (ps : List Pending) → Good lens ms ps → are-short label-max (labels-of ps) ≡ true
-good-short lens ms ps g =
-    every-map (λ (x : List ℕ). leb (length x) label-max) (λ (p : Pending). p .label) ps ∙ all-every (λ (p : Pending). leb (length (p .label)) label-max) ps (all-with (λ p s. s .short) ps (g .each))
+  good-there : every (λ (x : List ℕ). not (eqb (length x) 0)) (labels-of ps) ≡ true
+  good-there =
+      every-map (λ (x : List ℕ). not (eqb (length x) 0)) (λ (p : Pending). p .label) ps
+      ∙ all-every (λ (p : Pending). not (eqb (length (p .label)) 0)) ps (all-with (λ p s. s .there) ps (g .each))
 
-pub good-sized : (lens : List ℕ) (d : Deliveries) (ps : List Pending) → Good lens (d .modes) ps → length (d .modes) ≡ 16 → SizedDeliveries (with-pending d ps)
-good-sized lens d ps g h = sized-with ps (g .few) (good-short lens (d .modes) ps g) d h
+  good-acks : every (acknowledging lens ms) (places-of ps) ≡ true
+  good-acks =
+      every-map (acknowledging lens ms) (λ (p : Pending). p .place) ps
+      ∙ all-every (λ (p : Pending). acknowledging lens ms (p .place)) ps (all-with (λ p s. s .acks) ps (g .each))
+
+  pub good-with : (valid-pending lens ms (deliveries-of ps) ≡ true) × (pending (deliveries-of ps) ≡ ps)
+  good-with = (valid-with ps (g .few) good-short lens ms good-there (apart-distinct ps (g .apart)) good-acks, pending-with ps (g .few) good-short)
+
+  pub good-sized : SizedDeliveries (deliveries-of ps)
+  good-sized = sized-with ps (g .few) good-short
 
 pub places-paired : (ps : List ℕ) (ls : List (List ℕ)) → length ps ≡ length ls → places-of (paired ps ls) ≡ ps
 places-paired [] ls h = refl
@@ -180,38 +189,30 @@ labels-paired [] (l ∷ ls) h = absurd (omega arith)
 labels-paired (p ∷ ps) [] h = absurd (omega arith)
 labels-paired (p ∷ ps) (l ∷ ls) h = ap (l ∷_) (labels-paired ps ls (omega arith))
 
-module _ (lens : List ℕ) (d : Deliveries) (sized : SizedDeliveries d) (valid : valid-deliveries lens d ≡ true) where
-  parts : (leb (d .count) deliveries-max ≡ true) × (known-modes (d .modes) ≡ true) × (idle-modes lens (d .modes) ≡ true)
-      × (valid-labels (d .count) (d .labels) (d .lens) ≡ true) × (valid-places (d .count) (d .places) lens (d .modes) ≡ true)
-  unfolding valid-deliveries
+module _ (lens ms : List ℕ) (d : Deliveries) (sized : SizedDeliveries d) (valid : valid-pending lens ms d ≡ true) where
+  parts : (leb (d .count) deliveries-max ≡ true) × (valid-labels (d .count) (d .labels) (d .lens) ≡ true)
+      × (valid-places (d .count) (d .places) lens ms ≡ true)
+  unfolding valid-pending
   parts =
-      let a = and-right (leb (d .count) deliveries-max) (valid-modes lens d && valid-pending lens d (d .count)) valid in
-      let b = and-left (valid-modes lens d) (valid-pending lens d (d .count)) a in
-      let c = and-right (valid-modes lens d) (valid-pending lens d (d .count)) a in (
-        and-left (leb (d .count) deliveries-max) (valid-modes lens d && valid-pending lens d (d .count)) valid,
-        and-left (known-modes (d .modes)) (idle-modes lens (d .modes)) b,
-        and-right (known-modes (d .modes)) (idle-modes lens (d .modes)) b,
-        and-left (valid-labels (d .count) (d .labels) (d .lens)) _ c,
-        and-right (valid-labels (d .count) (d .labels) (d .lens)) _ c,
+      let a = and-right (leb (d .count) deliveries-max) _ valid in (
+        and-left (leb (d .count) deliveries-max) _ valid,
+        and-left (valid-labels (d .count) (d .labels) (d .lens)) _ a,
+        and-right (valid-labels (d .count) (d .labels) (d .lens)) _ a,
       )
 
   pub held-few : d .count ≤ 64
   held-few = leb-true (d .count) 64 (parts .0)
 
-  pub held-known : known-modes (d .modes) ≡ true
-  held-known = parts .1
-
-  pub held-idle : idle-modes lens (d .modes) ≡ true
-  held-idle = parts .2
-
   store-valid : valid-store label-max (take (d .count * label-max) (d .labels)) (take (d .count) (d .lens)) ≡ true
-  store-valid = and-left (valid-store label-max (take (d .count * label-max) (d .labels)) (take (d .count) (d .lens))) _ (parts .3)
+  store-valid = and-left (valid-store label-max (take (d .count * label-max) (d .labels)) (take (d .count) (d .lens))) _ (parts .1)
 
   lens-there : every (λ l. not (eqb l 0)) (take (d .count) (d .lens)) ≡ true
-  lens-there = and-left (every (λ l. not (eqb l 0)) (take (d .count) (d .lens))) _ (and-right (valid-store label-max (take (d .count * label-max) (d .labels)) (take (d .count) (d .lens))) _ (parts .3))
+  lens-there =
+      and-left (every (λ l. not (eqb l 0)) (take (d .count) (d .lens))) _
+      (and-right (valid-store label-max (take (d .count * label-max) (d .labels)) (take (d .count) (d .lens))) _ (parts .1))
 
-  pub places-ack : every (acknowledging lens (d .modes)) (take (d .count) (d .places)) ≡ true
-  places-ack = and-left (every (acknowledging lens (d .modes)) (take (d .count) (d .places))) _ (parts .4)
+  pub places-ack : every (acknowledging lens ms) (take (d .count) (d .places)) ≡ true
+  places-ack = and-left (every (acknowledging lens ms) (take (d .count) (d .places))) _ (parts .2)
 
   front-fits : Fits label-max (d .count) (take (d .count * label-max) (d .labels)) (take (d .count) (d .lens))
   front-fits =
@@ -244,13 +245,13 @@ module _ (lens : List ℕ) (d : Deliveries) (sized : SizedDeliveries d) (valid :
       every-all (λ (p : Pending). leb (length (p .label)) label-max) (pending d)
       (sym (every-map (λ (x : List ℕ). leb (length x) label-max) (λ (p : Pending). p .label) (pending d)) ∙ ap (are-short label-max) held-labels ∙ ids-short label-max (d .count) _ _ front-fits)
 
-  acks-all : All (λ (p : Pending). acknowledging lens (d .modes) (p .place) ≡ true) (pending d)
+  acks-all : All (λ (p : Pending). acknowledging lens ms (p .place) ≡ true) (pending d)
   acks-all =
-      every-all (λ (p : Pending). acknowledging lens (d .modes) (p .place)) (pending d)
-      (sym (every-map (acknowledging lens (d .modes)) (λ (p : Pending). p .place) (pending d)) ∙ ap (every (acknowledging lens (d .modes))) held-places ∙ places-ack)
+      every-all (λ (p : Pending). acknowledging lens ms (p .place)) (pending d)
+      (sym (every-map (acknowledging lens ms) (λ (p : Pending). p .place) (pending d)) ∙ ap (every (acknowledging lens ms)) held-places ∙ places-ack)
 
   -- those of a valid record are good
-  pub held-good : Good lens (d .modes) (pending d)
+  pub held-good : Good lens ms (pending d)
   held-good =
       record {
         few = omega (arith, held-count, held-few);
@@ -258,42 +259,51 @@ module _ (lens : List ℕ) (d : Deliveries) (sized : SizedDeliveries d) (valid :
         apart = distinct-apart (pending d) there-all (ap distinct held-labels ∙ valid-distinct label-max _ _ store-valid);
       }
     where
-      sounds : (ps : List Pending) → All (λ (p : Pending). leb (length (p .label)) label-max ≡ true) ps → All (λ (p : Pending). not (eqb (length (p .label)) 0) ≡ true) ps
-          → All (λ (p : Pending). acknowledging lens (d .modes) (p .place) ≡ true) ps → All (Proper lens (d .modes)) ps
+      sounds : (ps : List Pending) → All (λ (p : Pending). leb (length (p .label)) label-max ≡ true) ps
+          → All (λ (p : Pending). not (eqb (length (p .label)) 0) ≡ true) ps
+          → All (λ (p : Pending). acknowledging lens ms (p .place) ≡ true) ps → All (Proper lens ms) ps
       sounds [] a b c = tt
       sounds (p ∷ ps) (a, x) (b, y) (c, z) = (record { short = a; there = b; acks = c }, sounds ps x y z)
 
-  behind-zero : (is-zero (drop (d .count * label-max) (d .labels)) ≡ true) × (is-zero (drop (d .count) (d .lens)) ≡ true) × (is-zero (drop (d .count) (d .places)) ≡ true)
+  behind-zero : (is-zero (drop (d .count * label-max) (d .labels)) ≡ true) × (is-zero (drop (d .count) (d .lens)) ≡ true)
+      × (is-zero (drop (d .count) (d .places)) ≡ true)
   behind-zero =
-      let rest = and-right (every (λ l. not (eqb l 0)) (take (d .count) (d .lens))) _ (and-right (valid-store label-max (take (d .count * label-max) (d .labels)) (take (d .count) (d .lens))) _ (parts .3)) in (
+      let rest = and-right (every (λ l. not (eqb l 0)) (take (d .count) (d .lens))) _
+      (and-right (valid-store label-max (take (d .count * label-max) (d .labels)) (take (d .count) (d .lens))) _ (parts .1)) in (
         and-left (is-zero (drop (d .count * label-max) (d .labels))) _ rest,
         and-right (is-zero (drop (d .count * label-max) (d .labels))) _ rest,
-        and-right (every (acknowledging lens (d .modes)) (take (d .count) (d .places))) _ (parts .4),
+        and-right (every (acknowledging lens ms) (take (d .count) (d .places))) _ (parts .2),
       )
 
-  -- with other modes and subscriptions
-  pub valid-again : (lens′ ms : List ℕ) → known-modes ms ≡ true → idle-modes lens′ ms ≡ true → Good lens′ ms (pending d) → valid-deliveries lens′ (with-modes d ms) ≡ true
-  unfolding valid-deliveries
-  valid-again lens′ ms known idle g =
-      ap₂ (_&&_) (parts .0) (ap₂ (_&&_) (ap₂ (_&&_) known idle) (ap₂ (_&&_) (parts .3)
-      (ap₂ (_&&_) (ap (every (acknowledging lens′ ms)) (sym held-places) ∙ every-map (acknowledging lens′ ms) (λ (p : Pending). p .place) (pending d)
-      ∙ all-every (λ (p : Pending). acknowledging lens′ ms (p .place)) (pending d) (all-with (λ p s. s .acks) (pending d) (g .each)))
-      (and-right (every (acknowledging lens (d .modes)) (take (d .count) (d .places))) _ (parts .4)))))
+  -- with other subscriptions
+  pub valid-again : (lens′ ms′ : List ℕ) → Good lens′ ms′ (pending d) → valid-pending lens′ ms′ d ≡ true
+  unfolding valid-pending
+  valid-again lens′ ms′ g =
+      ap₂ (_&&_) (parts .0) (ap₂ (_&&_) (parts .1)
+      (ap₂ (_&&_) (ap (every (acknowledging lens′ ms′)) (sym held-places) ∙ good-acks lens′ ms′ (pending d) g)
+      (and-right (every (acknowledging lens ms) (take (d .count) (d .places))) _ (parts .2))))
 
--- a record that holds none is emptied
-pub emptied-laid : (d : Deliveries) → SizedDeliveries d → is-zero (drop (d .count * label-max) (d .labels)) ≡ true → is-zero (drop (d .count) (d .lens)) ≡ true
-    → is-zero (drop (d .count) (d .places)) ≡ true → d .count ≡ 0 → emptied d ≡ d
-emptied-laid d sized labels-zero lens-zero places-zero e =
-    let a : d .labels ≡ replicate 2048 0 = zeros (d .labels) (sym (ap (λ n. is-zero (drop (n * label-max) (d .labels))) e) ∙ labels-zero) ∙ ap (λ n. replicate n 0) (sized .labels-long) in
-    let b : d .lens ≡ replicate 64 0 = zeros (d .lens) (sym (ap (λ n. is-zero (drop n (d .lens))) e) ∙ lens-zero) ∙ ap (λ n. replicate n 0) (sized .lens-long) in
-    let c : d .places ≡ replicate 64 0 = zeros (d .places) (sym (ap (λ n. is-zero (drop n (d .places))) e) ∙ places-zero) ∙ ap (λ n. replicate n 0) (sized .places-long) in
-    ap₂ (λ x y. record { labels = x; lens = y; places = replicate 64 0; modes = d .modes; count = 0 }) (sym a) (sym b)
-    ∙ ap₂ (λ x y. record { labels = d .labels; lens = d .lens; places = x; modes = d .modes; count = y }) (sym c) (sym e)
+-- a record that holds none is the one without deliveries
+pub none-laid : (d : Deliveries) → SizedDeliveries d → is-zero (drop (d .count * label-max) (d .labels)) ≡ true
+    → is-zero (drop (d .count) (d .lens)) ≡ true → is-zero (drop (d .count) (d .places)) ≡ true → d .count ≡ 0 → no-deliveries ≡ d
+none-laid d sized labels-zero lens-zero places-zero e =
+    ap₂ (λ x y. record { labels = x; lens = y; places = replicate 64 0; count = 0 }) (sym labels-are) (sym lens-are)
+    ∙ ap₂ (λ x y. record { labels = d .labels; lens = d .lens; places = x; count = y }) (sym places-are) (sym e)
+  where
+    labels-are : d .labels ≡ replicate 2048 0
+    labels-are =
+        zeros (d .labels) (sym (ap (λ n. is-zero (drop (n * label-max) (d .labels))) e) ∙ labels-zero) ∙ ap (λ n. replicate n 0) (sized .labels-long)
 
-pub emptied-same : (lens : List ℕ) (d : Deliveries) → SizedDeliveries d → valid-deliveries lens d ≡ true → d .count ≡ 0 → emptied d ≡ d
-emptied-same lens d sized valid e =
-    let (labels-zero, lens-zero, places-zero) = behind-zero lens d sized valid in
-    emptied-laid d sized labels-zero lens-zero places-zero e
+    lens-are : d .lens ≡ replicate 64 0
+    lens-are = zeros (d .lens) (sym (ap (λ n. is-zero (drop n (d .lens))) e) ∙ lens-zero) ∙ ap (λ n. replicate n 0) (sized .lens-long)
+
+    places-are : d .places ≡ replicate 64 0
+    places-are = zeros (d .places) (sym (ap (λ n. is-zero (drop n (d .places))) e) ∙ places-zero) ∙ ap (λ n. replicate n 0) (sized .places-long)
+
+pub none-same : (lens ms : List ℕ) (d : Deliveries) → SizedDeliveries d → valid-pending lens ms d ≡ true → d .count ≡ 0 → no-deliveries ≡ d
+none-same lens ms d sized valid e =
+    let (labels-zero, lens-zero, places-zero) = behind-zero lens ms d sized valid in
+    none-laid d sized labels-zero lens-zero places-zero e
 
 -- ---- fewer deliveries
 
@@ -415,69 +425,78 @@ idle-set (x ∷ lens) (y ∷ ms) zero l m h e = ap₂ (_&&_) e (and-right (not (
 idle-set (x ∷ lens) (y ∷ ms) (suc k) l m h e =
     ap₂ (_&&_) (and-left (not (eqb x 0) || eqb y auto-mode) (idle-modes lens ms) h) (idle-set lens ms k l m (and-right (not (eqb x 0) || eqb y auto-mode) (idle-modes lens ms) h) e)
 
--- ---- the deliveries of a session that is kept valid
+-- ---- the modes and the deliveries of a session that is kept valid, over the lengths of its subscriptions' ids
 
-pub record Holds (lens : List ℕ) (d : Deliveries) : Type 0 where
+pub record Holds (lens ms : List ℕ) (d : Deliveries) : Type 0 where
   pub sized : SizedDeliveries d
-  pub valid : valid-deliveries lens d ≡ true
+  pub modes : valid-modes lens ms ≡ true
+  pub valid : valid-pending lens ms d ≡ true
 
-holds-with : (lens : List ℕ) (d : Deliveries) (ps : List Pending) → length (d .modes) ≡ 16 → known-modes (d .modes) ≡ true → idle-modes lens (d .modes) ≡ true → Good lens (d .modes) ps
-    → Holds lens (with-pending d ps) × (pending (with-pending d ps) ≡ ps)
-holds-with lens d ps long known idle g =
-    let (v, e) = good-with lens d ps known idle g in (record { sized = good-sized lens d ps g long; valid = v }, e)
+-- modes that are valid, with deliveries that are good
+holds-of : (lens ms : List ℕ) (ps : List Pending) → valid-modes lens ms ≡ true → Good lens ms ps
+    → Holds lens ms (deliveries-of ps) × (pending (deliveries-of ps) ≡ ps)
+holds-of lens ms ps modes g =
+    let (v, e) = good-with lens ms ps g in (record { sized = good-sized lens ms ps g; modes = modes; valid = v }, e)
 
-module _ (lens : List ℕ) (d : Deliveries) (h : Holds lens d) where
-  abbrev known : known-modes (d .modes) ≡ true
-  known = held-known lens d (h .sized) (h .valid)
+pub holds-none : (lens ms : List ℕ) → valid-modes lens ms ≡ true → Holds lens ms no-deliveries × (pending no-deliveries ≡ [])
+unfolding deliveries-of laid
+holds-none lens ms modes = holds-of lens ms [] modes (record { few = omega arith; each = tt; apart = tt })
 
-  abbrev idle : idle-modes lens (d .modes) ≡ true
-  idle = held-idle lens d (h .sized) (h .valid)
+module _ (lens ms : List ℕ) (d : Deliveries) (h : Holds lens ms d) where
+  known : known-modes ms ≡ true
+  unfolding valid-modes
+  known = and-left (known-modes ms) (idle-modes lens ms) (h .modes)
 
-  pub good : Good lens (d .modes) (pending d)
-  good = held-good lens d (h .sized) (h .valid)
+  pub idle : idle-modes lens ms ≡ true
+  unfolding valid-modes
+  idle = and-right (known-modes ms) (idle-modes lens ms) (h .modes)
 
-  pub holds-emptied : Holds lens (emptied d) × (pending (emptied d) ≡ [])
-  unfolding with-pending laid
-  holds-emptied = holds-with lens d [] (h .sized .modes-long) known idle (record { few = omega arith; each = tt; apart = tt })
+  pub good : Good lens ms (pending d)
+  good = held-good lens ms d (h .sized) (h .valid)
 
-  pub holds-settled : (f g : Pending → Bool) → Holds lens (with-pending d (settled f g (pending d))) × (pending (with-pending d (settled f g (pending d))) ≡ settled f g (pending d))
-  holds-settled f g = holds-with lens d (settled f g (pending d)) (h .sized .modes-long) known idle (good-settled f g lens (d .modes) (pending d) good)
+  pub holds-settled : (f g : Pending → Bool)
+      → Holds lens ms (deliveries-of (settled f g (pending d))) × (pending (deliveries-of (settled f g (pending d))) ≡ settled f g (pending d))
+  holds-settled f g = holds-of lens ms (settled f g (pending d)) (h .modes) (good-settled f g lens ms (pending d) good)
 
-  pub holds-snoc : (p : Pending) → d .count < 64 → Proper lens (d .modes) p → any (labelled (p .label)) (pending d) ≡ false
-      → Holds lens (with-pending d (pending d ++ (p ∷ []))) × (pending (with-pending d (pending d ++ (p ∷ []))) ≡ pending d ++ (p ∷ []))
+  pub holds-snoc : (p : Pending) → d .count < 64 → Proper lens ms p → any (labelled (p .label)) (pending d) ≡ false
+      → Holds lens ms (deliveries-of (pending d ++ (p ∷ []))) × (pending (deliveries-of (pending d ++ (p ∷ []))) ≡ pending d ++ (p ∷ []))
   holds-snoc p room s new =
-      holds-with lens d (pending d ++ (p ∷ [])) (h .sized .modes-long) known idle
-      (good-snoc lens (d .modes) (pending d) p good (omega (arith, room, held-count lens d (h .sized) (h .valid))) s new)
+      holds-of lens ms (pending d ++ (p ∷ [])) (h .modes)
+      (good-snoc lens ms (pending d) p good (omega (arith, room, held-count lens ms d (h .sized) (h .valid))) s new)
+
+  -- the modes with one set, where the place is taken or the mode is auto
+  set-valid : (k l m : ℕ) → leb m individual-mode ≡ true → not (eqb l 0) || eqb m auto-mode ≡ true → valid-modes (set lens k l) (set ms k m) ≡ true
+  unfolding valid-modes
+  set-valid k l m m-known m-idle = ap₂ (_&&_) (known-set ms k m known m-known) (idle-set lens ms k l m idle m-idle)
 
   -- UNSUBSCRIBE
-  pub holds-unsubscribed : (k : ℕ)
-      → Holds (set lens k 0) (unsubscribe (some k) d) × (pending (unsubscribe (some k) d) ≡ without (λ (p : Pending). eqb (p .place) k) (pending d))
-  unfolding with-pending
-  holds-unsubscribed k =
-      holds-with (set lens k 0) (with-modes d (set (d .modes) k auto-mode)) (without (λ (p : Pending). eqb (p .place) k) (pending d))
-      (length-set (d .modes) k auto-mode ∙ h .sized .modes-long) (known-set (d .modes) k auto-mode known refl) (idle-set lens (d .modes) k 0 auto-mode idle refl)
-      (good-elsewhere lens (d .modes) k 0 auto-mode (without (λ (p : Pending). eqb (p .place) k) (pending d))
-      (all-with (λ p e. eqb-false (p .place) k e) (without (λ (p : Pending). eqb (p .place) k) (pending d)) (without-fail (λ (p : Pending). eqb (p .place) k) (pending d)))
-      (good-without (λ (p : Pending). eqb (p .place) k) lens (d .modes) (pending d) good))
+  pub holds-dropped : (k : ℕ)
+      → Holds (set lens k 0) (set ms k auto-mode) (dropped (some k) d) × (pending (dropped (some k) d) ≡ without (λ (p : Pending). eqb (p .place) k) (pending d))
+  holds-dropped k =
+      let left = without (λ (p : Pending). eqb (p .place) k) (pending d) in
+      holds-of (set lens k 0) (set ms k auto-mode) left (set-valid k 0 auto-mode refl refl)
+      (good-elsewhere lens ms k 0 auto-mode left
+      (all-with (λ p e. eqb-false (p .place) k e) left (without-fail (λ (p : Pending). eqb (p .place) k) (pending d)))
+      (good-without (λ (p : Pending). eqb (p .place) k) lens ms (pending d) good))
 
   -- SUBSCRIBE: the layout stays
-  pub holds-subscribed : (k l m : ℕ) → getD lens k 0 ≡ 0 → (l ≡ 0 → ⊥) → leb m individual-mode ≡ true → Holds (set lens k l) (with-modes d (set (d .modes) k m))
+  pub holds-subscribed : (k l m : ℕ) → getD lens k 0 ≡ 0 → (l ≡ 0 → ⊥) → leb m individual-mode ≡ true → Holds (set lens k l) (set ms k m) d
   holds-subscribed k l m free some-l m-known =
       record {
-        sized = record { labels-long = h .sized .labels-long; lens-long = h .sized .lens-long; places-long = h .sized .places-long; modes-long = length-set (d .modes) k m ∙ h .sized .modes-long };
-        valid = valid-again lens d (h .sized) (h .valid) (set lens k l) (set (d .modes) k m) (known-set (d .modes) k m known m-known)
-            (idle-set lens (d .modes) k l m idle (ap (λ t. not t || eqb m auto-mode) (ne-eqb l 0 some-l)))
-            (good-elsewhere lens (d .modes) k l m (pending d) (free-elsewhere lens (d .modes) k (pending d) free (good .each)) good);
+        sized = h .sized;
+        modes = set-valid k l m m-known (ap (λ t. not t || eqb m auto-mode) (ne-eqb l 0 some-l));
+        valid = valid-again lens ms d (h .sized) (h .valid) (set lens k l) (set ms k m)
+            (good-elsewhere lens ms k l m (pending d) (free-elsewhere lens ms k (pending d) free (good .each)) good);
       }
 
 -- what the code that moves deliveries relies on
-pub holds-laid : (lens : List ℕ) (d : Deliveries) → Holds lens d → Laid d
-holds-laid lens d h =
-    let (a, b, c) = behind-zero lens d (h .sized) (h .valid) in
+pub holds-laid : (lens ms : List ℕ) (d : Deliveries) → Holds lens ms d → Laid d
+holds-laid lens ms d h =
+    let (a, b, c) = behind-zero lens ms d (h .sized) (h .valid) in
     record {
-      few = held-few lens d (h .sized) (h .valid);
-      clean-yes = valid-clean label-max _ _ (store-valid lens d (h .sized) (h .valid));
-      short-yes = valid-short label-max _ _ (store-valid lens d (h .sized) (h .valid));
+      few = held-few lens ms d (h .sized) (h .valid);
+      clean-yes = valid-clean label-max _ _ (store-valid lens ms d (h .sized) (h .valid));
+      short-yes = valid-short label-max _ _ (store-valid lens ms d (h .sized) (h .valid));
       labels-zero = a;
       lens-zero = b;
       places-zero = c;

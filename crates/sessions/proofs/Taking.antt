@@ -21,7 +21,7 @@ use Rattle.sessions.specs.Stores.{ids, laid, lengths, clean}
 use Rattle.sessions.specs.Places.{Fits, put-in}
 use Rattle.stores.specs.Compaction.{rows, joined, stays-at, kept, kept-octets, kept-in, Compacts}
 use Rattle.sessions.specs.Sessions.{SizedDeliveries}
-use Rattle.sessions.specs.Deliveries.{label-max, Pending, paired, pending, labels-of, places-of, filled, with-pending, labelled, without, settled, Laid}
+use Rattle.sessions.specs.Deliveries.{label-max, Pending, paired, pending, labels-of, places-of, filled, deliveries-of, labelled, without, settled, Laid}
 use Rattle.stores.specs.declared.compaction.Range.{Range}
 use Rattle.sessions.specs.declared.delivery.Deliveries.{Deliveries}
 use Rattle.stores.proofs.Filling.{padded-take, zeros, padded-long}
@@ -163,15 +163,15 @@ module _ (d : Deliveries) (sized : SizedDeliveries d) (l : Laid d) where
 
   pub without-laid : (g : Range) (a b c : List ℕ) (i j r m : ℕ) → Puts (kept-octets g 32 0 store places) i (replicate 2048 0) a → Puts (kept-octets g 1 0 lens places) j (replicate 64 0) b
       → Puts (kept-octets g 1 0 places places) r (replicate 64 0) c → length (kept-octets g 32 0 store places) ≤ 2048 → length (kept-octets g 1 0 lens places) ≤ 64 → length (kept-octets g 1 0 places places) ≤ 64
-      → m ≡ r → record { labels = a; lens = b; places = c; modes = d .modes; count = m } ≡ with-pending d (staying g)
-  unfolding with-pending
+      → m ≡ r → record { labels = a; lens = b; places = c; count = m } ≡ deliveries-of (staying g)
+  unfolding deliveries-of
   without-laid g a b c i j r m pa pb pc la lb lc e =
       let x : a ≡ filled 2048 (laid label-max (labels-of (staying g))) = filled-put 2048 i (kept-octets g 32 0 store places) a pa la ∙ ap (filled 2048) (kept-labels g) in
       let y : b ≡ filled 64 (lengths (labels-of (staying g))) = filled-put 64 j (kept-octets g 1 0 lens places) b pb lb ∙ ap (filled 64) (kept-lens g) in
       let z : c ≡ filled 64 (places-of (staying g)) = filled-put 64 r (kept-octets g 1 0 places places) c pc lc ∙ ap (filled 64) (kept-places g) in
       let w : m ≡ length (staying g) = e ∙ pc .0 ∙ ap length (kept-places g) ∙ length-map (staying g) (λ (p : Pending). p .place) in
-      ap₂ (λ x y. record { labels = x; lens = y; places = c; modes = d .modes; count = m }) x y
-      ∙ ap₂ (λ x y. record { labels = filled 2048 (laid label-max (labels-of (staying g))); lens = filled 64 (lengths (labels-of (staying g))); places = x; modes = d .modes; count = y }) z w
+      ap₂ (λ x y. record { labels = x; lens = y; places = c; count = m }) x y
+      ∙ ap₂ (λ x y. record { labels = filled 2048 (laid label-max (labels-of (staying g))); lens = filled 64 (lengths (labels-of (staying g))); places = x; count = y }) z w
 
   -- how long they are
   pub kept-room : (g : Range) → (length (kept-octets g 32 0 store places) ≤ 2048) × (length (kept-octets g 1 0 lens places) ≤ 64) × (length (kept-octets g 1 0 places places) ≤ 64)
@@ -193,12 +193,12 @@ module _ (d : Deliveries) (sized : SizedDeliveries d) (l : Laid d) where
   -- ---- one more
 
   pub entered-laid : (place : ℕ) (label labels : List ℕ) (m : ℕ) → d .count < 64 → length label ≤ 32 → labels ≡ put-in 32 (d .labels) (d .count) label → m ≡ length label
-      → record { labels = labels; lens = set (d .lens) (d .count) m; places = set (d .places) (d .count) place; modes = d .modes; count = d .count + 1 }
-      ≡ with-pending d (pending d ++ (record { place = place; label = label } ∷ []))
-  unfolding with-pending
+      → record { labels = labels; lens = set (d .lens) (d .count) m; places = set (d .places) (d .count) place; count = d .count + 1 }
+      ≡ deliveries-of (pending d ++ (record { place = place; label = label } ∷ []))
+  unfolding deliveries-of
   entered-laid place label labels m room short put e =
-      ap₂ (λ x y. record { labels = x; lens = y; places = set (d .places) (d .count) place; modes = d .modes; count = d .count + 1 }) octets lengths-are
-      ∙ ap₂ (λ x y. record { labels = filled 2048 (laid label-max (labels-of more)); lens = filled 64 (lengths (labels-of more)); places = x; modes = d .modes; count = y }) places-set count-is
+      ap₂ (λ x y. record { labels = x; lens = y; places = set (d .places) (d .count) place; count = d .count + 1 }) octets lengths-are
+      ∙ ap₂ (λ x y. record { labels = filled 2048 (laid label-max (labels-of more)); lens = filled 64 (lengths (labels-of more)); places = x; count = y }) places-set count-is
     where
       more : List Pending
       more = pending d ++ (record { place = place; label = label } ∷ [])
@@ -247,10 +247,10 @@ module _ (d : Deliveries) (sized : SizedDeliveries d) (l : Laid d) where
 
 pub entered-at : (d : Deliveries) (sized : SizedDeliveries d) (l : Laid d) (n : ℕ) → n ≡ d .count → (place : ℕ) (label labels : List ℕ) (m : ℕ) → d .count < 64 → length label ≤ 32
     → labels ≡ put-in 32 (d .labels) n label → m ≡ length label
-    → record { labels = labels; lens = set (d .lens) n m; places = set (d .places) n place; modes = d .modes; count = d .count + 1 }
-    ≡ with-pending d (pending d ++ (record { place = place; label = label } ∷ []))
+    → record { labels = labels; lens = set (d .lens) n m; places = set (d .places) n place; count = d .count + 1 }
+    ≡ deliveries-of (pending d ++ (record { place = place; label = label } ∷ []))
 entered-at d sized l n e place label labels m room short put em =
-    ap (λ z. record { labels = labels; lens = set (d .lens) z m; places = set (d .places) z place; modes = d .modes; count = d .count + 1 }) e
+    ap (λ z. record { labels = labels; lens = set (d .lens) z m; places = set (d .places) z place; count = d .count + 1 }) e
     ∙ entered-laid d sized l place label labels m room short (put ∙ ap (λ z. put-in 32 (d .labels) z label) e) em
 
 -- the part from 0 on
@@ -291,7 +291,7 @@ module _ (d : Deliveries) (sized : SizedDeliveries d) (l : Laid d) (n : ℕ) (e 
   pub without-at : (g : Range) (a b c : List ℕ) (i j r m : ℕ) → Puts (kept-in g 32 code-store code-places (replicate 2048 0)) i (replicate 2048 0) a
       → Puts (kept-in g 1 code-lens code-places (replicate 64 0)) j (replicate 64 0) b
       → Puts (kept-in g 1 code-places code-places (replicate 64 0)) r (replicate 64 0) c → (r ≤ 64 → m ≡ r)
-      → record { labels = a; lens = b; places = c; modes = d .modes; count = m } ≡ with-pending d (kept g 0 (places-of (pending d)) (pending d))
+      → record { labels = a; lens = b; places = c; count = m } ≡ deliveries-of (kept g 0 (places-of (pending d)) (pending d))
   without-at g a b c i j r m pa pb pc em =
       let (x, y, z) = kept-room d sized l g in
       let q : Puts (kept-octets g 1 0 (take (d .count) (d .places)) (take (d .count) (d .places))) r (replicate 64 0) c = rw (kept-places-in g) at pc in

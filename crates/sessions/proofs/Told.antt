@@ -21,16 +21,17 @@ use Rattle.frames.specs.Grammar.{ACK, CONNECT, DISCONNECT, NACK, STOMP, SUBSCRI
 use Rattle.sessions.specs.Values.{HeartBeats}
 use Rattle.sessions.specs.Headers.{changed-id, value-of, has, is, opens, mode-asked}
 use Rattle.sessions.specs.Stores.{ids, live, distinct, used, use-checks}
-use Rattle.sessions.specs.Deliveries.{auto-mode, client-mode, Pending, pending, labelled, mode-of, goes-with, with-pending, with-modes, without, settled, settled-as, settle-label, subscribe, unsubscribe, record-label}
+use Rattle.sessions.specs.Deliveries.{auto-mode, client-mode, Pending, pending, labelled, mode-of, goes-with, deliveries-of, no-deliveries}
+use Rattle.sessions.specs.Deliveries.{without, settled, settled-as, settle-label, with-mode, dropped, record-label}
 use Rattle.sessions.proofs.Rows.{nil-apart, or-either}
 use Rattle.sessions.specs.Accounts.{Delivery, Event, subscribed, unsubscribed, mode-in, made-at, accounts, with-fate, is-acknowledged, is-refused, is-dropped, recorded, delivered, acked, nacked, closed, nothing, settled-with, pending-in}
 use Rattle.sessions.specs.declared.delivery.Deliveries.{Deliveries}
 use Rattle.headers.specs.Answers.{Answer, accepted, refused, settle}
-use Rattle.sessions.specs.Sessions.{id-max, ids-of, with-ids, with-deliveries, heard, closed as closed-session}
+use Rattle.sessions.specs.Sessions.{id-max, ids-of, with-ids, with-modes, with-deliveries, heard, closed as closed-session}
 use Rattle.sessions.specs.Histories.{Call, frame, heart-beat, deliver, answer-to, next, after, said, frame-event, refusal-event, event-of, events}
 use Rattle.sessions.specs.Held.{delivery-of, held-deliveries}
 use Rattle.sessions.specs.declared.command.Kind.the-variants.{Subscriptions}
-use Rattle.sessions.specs.declared.parts.SubscriptionIds.{SubscriptionIds}
+use Rattle.sessions.specs.declared.parts.SubscriptionStore.{SubscriptionStore}
 use Rattle.sessions.specs.declared.session.Session.{Session}
 use Rattle.sessions.proofs.Kept.{Kept, SameSubscriptions, first-passes, lens-are, lens-free, enter-place, free-there, other-lens, subscribe-id, unsubscribe-id, deliver-place, deliver-id, deliver-at, deliver-entered, kept-next, kept-made, made-none, made-ids}
 use Rattle.sessions.proofs.Keeping.{held-long, held-short, held-distinct}
@@ -40,9 +41,12 @@ use Rattle.sessions.proofs.Stores.{ids-laid, used-short, use-short, use
 use Rattle.sessions.specs.declared.store.Use.{Use}
 use Rattle.sessions.specs.declared.store.Use.the-variants.{Enter, Free}
 use Rattle.sessions.specs.declared.command.Header.the-variants.{Id}
-use Rattle.sessions.specs.Calls.{left-by as session-left, made, opened-by, opening, shared-by, client-versions, client-heart-beats, uses-of, id-effect, effect, free-place, place-named, settle-named, mode-or-auto, delivery-effect, frame-answer, frame-session, heart-beat-answer, heart-beat-session, deliver-checks, deliver-answer, recorded-by, deliver-session}
+use Rattle.sessions.specs.Calls.{left-by as session-left, made, opened-by, opening, shared-by, client-versions, client-heart-beats, uses-of}
+use Rattle.sessions.specs.Calls.{id-effect, effect, free-place, place-named, settle-named, mode-or-auto, modes-effect, delivery-effect, named-effect}
+use Rattle.sessions.specs.Calls.{frame-answer, frame-session, heart-beat-answer, heart-beat-session, deliver-checks, deliver-answer, recorded-by}
+use Rattle.sessions.specs.Calls.{recording, deliver-session}
 use Rattle.sessions.proofs.Accounts.{named, settled-for, settled-by, entered, left-by, Distinct, Agrees, same-turn, survivors, step-pending, none-later, all-accounted}
-use Rattle.sessions.proofs.Pending.{Apart, Elsewhere, Proper, Holds, good, holds-emptied, holds-unsubscribed, free-elsewhere, all-with, any-map, without-fail, holds-settled}
+use Rattle.sessions.proofs.Pending.{Apart, Elsewhere, Proper, Holds, good, holds-none, holds-dropped, free-elsewhere, all-with, any-map, without-fail, holds-settled}
 
 -- ---- places of ids that are told apart
 
@@ -108,15 +112,15 @@ map-alike f g (p ∷ ps) (h, more) = ap₂ (_∷_) h (map-alike f g ps more)
 
 -- ---- the deliveries that are held, by the ids of the subscriptions in their places
 
-abbrev seen : List (List ℕ) → Deliveries → Pending → Delivery
-seen is d p = record { subscription = getD is (p .place) []; mode = mode-of d (p .place); label = p .label }
+abbrev seen : List (List ℕ) → List ℕ → Pending → Delivery
+seen is ms p = record { subscription = getD is (p .place) []; mode = mode-of ms (p .place); label = p .label }
 
-abbrev held-in : List (List ℕ) → Deliveries → List Delivery
-held-in is d = map (seen is d) (pending d)
+abbrev held-in : List (List ℕ) → List ℕ → Deliveries → List Delivery
+held-in is ms d = map (seen is ms) (pending d)
 
 -- each place that is taken has the mode of its last SUBSCRIBE
-abbrev KnowsIn : List Event → List (List ℕ) → Deliveries → Type 0
-KnowsIn past is d = (k : ℕ) → empty (getD is k []) ≡ false → mode-of d k ≡ mode-in (getD is k []) past
+abbrev KnowsIn : List Event → List (List ℕ) → List ℕ → Type 0
+KnowsIn past is ms = (k : ℕ) → empty (getD is k []) ≡ false → mode-of ms k ≡ mode-in (getD is k []) past
 
 -- each delivery is of a place that is taken
 abbrev Taken : List (List ℕ) → List Pending → Type 0
@@ -126,9 +130,9 @@ all-map : (P : Delivery → Type 0) (f : Pending → Delivery) (ps : List Pendin
 all-map P f [] h = tt
 all-map P f (p ∷ ps) (h, more) = (h, all-map P f ps more)
 
-agrees-in : (past : List Event) (is : List (List ℕ)) (d : Deliveries) → KnowsIn past is d → Taken is (pending d) → Agrees past (held-in is d)
-agrees-in past is d knows taken =
-    all-map (λ (x : Delivery). x .mode ≡ mode-in (x .subscription) past) (seen is d) (pending d) (all-with (λ p t. knows (p .place) t) (pending d) taken)
+agrees-in : (past : List Event) (is : List (List ℕ)) (ms : List ℕ) (ps : List Pending) → KnowsIn past is ms → Taken is ps → Agrees past (map (seen is ms) ps)
+agrees-in past is ms ps knows taken =
+    all-map (λ (x : Delivery). x .mode ≡ mode-in (x .subscription) past) (seen is ms) ps (all-with (λ p t. knows (p .place) t) ps taken)
 
 distinct-in : (f : Pending → Delivery) → ((p : Pending) → f p .label ≡ p .label) → (ps : List Pending) → Apart ps → Distinct (map f ps)
 distinct-in f e [] a = tt
@@ -143,46 +147,45 @@ distinct-in f e (p ∷ ps) (a, more) = (
 
 -- ---- SUBSCRIBE, in place k
 
-module _ (is : List (List ℕ)) (d : Deliveries) (k : ℕ) (id : List ℕ) (m : ℕ) where
-  subscribed-held : All (Elsewhere k) (pending d) → held-in (set is k id) (with-modes d (set (d .modes) k m)) ≡ held-in is d
-  subscribed-held e = map-alike (seen (set is k id) (with-modes d (set (d .modes) k m))) (seen is d) (pending d) (all-with each (pending d) e)
-    where
-      each : (p : Pending) → Elsewhere k p → seen (set is k id) (with-modes d (set (d .modes) k m)) p ≡ seen is d p
-      each p n =
-          ap₂ (λ a b. record { subscription = a; mode = b; label = p .label }) (getD-set-other is k (p .place) id [] n) (getD-set-other (d .modes) k (p .place) m 0 n)
+module _ (is : List (List ℕ)) (ms : List ℕ) (k : ℕ) (id : List ℕ) (m : ℕ) where
+  -- a delivery of another place
+  seen-elsewhere : (p : Pending) → Elsewhere k p → seen (set is k id) (set ms k m) p ≡ seen is ms p
+  seen-elsewhere p n =
+      ap₂ (λ a b. record { subscription = a; mode = b; label = p .label }) (getD-set-other is k (p .place) id [] n) (getD-set-other ms k (p .place) m 0 n)
 
-  subscribed-knows : (past : List Event) → KnowsIn past is d → k < length is → k < length (d .modes) → live id is ≡ false → id ≢ []
-      → KnowsIn (subscribed id m ∷ past) (set is k id) (with-modes d (set (d .modes) k m))
+  subscribed-held : (d : Deliveries) → All (Elsewhere k) (pending d) → held-in (set is k id) (set ms k m) d ≡ held-in is ms d
+  subscribed-held d e = map-alike (seen (set is k id) (set ms k m)) (seen is ms) (pending d) (all-with seen-elsewhere (pending d) e)
+
+  subscribed-knows : (past : List Event) → KnowsIn past is ms → k < length is → k < length ms → live id is ≡ false → id ≢ []
+      → KnowsIn (subscribed id m ∷ past) (set is k id) (set ms k m)
   subscribed-knows past knows a b new n j t = by (eqb j k) refl
     where
-      by : (q : Bool) → eqb j k ≡ q → getD (set (d .modes) k m) j 0 ≡ cond (same id (getD (set is k id) j [])) m (mode-in (getD (set is k id) j []) past)
+      by : (q : Bool) → eqb j k ≡ q → getD (set ms k m) j 0 ≡ cond (same id (getD (set is k id) j [])) m (mode-in (getD (set is k id) j []) past)
       by true e =
           let at : j ≡ k = eqb-true j k e in
           let here : getD (set is k id) j [] ≡ id = ap (λ z. getD (set is k id) z []) at ∙ getD-set-same is k id [] a in
-          ap (λ z. getD (set (d .modes) k m) z 0) at ∙ getD-set-same (d .modes) k m 0 b
+          ap (λ z. getD (set ms k m) z 0) at ∙ getD-set-same ms k m 0 b
           ∙ sym (ap (λ z. cond z m (mode-in (getD (set is k id) j []) past)) (ap (same id) here ∙ same-self id))
       by false e =
           let away : j ≢ k = eqb-false j k e in
           let here : getD (set is k id) j [] ≡ getD is j [] = getD-set-other is k j id [] away in
-          getD-set-other (d .modes) k j m 0 away ∙ knows j (sym (ap empty here) ∙ t) ∙ ap (λ z. mode-in z past) (sym here)
+          getD-set-other ms k j m 0 away ∙ knows j (sym (ap empty here) ∙ t) ∙ ap (λ z. mode-in z past) (sym here)
           ∙ sym (ap (λ z. cond z m (mode-in (getD (set is k id) j []) past)) (ap (same id) here ∙ same-turn id (getD is j []) ∙ not-live is id j new n))
 
 -- ---- UNSUBSCRIBE, in place k
 
-module _ (is : List (List ℕ)) (d : Deliveries) (k : ℕ) (id : List ℕ) (at : getD is k [] ≡ id) where
-  unsubscribed-held : distinct is ≡ true → empty id ≡ false → pending (unsubscribe (some k) d) ≡ without (λ (p : Pending). eqb (p .place) k) (pending d)
-      → held-in (set is k []) (unsubscribe (some k) d) ≡ without (λ (x : Delivery). same id (x .subscription)) (held-in is d)
-  unfolding with-pending
-  unsubscribed-held apart n left =
-      ap (map (seen (set is k []) (unsubscribe (some k) d))) left
-      ∙ map-alike (seen (set is k []) (unsubscribe (some k) d)) (seen is d) (without (λ (p : Pending). eqb (p .place) k) (pending d)) (all-with each (without (λ (p : Pending). eqb (p .place) k) (pending d)) (without-fail (λ (p : Pending). eqb (p .place) k) (pending d)))
-      ∙ map-without (seen is d) (λ (p : Pending). eqb (p .place) k) (λ (x : Delivery). same id (x .subscription)) (pending d) (same-all (pending d))
-    where
-      each : (p : Pending) → eqb (p .place) k ≡ false → seen (set is k []) (unsubscribe (some k) d) p ≡ seen is d p
-      each p e =
-          let away = eqb-false (p .place) k e in
-          ap₂ (λ a b. record { subscription = a; mode = b; label = p .label }) (getD-set-other is k (p .place) [] [] away) (getD-set-other (d .modes) k (p .place) 0 0 away)
+module _ (is : List (List ℕ)) (ms : List ℕ) (k : ℕ) (id : List ℕ) (at : getD is k [] ≡ id) where
+  abbrev of-it : Pending → Bool
+  of-it p = eqb (p .place) k
 
+  unsubscribed-held : (d : Deliveries) → distinct is ≡ true → empty id ≡ false → pending (dropped (some k) d) ≡ without of-it (pending d)
+      → held-in (set is k []) (set ms k auto-mode) (dropped (some k) d) ≡ without (λ (x : Delivery). same id (x .subscription)) (held-in is ms d)
+  unsubscribed-held d apart n left =
+      ap (map (seen (set is k []) (set ms k auto-mode))) left
+      ∙ map-alike (seen (set is k []) (set ms k auto-mode)) (seen is ms) (without of-it (pending d))
+      (all-with (λ p e. seen-elsewhere is ms k [] auto-mode p (eqb-false (p .place) k e)) (without of-it (pending d)) (without-fail of-it (pending d)))
+      ∙ map-without (seen is ms) of-it (λ (x : Delivery). same id (x .subscription)) (pending d) (same-all (pending d))
+    where
       same-all : (ps : List Pending) → All (λ (p : Pending). eqb (p .place) k ≡ same id (getD is (p .place) [])) ps
       same-all [] = tt
       same-all (p ∷ ps) = (
@@ -190,11 +193,10 @@ module _ (is : List (List ℕ)) (d : Deliveries) (k : ℕ) (id : List ℕ) (at :
         same-all ps,
       )
 
-  unsubscribed-knows : (past : List Event) → KnowsIn past is d → KnowsIn (unsubscribed id ∷ past) (set is k []) (unsubscribe (some k) d)
-  unfolding with-pending
+  unsubscribed-knows : (past : List Event) → KnowsIn past is ms → KnowsIn (unsubscribed id ∷ past) (set is k []) (set ms k auto-mode)
   unsubscribed-knows past knows j t = by (eqb j k) refl
     where
-      by : (q : Bool) → eqb j k ≡ q → getD (set (d .modes) k auto-mode) j 0 ≡ mode-in (getD (set is k []) j []) past
+      by : (q : Bool) → eqb j k ≡ q → getD (set ms k auto-mode) j 0 ≡ mode-in (getD (set is k []) j []) past
       by true e = absurd (true≢false (sym (ap empty (none is k j (eqb-true j k e))) ∙ t))
         where
           none : (xs : List (List ℕ)) (i h : ℕ) → h ≡ i → getD (set xs i []) h [] ≡ []
@@ -207,7 +209,7 @@ module _ (is : List (List ℕ)) (d : Deliveries) (k : ℕ) (id : List ℕ) (at :
       by false e =
           let away : j ≢ k = eqb-false j k e in
           let here : getD (set is k []) j [] ≡ getD is j [] = getD-set-other is k j [] [] away in
-          getD-set-other (d .modes) k j auto-mode 0 away ∙ knows j (sym (ap empty here) ∙ t) ∙ ap (λ z. mode-in z past) (sym here)
+          getD-set-other ms k j auto-mode 0 away ∙ knows j (sym (ap empty here) ∙ t) ∙ ap (λ z. mode-in z past) (sym here)
 
 -- ---- ACK and NACK
 
@@ -231,80 +233,82 @@ first-map f b (p ∷ ps) = by (b (f p)) (first-map f b ps)
     by true go = refl
     by false go = go
 
-settled-held : (lens : List ℕ) (is : List (List ℕ)) (d : Deliveries) → Holds lens d → distinct is ≡ true → Taken is (pending d) → (l : List ℕ) → held-in is (settle-label l d) ≡ settled-by l (held-in is d)
-unfolding with-pending
-settled-held lens is d h apart taken l =
-    by (first-of (labelled l) (pending d)) refl ∙ ap (λ o. settled-for l o (held-in is d)) (sym (first-map (seen is d) (named l) (pending d)))
+settled-held : (lens ms : List ℕ) (is : List (List ℕ)) (d : Deliveries) → Holds lens ms d → distinct is ≡ true → Taken is (pending d) → (l : List ℕ)
+    → held-in is ms (settle-label ms l d) ≡ settled-by l (held-in is ms d)
+settled-held lens ms is d h apart taken l =
+    by (first-of (labelled l) (pending d)) refl ∙ ap (λ o. settled-for l o (held-in is ms d)) (sym (first-map (seen is ms) (named l) (pending d)))
   where
-    by : (o : Option Pending) → first-of (labelled l) (pending d) ≡ o → held-in is (settled-as l d o) ≡ settled-for l (seen-option (seen is d) o) (held-in is d)
+    by : (o : Option Pending) → first-of (labelled l) (pending d) ≡ o
+        → held-in is ms (settled-as ms l d o) ≡ settled-for l (seen-option (seen is ms) o) (held-in is ms d)
     by none e = refl
     by (some n) e = go
       where
         live-n : empty (getD is (n .place) []) ≡ false
         live-n = first-all (λ (p : Pending). empty (getD is (p .place) []) ≡ false) (labelled l) (pending d) n taken e
 
-        each : (ps : List Pending) → All (λ (p : Pending). (labelled l p ≡ labelled l p) × (goes-with d n p ≡ settled-with (seen is d n) (getD is (p .place) []))) ps
+        each : (ps : List Pending)
+            → All (λ (p : Pending). (labelled l p ≡ labelled l p) × (goes-with ms n p ≡ settled-with (seen is ms n) (getD is (p .place) []))) ps
         each [] = tt
-        each (p ∷ ps) = ((refl, ap (eqb (mode-of d (n .place)) client-mode &&_) (place-id is apart (n .place) (p .place) live-n)), each ps)
+        each (p ∷ ps) = ((refl, ap (eqb (mode-of ms (n .place)) client-mode &&_) (place-id is apart (n .place) (p .place) live-n)), each ps)
 
-        go : held-in is (with-pending d (settled (labelled l) (goes-with d n) (pending d))) ≡ settled (named l) (λ (x : Delivery). settled-with (seen is d n) (x .subscription)) (held-in is d)
+        goes : Delivery → Bool
+        goes x = settled-with (seen is ms n) (x .subscription)
+
+        go : held-in is ms (deliveries-of (settled (labelled l) (goes-with ms n) (pending d))) ≡ settled (named l) goes (held-in is ms d)
         go =
-            ap (map (seen is d)) (holds-settled lens d h (labelled l) (goes-with d n) .1)
-            ∙ map-settled (seen is d) (labelled l) (goes-with d n) (named l) (λ (x : Delivery). settled-with (seen is d n) (x .subscription)) (pending d) (each (pending d))
-
-settled-modes : (l : List ℕ) (d : Deliveries) → (settle-label l d) .modes ≡ d .modes
-unfolding with-pending
-settled-modes l d = by (first-of (labelled l) (pending d))
-  where
-    by : (o : Option Pending) → (settled-as l d o) .modes ≡ d .modes
-    by none = refl
-    by (some p) = refl
+            ap (map (seen is ms)) (holds-settled lens ms d h (labelled l) (goes-with ms n) .1)
+            ∙ map-settled (seen is ms) (labelled l) (goes-with ms n) (named l) goes (pending d) (each (pending d))
 
 -- ---- a delivery
 
-recorded-modes : (k : ℕ) (l : List ℕ) (d : Deliveries) → (record-label (some k) l d) .modes ≡ d .modes
-unfolding with-pending
-recorded-modes k l d = cond-case (λ (z : Deliveries). z .modes ≡ d .modes) (eqb (mode-of d k) auto-mode) (λ e. refl) (λ e. refl)
+module _ (past : List Event) (is : List (List ℕ)) (ms : List ℕ) (d : Deliveries) (k : ℕ) (id l : List ℕ) where
+  abbrev more : List Pending
+  more = pending d ++ (record { place = k; label = l } ∷ [])
 
-recorded-held : (lens : List ℕ) (past : List Event) (is : List (List ℕ)) (d : Deliveries) (k : ℕ) (id l : List ℕ) → getD is k [] ≡ id → empty id ≡ false → KnowsIn past is d
-    → (eqb (mode-of d k) auto-mode ≡ false → pending (with-pending d (pending d ++ (record { place = k; label = l } ∷ []))) ≡ pending d ++ (record { place = k; label = l } ∷ []))
-    → held-in is (record-label (some k) l d) ≡ entered (made-at past id l) (held-in is d)
-unfolding with-pending
-recorded-held lens past is d k id l at n knows laid-out = by (eqb (mode-of d k) auto-mode) refl
-  where
-    mode-is : mode-of d k ≡ mode-in id past
-    mode-is = knows k (ap empty at ∙ n) ∙ ap (λ z. mode-in z past) at
+  recorded-held : getD is k [] ≡ id → empty id ≡ false → KnowsIn past is ms
+      → (eqb (mode-of ms k) auto-mode ≡ false → pending (deliveries-of more) ≡ more)
+      → held-in is ms (record-label ms (some k) l d) ≡ entered (made-at past id l) (held-in is ms d)
+  recorded-held at n knows laid-out = by (eqb (mode-of ms k) auto-mode) refl
+    where
+      mode-is : mode-of ms k ≡ mode-in id past
+      mode-is = knows k (ap empty at ∙ n) ∙ ap (λ z. mode-in z past) at
 
-    by : (t : Bool) → eqb (mode-of d k) auto-mode ≡ t → held-in is (cond t d (with-pending d (pending d ++ (record { place = k; label = l } ∷ [])))) ≡ entered (made-at past id l) (held-in is d)
-    by true e = sym (ap (λ z. cond z (held-in is d) (held-in is d ++ (made-at past id l ∷ []))) (ap (λ z. eqb z auto-mode) (sym mode-is) ∙ e))
-    by false e =
-        ap (map (seen is d)) (laid-out e) ∙ map-append (seen is d) (pending d) (record { place = k; label = l } ∷ [])
-        ∙ ap₂ (λ a b. held-in is d ++ (record { subscription = a; mode = b; label = l } ∷ [])) at mode-is
-        ∙ sym (ap (λ z. cond z (held-in is d) (held-in is d ++ (made-at past id l ∷ []))) (ap (λ z. eqb z auto-mode) (sym mode-is) ∙ e))
+      by-mode : (t : Bool) → eqb (mode-of ms k) auto-mode ≡ t
+          → cond t (held-in is ms d) (held-in is ms d ++ (made-at past id l ∷ [])) ≡ entered (made-at past id l) (held-in is ms d)
+      by-mode t e = sym (ap (λ z. cond z (held-in is ms d) (held-in is ms d ++ (made-at past id l ∷ []))) (ap (λ z. eqb z auto-mode) (sym mode-is) ∙ e))
+
+      by : (t : Bool) → eqb (mode-of ms k) auto-mode ≡ t → held-in is ms (cond t d (deliveries-of more)) ≡ entered (made-at past id l) (held-in is ms d)
+      by true e = by-mode true e
+      by false e =
+          ap (map (seen is ms)) (laid-out e) ∙ map-append (seen is ms) (pending d) (record { place = k; label = l } ∷ [])
+          ∙ ap₂ (λ a b. held-in is ms d ++ (record { subscription = a; mode = b; label = l } ∷ [])) at mode-is
+          ∙ by-mode false e
 
 -- ---- a session
 
 abbrev pub Knows : List Event → Session → Type 0
-Knows past s = KnowsIn past (ids-of Subscriptions s) (s .deliveries)
+Knows past s = KnowsIn past (ids-of Subscriptions s) (s .subscriptions .modes)
 
 module _ (s : Session) (kept : Kept s) where
   taken : Taken (ids-of Subscriptions s) (pending (s .deliveries))
-  taken = all-with each (pending (s .deliveries)) (good (s .subscriptions .lens) (s .deliveries) (kept .holds) .each)
+  taken = all-with each (pending (s .deliveries)) (good (s .subscriptions .lens) (s .subscriptions .modes) (s .deliveries) (kept .holds) .each)
     where
       some-there : (x : List ℕ) → not (eqb (length x) 0) ≡ true → empty x ≡ false
       some-there x h = empty-eqb x ∙ not-true (eqb (length x) 0) h
 
-      each : (p : Pending) → Proper (s .subscriptions .lens) (s .deliveries .modes) p → empty (getD (ids-of Subscriptions s) (p .place) []) ≡ false
+      each : (p : Pending) → Proper (s .subscriptions .lens) (s .subscriptions .modes) p → empty (getD (ids-of Subscriptions s) (p .place) []) ≡ false
       each p h =
           some-there (getD (ids-of Subscriptions s) (p .place) [])
           (ap (λ z. not (eqb z 0)) (sym (List·getD-map length (ids-of Subscriptions s) (p .place) []) ∙ ap (λ z. getD z (p .place) 0) (lens-are s kept))
-          ∙ and-left (not (eqb (getD (s .subscriptions .lens) (p .place) 0) 0)) (not (eqb (getD (s .deliveries .modes) (p .place) auto-mode) auto-mode)) (h .acks))
+          ∙ and-left (not (eqb (getD (s .subscriptions .lens) (p .place) 0) 0)) (not (eqb (mode-of (s .subscriptions .modes) (p .place)) auto-mode)) (h .acks))
 
   pub held-distinct-labels : Distinct (held-deliveries s)
-  held-distinct-labels = distinct-in (delivery-of s) (λ p. refl) (pending (s .deliveries)) (good (s .subscriptions .lens) (s .deliveries) (kept .holds) .apart)
+  held-distinct-labels =
+      distinct-in (delivery-of s) (λ p. refl) (pending (s .deliveries))
+      (good (s .subscriptions .lens) (s .subscriptions .modes) (s .deliveries) (kept .holds) .apart)
 
   pub held-agrees : (past : List Event) → Knows past s → Agrees past (held-deliveries s)
-  held-agrees past k = agrees-in past (ids-of Subscriptions s) (s .deliveries) k taken
+  held-agrees past k = agrees-in past (ids-of Subscriptions s) (s .subscriptions .modes) (pending (s .deliveries)) k taken
 
 -- what a call leaves: the deliveries that it holds, and what is known of the modes
 pub record Left (past : List Event) (s r : Session) (e : Event) : Type 0 where
@@ -313,7 +317,11 @@ pub record Left (past : List Event) (s r : Session) (e : Event) : Type 0 where
 
 module _ (past : List Event) (s : Session) (kept : Kept s) (knows : Knows past s) where
   left-closed : Left past s (closed-session s) closed
-  left-closed = record { holds-are = ap (map (delivery-of (closed-session s))) (holds-emptied (s .subscriptions .lens) (s .deliveries) (kept .holds) .1); knows = knows }
+  left-closed =
+      record {
+        holds-are = ap (map (delivery-of (closed-session s))) (holds-none (s .subscriptions .lens) (s .subscriptions .modes) (kept .holds .modes) .1);
+        knows = knows;
+      }
 
   left-same : Left past s s nothing
   left-same = record { holds-are = refl; knows = knows }
@@ -325,11 +333,15 @@ module _ (past : List Event) (s : Session) (kept : Kept s) (knows : Knows past s
       by true = left-same
       by false = left-closed
 
--- by the ids and the deliveries that are left
-left-views : (past : List Event) (s r : Session) (e : Event) (is : List (List ℕ)) (d : Deliveries) → ids-of Subscriptions r ≡ is → r .deliveries ≡ d
-    → held-in is d ≡ left-by past e (held-deliveries s) → KnowsIn (e ∷ past) is d → Left past s r e
-left-views past s r e is d a b h k =
-    record { holds-are = ap₂ held-in a b ∙ h; knows = subst (λ z. KnowsIn (e ∷ past) z (r .deliveries)) (sym a) (subst (KnowsIn (e ∷ past) is) (sym b) k) }
+-- by the ids, the modes and the deliveries that are left
+left-views : (past : List Event) (s r : Session) (e : Event) (is : List (List ℕ)) (ms : List ℕ) (d : Deliveries)
+    → ids-of Subscriptions r ≡ is → r .subscriptions .modes ≡ ms → r .deliveries ≡ d
+    → held-in is ms d ≡ left-by past e (held-deliveries s) → KnowsIn (e ∷ past) is ms → Left past s r e
+left-views past s r e is ms d a m b h k =
+    record {
+      holds-are = ap₂ (λ x y. held-in x y (r .deliveries)) a m ∙ ap (held-in is ms) b ∙ h;
+      knows = subst (λ z. KnowsIn (e ∷ past) z (r .subscriptions .modes)) (sym a) (subst (KnowsIn (e ∷ past) is) (sym m) k);
+    }
 
 module _ (past : List Event) (s : Session) (kept : Kept s) (knows : Knows past s) where
   subs : List (List ℕ)
@@ -342,96 +354,119 @@ module _ (past : List Event) (s : Session) (kept : Kept s) (knows : Knows past s
       ids-laid id-max (used u id (ids-of Subscriptions s))
       (used-short id-max u id (ids-of Subscriptions s) (use-short id-max u id (ids-of Subscriptions s) [] [] e) (held-short s (kept .ids) Subscriptions))
 
-  inside : (k : ℕ) → k < length (ids-of Subscriptions s) → k < length (s .deliveries .modes)
-  inside k h = omega (arith, h, held-long s (kept .ids) Subscriptions, kept .holds .sized .modes-long)
+  abbrev ms : List ℕ
+  ms = s .subscriptions .modes
 
-  left-subscribe : (es : List Entry) (m : ℕ) (id : List ℕ) → settle (use-checks id-max Enter id (ids-of Subscriptions s)) [] ≡ accepted []
-      → Left past s (with-deliveries (with-ids Subscriptions s (used Enter id (ids-of Subscriptions s))) (subscribe (free-place s) m (s .deliveries))) (subscribed id m)
-  left-subscribe es m id e =
+  inside : (k : ℕ) → k < length (ids-of Subscriptions s) → k < length ms
+  inside k h = omega (arith, h, held-long s (kept .ids) Subscriptions, kept .ids .sized .subscriptions .modes-long)
+
+  -- the session with an id used, and with other modes and deliveries
+  abbrev left : Use → List ℕ → List ℕ → Deliveries → Session
+  left u id ms′ d = with-deliveries (with-modes (with-ids Subscriptions s (used u id (ids-of Subscriptions s))) ms′) d
+
+  left-subscribe : (m : ℕ) (id : List ℕ) → settle (use-checks id-max Enter id (ids-of Subscriptions s)) [] ≡ accepted []
+      → Left past s (left Enter id (with-mode (free-place s) m ms) (s .deliveries)) (subscribed id m)
+  left-subscribe m id e =
       let (k, f) = enter-place s kept id e in
       let (a, put) = found-at empty id k (ids-of Subscriptions s) (sym f) in
-      left-views past s _ (subscribed id m) (set (ids-of Subscriptions s) k id) (with-modes (s .deliveries) (set (s .deliveries .modes) k m))
-      (used-ids Enter id e ∙ put) (ap (λ o. subscribe o m (s .deliveries)) f)
-      (subscribed-held (ids-of Subscriptions s) (s .deliveries) k id m
-      (free-elsewhere (s .subscriptions .lens) (s .deliveries .modes) k (pending (s .deliveries)) (lens-free s kept k f) (good (s .subscriptions .lens) (s .deliveries) (kept .holds) .each)))
-      (subscribed-knows (ids-of Subscriptions s) (s .deliveries) k id m past knows a (inside k a)
+      left-views past s _ (subscribed id m) (set (ids-of Subscriptions s) k id) (set ms k m) (s .deliveries)
+      (used-ids Enter id e ∙ put) (ap (λ o. with-mode o m ms) f) refl
+      (subscribed-held (ids-of Subscriptions s) ms k id m (s .deliveries)
+      (free-elsewhere (s .subscriptions .lens) ms k (pending (s .deliveries)) (lens-free s kept k f)
+      (good (s .subscriptions .lens) ms (s .deliveries) (kept .holds) .each)))
+      (subscribed-knows (ids-of Subscriptions s) ms k id m past knows a (inside k a)
       (use-new id-max Enter id (ids-of Subscriptions s) [] [] e) (use-some id-max Enter id (ids-of Subscriptions s) [] [] e))
 
   left-unsubscribe : (id : List ℕ) → settle (use-checks id-max Free id (ids-of Subscriptions s)) [] ≡ accepted []
-      → Left past s (with-deliveries (with-ids Subscriptions s (used Free id (ids-of Subscriptions s))) (unsubscribe (place-named s (some id)) (s .deliveries))) (unsubscribed id)
+      → Left past s (left Free id (with-mode (place-named s (some id)) auto-mode ms) (dropped (place-named s (some id)) (s .deliveries))) (unsubscribed id)
   left-unsubscribe id e =
       let (k, f) = free-there s kept id e in
       let (a, put) = found-at (λ x. same x id) [] k (ids-of Subscriptions s) (sym f) in
-      let at : getD (ids-of Subscriptions s) k [] ≡ id = same-eq (getD (ids-of Subscriptions s) k []) id (first-passes (λ x. same x id) [] k (ids-of Subscriptions s) f .1) in
-      left-views past s _ (unsubscribed id) (set (ids-of Subscriptions s) k []) (unsubscribe (some k) (s .deliveries))
-      (used-ids Free id e ∙ put) (ap (λ o. unsubscribe o (s .deliveries)) f)
-      (unsubscribed-held (ids-of Subscriptions s) (s .deliveries) k id at (held-distinct s (kept .ids) Subscriptions) (empty-not id (use-some id-max Free id (ids-of Subscriptions s) [] [] e))
-      (holds-unsubscribed (s .subscriptions .lens) (s .deliveries) (kept .holds) k .1))
-      (unsubscribed-knows (ids-of Subscriptions s) (s .deliveries) k id at past knows)
+      let at : getD (ids-of Subscriptions s) k [] ≡ id =
+      same-eq (getD (ids-of Subscriptions s) k []) id (first-passes (λ x. same x id) [] k (ids-of Subscriptions s) f .1) in
+      left-views past s _ (unsubscribed id) (set (ids-of Subscriptions s) k []) (set ms k auto-mode) (dropped (some k) (s .deliveries))
+      (used-ids Free id e ∙ put) (ap (λ o. with-mode o auto-mode ms) f) (ap (λ o. dropped o (s .deliveries)) f)
+      (unsubscribed-held (ids-of Subscriptions s) ms k id at (s .deliveries) (held-distinct s (kept .ids) Subscriptions)
+      (empty-not id (use-some id-max Free id (ids-of Subscriptions s) [] [] e))
+      (holds-dropped (s .subscriptions .lens) ms (s .deliveries) (kept .holds) k .1))
+      (unsubscribed-knows (ids-of Subscriptions s) ms k id at past knows)
 
   -- ids of transactions: the same subscriptions
   same-subs : (r : Session) → SameSubscriptions r s → ids-of Subscriptions r ≡ ids-of Subscriptions s
-  same-subs r e = ap (λ (x : SubscriptionIds). ids id-max (x .ids) (x .lens)) e
+  same-subs r e = ap (λ (x : SubscriptionStore). ids id-max (x .ids) (x .lens)) e
 
-  left-settle : (r : Session) (l : List ℕ) (e : Event) → SameSubscriptions r s → ((ds : List Delivery) → left-by past e ds ≡ settled-by l ds) → ((x : List ℕ) → mode-in x (e ∷ past) ≡ mode-in x past)
-      → Left past s (with-deliveries r (settle-label l (s .deliveries))) e
+  -- a session with the modes that were, and with other deliveries
+  abbrev settled-in : Session → Deliveries → Session
+  settled-in r d = with-deliveries (with-modes r ms) d
+
+  left-settle : (r : Session) (l : List ℕ) (e : Event) → SameSubscriptions r s → ((ds : List Delivery) → left-by past e ds ≡ settled-by l ds)
+      → ((x : List ℕ) → mode-in x (e ∷ past) ≡ mode-in x past) → Left past s (settled-in r (settle-label ms l (s .deliveries))) e
   left-settle r l e same-ids leaves modes =
-      left-views past s _ e (ids-of Subscriptions s) (settle-label l (s .deliveries)) (same-subs r same-ids) refl
-      (settled-held (s .subscriptions .lens) (ids-of Subscriptions s) (s .deliveries) (kept .holds) (held-distinct s (kept .ids) Subscriptions) (taken s kept) l ∙ sym (leaves (held-deliveries s)))
-      (λ k t. ap (λ z. getD z k auto-mode) (settled-modes l (s .deliveries)) ∙ knows k t ∙ sym (modes (getD (ids-of Subscriptions s) k [])))
+      left-views past s _ e (ids-of Subscriptions s) ms (settle-label ms l (s .deliveries)) (same-subs r same-ids) refl refl
+      (settled-held (s .subscriptions .lens) ms (ids-of Subscriptions s) (s .deliveries) (kept .holds) (held-distinct s (kept .ids) Subscriptions)
+      (taken s kept) l ∙ sym (leaves (held-deliveries s)))
+      (λ k t. knows k t ∙ sym (modes (getD (ids-of Subscriptions s) k [])))
 
-  left-other : (r : Session) → SameSubscriptions r s → Left past s (with-deliveries r (s .deliveries)) nothing
-  left-other r same-ids = left-views past s _ nothing (ids-of Subscriptions s) (s .deliveries) (same-subs r same-ids) refl refl knows
+  left-other : (r : Session) → SameSubscriptions r s → Left past s (settled-in r (s .deliveries)) nothing
+  left-other r same-ids = left-views past s _ nothing (ids-of Subscriptions s) ms (s .deliveries) (same-subs r same-ids) refl refl refl knows
 
   -- ---- an accepted frame
 
   needs-label : (es : List Entry) → not (has Id es) || false ≡ false → (l : List ℕ) × (value-of Id es ≡ some l)
   needs-label es h = unsubscribe-id s kept es h
 
-  left-named : (n : ℕ) (es : List Entry) → Passed s n es → opens n ≡ false → is DISCONNECT n ≡ false
-      → Left past s (with-deliveries (id-effect s (changed-id (uses-of s n es))) (delivery-effect s n es)) (frame-event n es)
+  left-named : (n : ℕ) (es : List Entry) → Passed s n es → opens n ≡ false → is DISCONNECT n ≡ false → Left past s (named-effect s n es) (frame-event n es)
   left-named n es p o d = by (is SUBSCRIBE n) (is UNSUBSCRIBE n) (is ACK n) (is NACK n) refl refl refl refl
     where
       Goal : ℕ → Type 0
-      Goal z = Passed s z es → Left past s (with-deliveries (id-effect s (changed-id (uses-of s z es))) (delivery-effect s z es)) (frame-event z es)
+      Goal z = Passed s z es → Left past s (named-effect s z es) (frame-event z es)
+
+      -- the effect on the ids, and the session with that, and with other modes and deliveries
+      ids-left : ℕ → Session
+      ids-left z = id-effect s (changed-id (uses-of s z es))
 
       entering : Goal 14
       entering q =
           let (id, v) = subscribe-id s kept es (q .needs) in
-          subst (λ o. Left past s (with-deliveries (id-effect s o) (delivery-effect s 14 es)) (frame-event 14 es)) (sym (subscribe-changes s es id v))
-          (subst (λ w. Left past s (with-deliveries (with-ids Subscriptions s (used Enter id (ids-of Subscriptions s))) (delivery-effect s 14 es)) (subscribed (said w) (mode-or-auto (mode-asked es)))) (sym v)
-          (left-subscribe es (mode-or-auto (mode-asked es)) id (subscribe-settles s es id v q)))
+          subst (λ o. Left past s (with-deliveries (with-modes (id-effect s o) (modes-effect s 14 es)) (s .deliveries)) (frame-event 14 es))
+          (sym (subscribe-changes s es id v))
+          (subst (λ w. Left past s (left Enter id (modes-effect s 14 es) (s .deliveries)) (subscribed (said w) (mode-or-auto (mode-asked es)))) (sym v)
+          (left-subscribe (mode-or-auto (mode-asked es)) id (subscribe-settles s es id v q)))
 
       freeing : Goal 15
       freeing q =
           let (id, v) = unsubscribe-id s kept es (q .needs) in
-          subst (λ o. Left past s (with-deliveries (id-effect s o) (delivery-effect s 15 es)) (frame-event 15 es)) (sym (unsubscribe-changes s es id v))
-          (subst (λ w. Left past s (with-deliveries (with-ids Subscriptions s (used Free id (ids-of Subscriptions s))) (unsubscribe (place-named s w) (s .deliveries))) (unsubscribed (said w))) (sym v)
+          subst (λ o. Left past s (with-deliveries (with-modes (id-effect s o) (modes-effect s 15 es)) (delivery-effect s 15 es)) (frame-event 15 es))
+          (sym (unsubscribe-changes s es id v))
+          (subst (λ w. Left past s (left Free id (with-mode (place-named s w) auto-mode ms) (dropped (place-named s w) (s .deliveries)))
+          (unsubscribed (said w))) (sym v)
           (left-unsubscribe id (unsubscribe-settles s es id v q)))
 
       acking : Goal 2
       acking q =
           let (l, v) = needs-label es (q .needs) in
-          subst (λ w. Left past s (with-deliveries (id-effect s (changed-id (uses-of s 2 es))) (settle-named w (s .deliveries))) (acked (said w))) (sym v)
-          (left-settle (id-effect s (changed-id (uses-of s 2 es))) l (acked l) (other-lens s kept 2 es refl refl) (λ ds. refl) (λ x. refl))
+          subst (λ w. Left past s (settled-in (ids-left 2) (settle-named ms w (s .deliveries))) (acked (said w))) (sym v)
+          (left-settle (ids-left 2) l (acked l) (other-lens s kept 2 es refl refl) (λ ds. refl) (λ x. refl))
 
       nacking : Goal 10
       nacking q =
           let (l, v) = needs-label es (q .needs) in
-          subst (λ w. Left past s (with-deliveries (id-effect s (changed-id (uses-of s 10 es))) (settle-named w (s .deliveries))) (nacked (said w))) (sym v)
-          (left-settle (id-effect s (changed-id (uses-of s 10 es))) l (nacked l) (other-lens s kept 10 es refl refl) (λ ds. refl) (λ x. refl))
+          subst (λ w. Left past s (settled-in (ids-left 10) (settle-named ms w (s .deliveries))) (nacked (said w))) (sym v)
+          (left-settle (ids-left 10) l (nacked l) (other-lens s kept 10 es refl refl) (λ ds. refl) (λ x. refl))
 
       by : (a b c e : Bool) → is SUBSCRIBE n ≡ a → is UNSUBSCRIBE n ≡ b → is ACK n ≡ c → is NACK n ≡ e
-          → Left past s (with-deliveries (id-effect s (changed-id (uses-of s n es))) (delivery-effect s n es)) (frame-event n es)
+          → Left past s (named-effect s n es) (frame-event n es)
       by true b c e x y z w = subst Goal (sym (eqb-true n 14 x)) entering p
       by false true c e x y z w = subst Goal (sym (eqb-true n 15 y)) freeing p
       by false false true e x y z w = subst Goal (sym (eqb-true n 2 z)) acking p
       by false false false true x y z w = subst Goal (sym (eqb-true n 10 w)) nacking p
       by false false false false x y z w =
           let event : frame-event n es ≡ nothing = rw (x, y, z, w, d) in
-          let stays : delivery-effect s n es ≡ s .deliveries = rw (x, y, z, w) in
-          subst (Left past s (with-deliveries (id-effect s (changed-id (uses-of s n es))) (delivery-effect s n es))) (sym event)
-          (subst (λ t. Left past s (with-deliveries (id-effect s (changed-id (uses-of s n es))) t) nothing) (sym stays) (left-other (id-effect s (changed-id (uses-of s n es))) (other-lens s kept n es x y)))
+          let modes-stay : modes-effect s n es ≡ ms = rw (x, y) in
+          let stays : delivery-effect s n es ≡ s .deliveries = rw (y, z, w) in
+          subst (Left past s (named-effect s n es)) (sym event)
+          (subst (λ t. Left past s (with-deliveries (with-modes (ids-left n) t) (delivery-effect s n es)) nothing) (sym modes-stay)
+          (subst (λ t. Left past s (settled-in (ids-left n) t) nothing) (sym stays) (left-other (ids-left n) (other-lens s kept n es x y))))
 
   left-opened : (shared : List Bool) (o : Option HeartBeats) → Left past s (opened-by s shared o) nothing
   left-opened shared none = record { holds-are = refl; knows = knows }
@@ -444,7 +479,7 @@ module _ (past : List Event) (s : Session) (kept : Kept s) (knows : Knows past s
       no-event o = or-either (is CONNECT n) (is STOMP n) o (λ e. ap (λ m. frame-event m es) (eqb-true n 5 e)) (λ e. ap (λ m. frame-event m es) (eqb-true n 13 e))
 
       by : (a b : Bool) → opens n ≡ a → is DISCONNECT n ≡ b
-          → Left past s (cond a (opening s es) (cond b (closed-session s) (with-deliveries (id-effect s (changed-id (uses-of s n es))) (delivery-effect s n es)))) (frame-event n es)
+          → Left past s (cond a (opening s es) (cond b (closed-session s) (named-effect s n es))) (frame-event n es)
       by true b o d = subst (Left past s (opening s es)) (sym (no-event o)) (left-opened (shared-by s (client-versions es)) (client-heart-beats es))
       by false true o d = subst (Left past s (closed-session s)) (sym (ap (λ m. frame-event m es) (eqb-true n 7 d))) (left-closed past s kept knows)
       by false false o d = left-named n es p o d
@@ -477,19 +512,15 @@ module _ (past : List Event) (s : Session) (kept : Kept s) (knows : Knows past s
   unfolding deliver-session deliver-answer
   left-deliver id label = by (deliver-answer s id label) refl
     where
-      modes-kept : (o : Option ℕ) → (record-label o label (s .deliveries)) .modes ≡ s .deliveries .modes
-      modes-kept none = refl
-      modes-kept (some k) = recorded-modes k label (s .deliveries)
-
-      by : (A : Answer) → settle (deliver-checks s id label) [] ≡ A
-          → Left past s (recorded-by A s (with-deliveries s (record-label (place-named s (some id)) label (s .deliveries)))) (event-of (deliver id label) A)
+      by : (A : Answer) → settle (deliver-checks s id label) [] ≡ A → Left past s (recorded-by A s (recording s id label)) (event-of (deliver id label) A)
       by (refused k) e = left-same past s kept knows
       by (accepted v) e =
           let (k, f) = deliver-place s kept id label v e in
-          left-views past s _ (delivered id label) (ids-of Subscriptions s) (record-label (some k) label (s .deliveries)) refl (ap (λ o. record-label o label (s .deliveries)) f)
-          (recorded-held (s .subscriptions .lens) past (ids-of Subscriptions s) (s .deliveries) k id label (deliver-at s kept id label v e k f) (deliver-id s kept id label v e) knows
+          left-views past s _ (delivered id label) (ids-of Subscriptions s) ms (record-label ms (some k) label (s .deliveries)) refl refl
+          (ap (λ o. record-label ms o label (s .deliveries)) f)
+          (recorded-held past (ids-of Subscriptions s) ms (s .deliveries) k id label (deliver-at s kept id label v e k f) (deliver-id s kept id label v e) knows
           (λ a. deliver-entered s kept id label v e k f a .1))
-          (λ j t. ap (λ z. getD z j auto-mode) (modes-kept (some k)) ∙ knows j t)
+          (λ j t. knows j t)
 
   pub left-next : (c : Call) → Left past s (next s c) (event-of c (answer-to s c))
   left-next (frame n block time) = left-frame n block time

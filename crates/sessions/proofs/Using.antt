@@ -14,10 +14,10 @@ use Rattle.headers.proofs.Rows.{and-left, and-right, or-false-right}
 use Rattle.sessions.specs.Stores.{valid-store, used, use-checks}
 use Rattle.sessions.specs.Values.{heart-beat-max}
 use Rattle.sessions.specs.Sessions.{subscriptions-max, transactions-max, id-max, closed-phase}
-use Rattle.sessions.specs.Sessions.{ids-of, with-subscriptions, with-transactions, with-ids, valid-offers, valid-agreed, valid-numbers, valid-ids}
-use Rattle.sessions.specs.Sessions.{right-deliveries, is-valid, Sized}
-use Rattle.sessions.specs.declared.parts.SubscriptionIds.{SubscriptionIds}
-use Rattle.sessions.specs.declared.parts.TransactionIds.{TransactionIds}
+use Rattle.sessions.specs.Sessions.{ids-of, with-subscriptions, with-transactions, with-ids, valid-offers, valid-agreed, valid-numbers}
+use Rattle.sessions.specs.Sessions.{valid-subscriptions, valid-ids, right-deliveries, is-valid, Sized}
+use Rattle.sessions.specs.declared.parts.SubscriptionStore.{SubscriptionStore}
+use Rattle.sessions.specs.declared.parts.TransactionStore.{TransactionStore}
 use Rattle.sessions.specs.Places.{Fits, stored, put-in}
 use Rattle.sessions.specs.Steps.{count-of, put-subscription, put-transaction, put-of}
 use Rattle.sessions.specs.declared.store.Use.{Use}
@@ -45,9 +45,8 @@ module _ (s : Session) (sized : Sized s) (valid : is-valid s ≡ true) where
   valid-of : (k : Kind) → valid-store id-max (store-of k s) (lens-of k s) ≡ true
   unfolding is-valid
   valid-of Subscriptions =
-      and-left (valid-store id-max (s .subscriptions .ids) (s .subscriptions .lens)) (valid-store id-max (s .transactions .ids) (s .transactions .lens)) ids-valid
-  valid-of Transactions =
-      and-right (valid-store id-max (s .subscriptions .ids) (s .subscriptions .lens)) (valid-store id-max (s .transactions .ids) (s .transactions .lens)) ids-valid
+      and-left (valid-store id-max (s .subscriptions .ids) (s .subscriptions .lens)) _ (and-left (valid-subscriptions (s .subscriptions)) _ ids-valid)
+  valid-of Transactions = and-right (valid-subscriptions (s .subscriptions)) _ ids-valid
 
   pub fits-of : (k : Kind) → Fits id-max (count-of k) (store-of k s) (lens-of k s)
   fits-of Subscriptions = valid-fits id-max (s .subscriptions .ids) (s .subscriptions .lens) (valid-of Subscriptions) subscriptions-max (sized .subscriptions .lens-long) (sized .subscriptions .ids-long)
@@ -61,7 +60,9 @@ module _ (s : Session) (sized : Sized s) (valid : is-valid s ≡ true) where
   pub same-ids : (k : Kind) → with-ids k s (ids-of k s) ≡ s
   same-ids Subscriptions =
       let f = fits-of Subscriptions in
-      ap₂ (λ x y. with-subscriptions s (record { ids = x; lens = y })) (laid-ids id-max subscriptions-max (s .subscriptions .ids) (s .subscriptions .lens) f (valid-clean id-max (s .subscriptions .ids) (s .subscriptions .lens) (valid-of Subscriptions)))
+      ap₂ (λ x y. with-subscriptions s (record { ids = x; lens = y; modes = s .subscriptions .modes }))
+      (laid-ids id-max subscriptions-max (s .subscriptions .ids) (s .subscriptions .lens) f
+      (valid-clean id-max (s .subscriptions .ids) (s .subscriptions .lens) (valid-of Subscriptions)))
       (lengths-ids id-max subscriptions-max (s .subscriptions .ids) (s .subscriptions .lens) f)
   same-ids Transactions =
       let f = fits-of Transactions in
@@ -71,8 +72,9 @@ module _ (s : Session) (sized : Sized s) (valid : is-valid s ≡ true) where
   -- with another id in one place they are the session with that id put there
   pub put-ids : (k : Kind) (i : ℕ) (id : List ℕ) → i < count-of k → length id ≤ id-max → put-of k s i id ≡ with-ids k s (set (ids-of k s) i id)
   put-ids Subscriptions i id h l =
-      let (a, b) = put-laid id-max subscriptions-max (s .subscriptions .ids) (s .subscriptions .lens) (fits-of Subscriptions) (valid-clean id-max (s .subscriptions .ids) (s .subscriptions .lens) (valid-of Subscriptions)) i h id l in
-      ap₂ (λ x y. with-subscriptions s (record { ids = x; lens = y })) a b
+      let (a, b) = put-laid id-max subscriptions-max (s .subscriptions .ids) (s .subscriptions .lens) (fits-of Subscriptions)
+      (valid-clean id-max (s .subscriptions .ids) (s .subscriptions .lens) (valid-of Subscriptions)) i h id l in
+      ap₂ (λ x y. with-subscriptions s (record { ids = x; lens = y; modes = s .subscriptions .modes })) a b
   put-ids Transactions i id h l =
       let (a, b) = put-laid id-max transactions-max (s .transactions .ids) (s .transactions .lens) (fits-of Transactions) (valid-clean id-max (s .transactions .ids) (s .transactions .lens) (valid-of Transactions)) i h id l in
       ap₂ (λ x y. with-transactions s (record { ids = x; lens = y })) a b
@@ -93,20 +95,20 @@ stored-fits w u id is e =
 
 -- ids with one put in a place, as they are stored
 module _ (i : ℕ) (id store : List ℕ) (m : ℕ) (l : m ≡ length id) where
-  pub subscription-put : (s : SubscriptionIds) → store ≡ put-in id-max (s .ids) i id
-      → record { ids = store; lens = set (s .lens) i m } ≡ put-subscription s i id
+  pub subscription-put : (s : SubscriptionStore) → store ≡ put-in id-max (s .ids) i id
+      → record { ids = store; lens = set (s .lens) i m; modes = s .modes } ≡ put-subscription s i id
   subscription-put s e = rw (e, l)
 
-  pub transaction-put : (t : TransactionIds) → store ≡ put-in id-max (t .ids) i id
+  pub transaction-put : (t : TransactionStore) → store ≡ put-in id-max (t .ids) i id
       → record { ids = store; lens = set (t .lens) i m } ≡ put-transaction t i id
   transaction-put t e = rw (e, l)
 
 -- a session with an id put in a place of a kind
 module _ (s : Session) (i : ℕ) (id : List ℕ) (k : Kind) where
-  pub subscription-stored : (ids : SubscriptionIds) → k ≡ Subscriptions → ids ≡ put-subscription (s .subscriptions) i id → with-subscriptions s ids ≡ put-of k s i id
+  pub subscription-stored : (ids : SubscriptionStore) → k ≡ Subscriptions → ids ≡ put-subscription (s .subscriptions) i id → with-subscriptions s ids ≡ put-of k s i id
   subscription-stored ids is e = rw (is, e)
 
-  pub transaction-stored : (ids : TransactionIds) → k ≡ Transactions → ids ≡ put-transaction (s .transactions) i id → with-transactions s ids ≡ put-of k s i id
+  pub transaction-stored : (ids : TransactionStore) → k ≡ Transactions → ids ≡ put-transaction (s .transactions) i id → with-transactions s ids ≡ put-of k s i id
   transaction-stored ids is e = rw (is, e)
 
 -- the interval of a valid session is small

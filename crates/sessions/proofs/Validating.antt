@@ -11,7 +11,7 @@ use Rattle.headers.specs.Rows.{every}
 use Rattle.headers.proofs.Rows.{and-no}
 use Rattle.stores.specs.Places.{is-zero}
 use Rattle.sessions.specs.Stores.{valid-store}
-use Rattle.sessions.specs.Deliveries.{auto-mode, some-lengths, idle-modes, acknowledging, valid-labels, valid-places, valid-deliveries}
+use Rattle.sessions.specs.Deliveries.{auto-mode, some-lengths, idle-modes, acknowledging, valid-labels, valid-places, valid-pending}
 use Rattle.sessions.specs.Sessions.{open-phase, valid-numbers, valid-ids, is-valid}
 use Rattle.sessions.specs.Steps.{valid-parts}
 use Rattle.sessions.specs.declared.session.Session.{Session}
@@ -25,25 +25,11 @@ no-first a b e = sym (ap (_&& b) e)
 pub yes-first : (a b : Bool) → a ≡ true → b ≡ a && b
 yes-first a b e = sym (ap (_&& b) e)
 
--- a count; modes that are known and idle; labels and places
-module _ (a k i l p : Bool) (few : a ≡ true) where
-  pub not-known : k ≡ false → false ≡ a && ((k && i) && (l && p))
-  not-known h = rw (few, h)
-
-  pub not-idle : k ≡ true → i ≡ false → false ≡ a && ((k && i) && (l && p))
-  not-idle h j = rw (few, h, j)
-
-  pub not-labels : k ≡ true → i ≡ true → l ≡ false → false ≡ a && ((k && i) && (l && p))
-  not-labels h j m = rw (few, h, j, m)
-
-  pub by-places : k ≡ true → i ≡ true → l ≡ true → p ≡ a && ((k && i) && (l && p))
-  by-places h j m = rw (few, h, j, m)
-
 -- a whole record: its numbers, its ids, its deliveries
 pub whole-valid : (s : Session) (n i d : Bool) → n ≡ valid-numbers s → i ≡ valid-ids s
-    → d ≡ valid-parts (s .deliveries .labels) (s .deliveries .lens) (s .deliveries .places) (s .deliveries .modes) (s .subscriptions .lens) (s .deliveries .count)
+    → d ≡ valid-parts (s .deliveries .labels) (s .deliveries .lens) (s .deliveries .places) (s .subscriptions .modes) (s .subscriptions .lens) (s .deliveries .count)
     → n && (i && (d && (eqb (s .phase) open-phase || eqb (s .deliveries .count) 0))) ≡ is-valid s
-unfolding is-valid valid-deliveries
+unfolding is-valid valid-pending
 whole-valid s n i d a b c = ap₂ (λ x y. x && (y && (d && (eqb (s .phase) open-phase || eqb (s .deliveries .count) 0)))) a b
     ∙ ap (λ z. valid-numbers s && (valid-ids s && (z && (eqb (s .phase) open-phase || eqb (s .deliveries .count) 0)))) c
 

@@ -12,13 +12,13 @@ use Rattle.headers.specs.Answers.{Answer, accepted, refused, Check, settle, is-
 use Rattle.frames.specs.Grammar.{DISCONNECT, SUBSCRIBE, UNSUBSCRIBE}
 use Rattle.stores.specs.Searches.{first-from}
 use Rattle.sessions.specs.Stores.{live, used, bad-length, live-again, not-live, no-room}
-use Rattle.sessions.specs.Deliveries.{deliveries-max, label-max, auto-mode, mode-of, is-pending, settle-label, subscribe, unsubscribe, record-label}
+use Rattle.sessions.specs.Deliveries.{deliveries-max, label-max, auto-mode, mode-of, is-pending, settle-label, with-mode, dropped, record-label}
 use Rattle.sessions.specs.Values.{HeartBeats, versions, heart-beats, heart-beat-max}
 use Rattle.sessions.specs.Opening.{shared-flags, none-shared, may-offer, interval, overdue}
 use Rattle.sessions.specs.Headers.{value-of, has, is-some, is, unknown, from-server, opens, needed-by, namings-by, IdUse, id-uses, changed-id}
 use Rattle.sessions.specs.Headers.{mode-asked, settles}
 use Rattle.sessions.specs.Sessions.{id-max, fresh-phase, open-phase, closed-phase, in-phase, fresh, ids-of, with-ids, with-deliveries, closed, opened}
-use Rattle.sessions.specs.Sessions.{heard, spoken, is-valid}
+use Rattle.sessions.specs.Sessions.{with-modes, heard, spoken, is-valid}
 use Rattle.sessions.specs.Answers.{bit, acceptance-says}
 use Rattle.sessions.specs.declared.command.Header.{Header}
 use Rattle.sessions.specs.declared.command.Header.the-variants.{AcceptVersion, HeartBeat, Id, Receipt}
@@ -178,7 +178,7 @@ abbrev pub id-effect : Session → Option IdUse → Session
 id-effect s none = s
 id-effect s (some u) = with-ids (u .kind) s (used (u .usage) (u .id) (ids-of (u .kind) s))
 
--- the deliveries after it: SUBSCRIBE keeps a mode for the place that it takes, UNSUBSCRIBE drops those of its place, ACK and NACK settle
+-- the place of a subscription's id, and the first free one
 abbrev pub place-named : Session → Option (List ℕ) → Option ℕ
 place-named s none = none
 place-named s (some id) = first-from (λ x. same x id) 0 (ids-of Subscriptions s)
@@ -190,22 +190,31 @@ abbrev pub mode-or-auto : Option ℕ → ℕ
 mode-or-auto none = auto-mode
 mode-or-auto (some m) = m
 
-abbrev pub settle-named : Option (List ℕ) → Deliveries → Deliveries
-settle-named none d = d
-settle-named (some l) d = settle-label l d
+-- the modes after it: SUBSCRIBE sets that of the place that it takes, and a place that UNSUBSCRIBE frees has auto
+abbrev pub modes-effect : Session → ℕ → List Entry → List ℕ
+modes-effect s n es =
+    cond (is SUBSCRIBE n) (with-mode (free-place s) (mode-or-auto (mode-asked es)) (s .subscriptions .modes))
+    (cond (is UNSUBSCRIBE n) (with-mode (place-named s (value-of Id es)) auto-mode (s .subscriptions .modes)) (s .subscriptions .modes))
+
+-- the deliveries after it: UNSUBSCRIBE drops those of its place, ACK and NACK settle
+abbrev pub settle-named : List ℕ → Option (List ℕ) → Deliveries → Deliveries
+settle-named ms none d = d
+settle-named ms (some l) d = settle-label ms l d
 
 abbrev pub delivery-effect : Session → ℕ → List Entry → Deliveries
 delivery-effect s n es =
-    cond (is SUBSCRIBE n) (subscribe (free-place s) (mode-or-auto (mode-asked es)) (s .deliveries))
-    (cond (is UNSUBSCRIBE n) (unsubscribe (place-named s (value-of Id es)) (s .deliveries))
-    (cond (settles n) (settle-named (label-named es) (s .deliveries)) (s .deliveries)))
+    cond (is UNSUBSCRIBE n) (dropped (place-named s (value-of Id es)) (s .deliveries))
+    (cond (settles n) (settle-named (s .subscriptions .modes) (label-named es) (s .deliveries)) (s .deliveries))
+
+-- all that a frame changes that may name an id or a delivery
+abbrev pub named-effect : Session → ℕ → List Entry → Session
+named-effect s n es = with-deliveries (with-modes (id-effect s (changed-id (uses-of s n es))) (modes-effect s n es)) (delivery-effect s n es)
 
 -- CONNECT and STOMP open; "DISCONNECT closes, accepted"; the others enter an id, free one, or change none
 abbrev pub effect : Session → ℕ → List Entry → Session
 effect s n es =
     cond (opens n) (opening s es)
-    (cond (is DISCONNECT n) (closed s)
-    (with-deliveries (id-effect s (changed-id (uses-of s n es))) (delivery-effect s n es)))
+    (cond (is DISCONNECT n) (closed s) (named-effect s n es))
 
 -- "Accepted frames and beats set last-heard."
 unfoldable pub frame-session : Session → ℕ → List ℕ → ℕ → Session
@@ -239,7 +248,7 @@ timed-out-answer s time = settle (record { fails = not (is-valid s); number = 38
 
 abbrev pub is-auto : Session → Option ℕ → Bool
 is-auto s none = true
-is-auto s (some k) = eqb (mode-of (s .deliveries) k) auto-mode
+is-auto s (some k) = eqb (mode-of (s .subscriptions .modes) k) auto-mode
 
 abbrev pub deliver-checks : Session → List ℕ → List ℕ → List Check
 deliver-checks s id label =
@@ -257,6 +266,9 @@ abbrev pub recorded-by : Answer → Session → Session → Session
 recorded-by (accepted values) before after = after
 recorded-by (refused k) before after = before
 
+-- the session with the delivery recorded
+abbrev pub recording : Session → List ℕ → List ℕ → Session
+recording s id label = with-deliveries s (record-label (s .subscriptions .modes) (place-named s (some id)) label (s .deliveries))
+
 unfoldable pub deliver-session : Session → List ℕ → List ℕ → Session
-deliver-session s id label =
-    recorded-by (deliver-answer s id label) s (with-deliveries s (record-label (place-named s (some id)) label (s .deliveries)))
+deliver-session s id label = recorded-by (deliver-answer s id label) s (recording s id label)

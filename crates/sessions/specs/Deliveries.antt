@@ -1,5 +1,5 @@
--- What a session keeps for deliveries (document 02, C-15): the ack modes of its subscriptions and the pending deliveries as a list,
--- oldest first; what is left of them when some are settled or dropped; what makes the record valid. Assumes nothing.
+-- What a session keeps for deliveries (document 02, C-15): the pending deliveries as a list, oldest first, and the ack modes of its
+-- subscriptions; what is left of them when some are settled or dropped; what makes them valid. Assumes nothing.
 use mathlib.Core.Bool.{Bool, true, false, cond, _&&_, _||_, not}
 use mathlib.Core.Option.{Option, none, some}
 use mathlib.Core.List.{List, [], _∷_, _++_, map}
@@ -11,6 +11,7 @@ use Rattle.headers.specs.Rows.{every, any, first-of, same}
 use Rattle.stores.specs.Places.{is-zero}
 use Rattle.sessions.specs.Stores.{ids, laid, lengths, short, clean, valid-store}
 use Rattle.sessions.specs.declared.delivery.Deliveries.{Deliveries}
+use Rattle.sessions.specs.declared.parts.SubscriptionStore.{SubscriptionStore}
 
 -- "up to 64 outstanding deliveries, each with a label of 1 to 32 octets"
 abbrev pub deliveries-max : ℕ
@@ -22,10 +23,6 @@ label-max = 32
 -- the octets of 64 labels
 abbrev pub labels-size : ℕ
 labels-size = 2048
-
--- one ack mode for each of the 16 subscriptions that a session keeps
-abbrev pub modes-max : ℕ
-modes-max = 16
 
 -- "each subscription's mode from the ack header (auto, client, client-individual; absent means auto)", numbered in this order
 abbrev pub auto-mode : ℕ
@@ -61,35 +58,20 @@ places-of ps = map (λ (p : Pending). p .place) ps
 abbrev pub filled : ℕ → List ℕ → List ℕ
 filled n xs = xs ++ replicate (n - length xs) 0
 
-unfoldable pub with-pending : Deliveries → List Pending → Deliveries
-with-pending d ps = record {
+unfoldable pub deliveries-of : List Pending → Deliveries
+deliveries-of ps = record {
   labels = filled labels-size (laid label-max (labels-of ps));
   lens = filled deliveries-max (lengths (labels-of ps));
   places = filled deliveries-max (places-of ps);
-  modes = d .modes;
   count = length ps;
 }
 
-abbrev pub with-modes : Deliveries → List ℕ → Deliveries
-with-modes d ms = record { labels = d .labels; lens = d .lens; places = d .places; modes = ms; count = d .count }
-
--- of a fresh session: none, and every mode auto
+-- of a session that is fresh or closed
 abbrev pub no-deliveries : Deliveries
 no-deliveries = record {
   labels = replicate labels-size 0;
   lens = replicate deliveries-max 0;
   places = replicate deliveries-max 0;
-  modes = replicate modes-max auto-mode;
-  count = 0;
-}
-
--- "Any close now empties these places."
-abbrev pub emptied : Deliveries → Deliveries
-emptied d = record {
-  labels = replicate labels-size 0;
-  lens = replicate deliveries-max 0;
-  places = replicate deliveries-max 0;
-  modes = d .modes;
   count = 0;
 }
 
@@ -105,8 +87,9 @@ abbrev pub settled : {A : Type 0} → (A → Bool) → (A → Bool) → List A �
 settled named goes [] = []
 settled named goes (d ∷ ds) = cond (named d) ds (cond (goes d) (settled named goes ds) (d ∷ settled named goes ds))
 
-abbrev pub mode-of : Deliveries → ℕ → ℕ
-mode-of d place = getD (d .modes) place auto-mode
+-- the mode of the subscription in a place
+abbrev pub mode-of : List ℕ → ℕ → ℕ
+mode-of ms place = getD ms place auto-mode
 
 abbrev pub labelled : List ℕ → Pending → Bool
 labelled l p = same (p .label) l
@@ -117,29 +100,30 @@ is-pending l d = any (labelled l) (pending d)
 
 -- "In client mode ACK or NACK settles the named delivery and all earlier outstanding ones of that subscription; in client-individual
 -- only the named one."
-abbrev pub goes-with : Deliveries → Pending → Pending → Bool
-goes-with d named p = eqb (mode-of d (named .place)) client-mode && eqb (p .place) (named .place)
+abbrev pub goes-with : List ℕ → Pending → Pending → Bool
+goes-with ms named p = eqb (mode-of ms (named .place)) client-mode && eqb (p .place) (named .place)
 
-abbrev pub settled-as : List ℕ → Deliveries → Option Pending → Deliveries
-settled-as l d none = d
-settled-as l d (some p) = with-pending d (settled (labelled l) (goes-with d p) (pending d))
+abbrev pub settled-as : List ℕ → List ℕ → Deliveries → Option Pending → Deliveries
+settled-as ms l d none = d
+settled-as ms l d (some p) = deliveries-of (settled (labelled l) (goes-with ms p) (pending d))
 
-abbrev pub settle-label : List ℕ → Deliveries → Deliveries
-settle-label l d = settled-as l d (first-of (labelled l) (pending d))
+abbrev pub settle-label : List ℕ → List ℕ → Deliveries → Deliveries
+settle-label ms l d = settled-as ms l d (first-of (labelled l) (pending d))
 
--- a subscription entered in a place, with its mode; one that is freed, "dropped at UNSUBSCRIBE"
-abbrev pub subscribe : Option ℕ → ℕ → Deliveries → Deliveries
-subscribe none m d = d
-subscribe (some k) m d = with-modes d (set (d .modes) k m)
+-- the modes with that of a subscription in a place set
+abbrev pub with-mode : Option ℕ → ℕ → List ℕ → List ℕ
+with-mode none m ms = ms
+with-mode (some k) m ms = set ms k m
 
-abbrev pub unsubscribe : Option ℕ → Deliveries → Deliveries
-unsubscribe none d = d
-unsubscribe (some k) d = with-modes (with-pending d (without (λ (p : Pending). eqb (p .place) k) (pending d))) (set (d .modes) k auto-mode)
+-- those of a subscription in a place "dropped at UNSUBSCRIBE"
+abbrev pub dropped : Option ℕ → Deliveries → Deliveries
+dropped none d = d
+dropped (some k) d = deliveries-of (without (λ (p : Pending). eqb (p .place) k) (pending d))
 
 -- a delivery recorded: "Auto counts as acknowledged at once and takes no place."
-abbrev pub record-label : Option ℕ → List ℕ → Deliveries → Deliveries
-record-label none l d = d
-record-label (some k) l d = cond (eqb (mode-of d k) auto-mode) d (with-pending d (pending d ++ (record { place = k; label = l } ∷ [])))
+abbrev pub record-label : List ℕ → Option ℕ → List ℕ → Deliveries → Deliveries
+record-label ms none l d = d
+record-label ms (some k) l d = cond (eqb (mode-of ms k) auto-mode) d (deliveries-of (pending d ++ (record { place = k; label = l } ∷ [])))
 
 -- ---- A valid record: 38 "at least for an unknown mode, more than 64 deliveries, bad or equal labels, and a delivery of no live
 -- subscription or an auto one". A free place has mode auto, and all octets after the pending deliveries are 0.
@@ -150,6 +134,9 @@ abbrev pub idle-modes : List ℕ → List ℕ → Bool
 idle-modes [] ms = true
 idle-modes (l ∷ ls) [] = true
 idle-modes (l ∷ ls) (m ∷ ms) = (not (eqb l 0) || eqb m auto-mode) && idle-modes ls ms
+
+unfoldable pub valid-modes : List ℕ → List ℕ → Bool
+valid-modes sub-lens ms = known-modes ms && idle-modes sub-lens ms
 
 abbrev pub some-lengths : List ℕ → Bool
 some-lengths ls = every (λ l. not (eqb l 0)) ls
@@ -165,14 +152,12 @@ acknowledging sub-lens ms p = not (eqb (getD sub-lens p 0) 0) && not (eqb (getD 
 abbrev pub valid-places : ℕ → List ℕ → List ℕ → List ℕ → Bool
 valid-places n places sub-lens ms = every (acknowledging sub-lens ms) (take n places) && is-zero (drop n places)
 
-abbrev pub valid-modes : List ℕ → Deliveries → Bool
-valid-modes sub-lens d = known-modes (d .modes) && idle-modes sub-lens (d .modes)
+unfoldable pub valid-pending : List ℕ → List ℕ → Deliveries → Bool
+valid-pending sub-lens ms d =
+    leb (d .count) deliveries-max && (valid-labels (d .count) (d .labels) (d .lens) && valid-places (d .count) (d .places) sub-lens ms)
 
-abbrev pub valid-pending : List ℕ → Deliveries → ℕ → Bool
-valid-pending sub-lens d n = valid-labels n (d .labels) (d .lens) && valid-places n (d .places) sub-lens (d .modes)
-
-unfoldable pub valid-deliveries : List ℕ → Deliveries → Bool
-valid-deliveries sub-lens d = leb (d .count) deliveries-max && (valid-modes sub-lens d && valid-pending sub-lens d (d .count))
+abbrev pub valid-deliveries : SubscriptionStore → Deliveries → Bool
+valid-deliveries s d = valid-pending (s .lens) (s .modes) d
 
 -- What the code that moves them relies on: a record whose labels are laid out, as a valid one's are.
 pub record Laid (d : Deliveries) : Type 0 where

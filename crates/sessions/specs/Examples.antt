@@ -15,8 +15,8 @@ use Rattle.frames.specs.Grammar.{MESSAGE, NACK, RECEIPT, SEND, STOMP, SUBSCRIBE
 use Rattle.sessions.specs.Values.{versions}
 use Rattle.sessions.specs.Opening.{shared-flags, highest, passed}
 use Rattle.sessions.specs.Sessions.{fresh-phase, open-phase, closed-phase, fresh, ids-of, with-ids, with-subscriptions, with-transactions, with-phase}
-use Rattle.sessions.specs.Sessions.{with-deliveries, opened, heard}
-use Rattle.sessions.specs.Deliveries.{auto-mode, client-mode, individual-mode, Pending, with-pending, with-modes}
+use Rattle.sessions.specs.Sessions.{with-modes, with-deliveries, opened, heard}
+use Rattle.sessions.specs.Deliveries.{auto-mode, client-mode, individual-mode, Pending, deliveries-of}
 use Rattle.sessions.specs.Accounts.{Delivery, Event, recorded, accounts, with-fate, is-acknowledged, is-refused, is-dropped, pending-in}
 use Rattle.sessions.specs.Held.{held-deliveries, pending-answer}
 use Rattle.sessions.specs.Calls.{made, making-answer, timed-out-answer}
@@ -148,7 +148,7 @@ late time = record { time = time; answer = accepted (1 ∷ []) }
 abbrev in-time : ℕ → Question
 in-time time = record { time = time; answer = accepted (0 ∷ []) }
 
-abbrev entry : String → String → Entry
+abbrev pub entry : String → String → Entry
 entry n v = record { name = octets-of n; value = octets-of v }
 
 abbrev frame-of : Command → List Entry → ℕ → Call
@@ -731,12 +731,18 @@ with-texts subscriptions transactions =
     with-ids Transactions (with-ids Subscriptions (in-state v1-2 open-phase) (map octets-of subscriptions ++ replicate 14 []))
     (map octets-of transactions ++ replicate 2 [])
 
+-- the first octet of the first subscription's place and its length, and its mode
+abbrev pub with-place : ℕ → ℕ → ℕ → Session
+with-place octet len mode =
+    with-subscriptions (in-state v1-2 open-phase)
+    (record { ids = octet ∷ replicate 511 0; lens = len ∷ replicate 15 0; modes = mode ∷ replicate 15 auto-mode })
+
+-- the same with the first transaction's place, in mode auto
 abbrev with-octets : ℕ → ℕ → ℕ → ℕ → Session
 with-octets sub sub-len tx tx-len =
-    with-transactions (with-subscriptions (in-state v1-2 open-phase) (record { ids = sub ∷ replicate 511 0; lens = sub-len ∷ replicate 15 0 }))
-    (record { ids = tx ∷ replicate 127 0; lens = tx-len ∷ replicate 3 0 })
+    with-transactions (with-place sub sub-len auto-mode) (record { ids = tx ∷ replicate 127 0; lens = tx-len ∷ replicate 3 0 })
 
-abbrev invalid : Session → Life
+abbrev pub invalid : Session → Life
 invalid s = record {
   start = given s;
   events = heart-beat 1 ⇒ refused 38 ∷ frame 0 [] 1 ⇒ refused 38 ∷ frame-of SEND (entry "destination" "/d" ∷ []) 1 ⇒ refused 38 ∷ [];
@@ -876,13 +882,15 @@ labels-from (suc n) k = record { place = 0; label = k ∷ [] } ∷ labels-from n
 
 -- a session with three subscriptions, of modes client, auto and client-individual, and these deliveries
 abbrev three-live : Session
-three-live = with-ids Subscriptions (in-state v1-2 open-phase) (map octets-of ("a" ∷ "b" ∷ "c" ∷ []) ++ replicate 13 [])
+three-live =
+    with-modes (with-ids Subscriptions (in-state v1-2 open-phase) (map octets-of ("a" ∷ "b" ∷ "c" ∷ []) ++ replicate 13 []))
+    ((client-mode ∷ auto-mode ∷ individual-mode ∷ []) ++ replicate 13 auto-mode)
 
-abbrev three-modes : List ℕ
-three-modes = (client-mode ∷ auto-mode ∷ individual-mode ∷ []) ++ replicate 13 auto-mode
+abbrev three-with : Deliveries → Session
+three-with d = with-deliveries three-live d
 
 abbrev many-given : ℕ → Session
-many-given n = with-deliveries three-live (with-pending (with-modes (three-live .deliveries) three-modes) (labels-from n 1))
+many-given n = three-with (deliveries-of (labels-from n 1))
 
 abbrev all-given : Call → Answer → Life
 all-given c a = record { start = given (many-given 64); events = c ⇒ a ∷ []; left = state-of (many-given 64) (told (c ⇒ a ∷ [])); asked = [] }
@@ -988,12 +996,11 @@ record-numbers =
 -- "38 grows by a rule for the new fields, ... at least for an unknown mode, more than 64 deliveries, bad or equal labels, and a delivery
 -- of no live subscription or an auto one": also for the mode of a free place, for octets that are not in use, and for deliveries of a
 -- session that is not open. One delivery with a label of this octet and length, in this place; and two with these labels.
-abbrev one-delivery : ℕ → ℕ → ℕ → List ℕ → ℕ → Deliveries
-one-delivery octet len place modes count = record {
+abbrev one-delivery : ℕ → ℕ → ℕ → ℕ → Deliveries
+one-delivery octet len place count = record {
   labels = octet ∷ replicate 2047 0;
   lens = len ∷ replicate 63 0;
   places = place ∷ replicate 63 0;
-  modes = modes;
   count = count;
 }
 
@@ -1002,42 +1009,38 @@ two-deliveries a b = record {
   labels = (a ∷ replicate 31 0) ++ (b ∷ replicate 2015 0);
   lens = (1 ∷ 1 ∷ []) ++ replicate 62 0;
   places = (0 ∷ 2 ∷ []) ++ replicate 62 0;
-  modes = three-modes;
   count = 2;
 }
-
-abbrev three-with : Deliveries → Session
-three-with d = with-deliveries three-live d
 
 abbrev in-phase-with : ℕ → Deliveries → Session
 in-phase-with phase d = with-phase (three-with d) phase
 
 unfoldable pub record-modes : List Life
 record-modes =
-    valid (three-with (one-delivery 0 0 0 three-modes 0)) ∷
-    invalid (three-with (one-delivery 0 0 0 ((3 ∷ 0 ∷ 0 ∷ []) ++ replicate 13 0) 0)) ∷
-    invalid (in-phase-with open-phase (one-delivery 0 0 0 ((0 ∷ 0 ∷ 0 ∷ 1 ∷ []) ++ replicate 12 0) 0)) ∷
-    valid-closed (in-phase-with closed-phase (one-delivery 0 0 0 three-modes 0)) ∷
+    valid (three-with (one-delivery 0 0 0 0)) ∷
+    invalid (with-place 1 1 3) ∷
+    invalid (with-place 0 0 client-mode) ∷
+    valid-closed (in-phase-with closed-phase (one-delivery 0 0 0 0)) ∷
     []
 
 unfoldable pub record-labels : List Life
 record-labels =
-    valid (three-with (one-delivery 7 1 0 three-modes 1)) ∷
-    invalid (three-with (one-delivery 7 1 0 three-modes 65)) ∷
-    invalid (three-with (one-delivery 0 0 0 three-modes 1)) ∷
-    invalid (three-with (one-delivery 7 33 0 three-modes 1)) ∷
-    invalid (three-with (one-delivery 7 1 0 three-modes 0)) ∷
-    invalid (three-with (one-delivery 7 0 0 three-modes 0)) ∷
-    invalid (three-with (one-delivery 0 0 2 three-modes 0)) ∷
+    valid (three-with (one-delivery 7 1 0 1)) ∷
+    invalid (three-with (one-delivery 7 1 0 65)) ∷
+    invalid (three-with (one-delivery 0 0 0 1)) ∷
+    invalid (three-with (one-delivery 7 33 0 1)) ∷
+    invalid (three-with (one-delivery 7 1 0 0)) ∷
+    invalid (three-with (one-delivery 7 0 0 0)) ∷
+    invalid (three-with (one-delivery 0 0 2 0)) ∷
     []
 
 unfoldable pub record-places : List Life
 record-places =
-    invalid (three-with (one-delivery 7 1 1 three-modes 1)) ∷
-    invalid (three-with (one-delivery 7 1 3 three-modes 1)) ∷
-    invalid (three-with (one-delivery 7 1 16 three-modes 1)) ∷
-    invalid (in-phase-with fresh-phase (one-delivery 7 1 0 three-modes 1)) ∷
-    invalid (in-phase-with closed-phase (one-delivery 7 1 0 three-modes 1)) ∷
+    invalid (three-with (one-delivery 7 1 1 1)) ∷
+    invalid (three-with (one-delivery 7 1 3 1)) ∷
+    invalid (three-with (one-delivery 7 1 16 1)) ∷
+    invalid (in-phase-with fresh-phase (one-delivery 7 1 0 1)) ∷
+    invalid (in-phase-with closed-phase (one-delivery 7 1 0 1)) ∷
     valid (three-with (two-deliveries 7 8)) ∷
     invalid (three-with (two-deliveries 7 7)) ∷
     []

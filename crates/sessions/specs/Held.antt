@@ -16,7 +16,11 @@ use Rattle.sessions.specs.declared.session.PendingAt.{PendingAt}
 
 -- the id and the ack mode of the subscription in the place of each, and its label
 abbrev pub delivery-of : Session → Pending → Delivery
-delivery-of s p = record { subscription = getD (ids-of Subscriptions s) (p .place) []; mode = mode-of (s .deliveries) (p .place); label = p .label }
+delivery-of s p = record {
+  subscription = getD (ids-of Subscriptions s) (p .place) [];
+  mode = mode-of (s .subscriptions .modes) (p .place);
+  label = p .label;
+}
 
 abbrev pub held-deliveries : Session → List Delivery
 held-deliveries s = map (delivery-of s) (pending (s .deliveries))

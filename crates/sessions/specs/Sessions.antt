@@ -7,7 +7,7 @@ use lib.ListN.{length, replicate}
 use lib.Dec.{eqb, leb}
 use Rattle.frames.specs.Grammar.{Version, v1-2}
 use Rattle.sessions.specs.Stores.{ids, laid, lengths, valid-store}
-use Rattle.sessions.specs.Deliveries.{deliveries-max, label-max, modes-max, no-deliveries, emptied, valid-deliveries}
+use Rattle.sessions.specs.Deliveries.{deliveries-max, label-max, auto-mode, no-deliveries, valid-modes, valid-deliveries}
 use Rattle.sessions.specs.Values.{heart-beat-max}
 use Rattle.sessions.specs.Opening.{may-offer}
 use Rattle.sessions.specs.declared.command.Kind.{Kind}
@@ -15,8 +15,8 @@ use Rattle.sessions.specs.declared.command.Kind.the-variants.{Subscripti
 use Rattle.sessions.specs.declared.delivery.Deliveries.{Deliveries}
 use Rattle.sessions.specs.declared.parts.Offers.{Offers}
 use Rattle.sessions.specs.declared.parts.Agreed.{Agreed}
-use Rattle.sessions.specs.declared.parts.SubscriptionIds.{SubscriptionIds}
-use Rattle.sessions.specs.declared.parts.TransactionIds.{TransactionIds}
+use Rattle.sessions.specs.declared.parts.SubscriptionStore.{SubscriptionStore}
+use Rattle.sessions.specs.declared.parts.TransactionStore.{TransactionStore}
 use Rattle.sessions.specs.declared.session.Session.{Session}
 
 -- "A session keeps 16 subscription ids and 4 transaction ids of 1 to 32 octets"
@@ -45,7 +45,7 @@ in-phase p s = eqb (s .phase) p
 -- ---- the record, of its parts
 
 -- the only place that lists every part
-abbrev pub session-of : Offers → Agreed → SubscriptionIds → TransactionIds → Deliveries → ℕ → ℕ → Session
+abbrev pub session-of : Offers → Agreed → SubscriptionStore → TransactionStore → Deliveries → ℕ → ℕ → Session
 session-of offers agreed subscriptions transactions deliveries last-heard phase = record {
   offers = offers;
   agreed = agreed;
@@ -60,10 +60,14 @@ session-of offers agreed subscriptions transactions deliveries last-heard phase 
 abbrev pub nothing-agreed : Agreed
 nothing-agreed = record { inbound = 0; outbound = 0; versions = replicate 3 false }
 
-abbrev pub no-subscriptions : SubscriptionIds
-no-subscriptions = record { ids = replicate (subscriptions-max * id-max) 0; lens = replicate subscriptions-max 0 }
+abbrev pub no-subscriptions : SubscriptionStore
+no-subscriptions = record {
+  ids = replicate (subscriptions-max * id-max) 0;
+  lens = replicate subscriptions-max 0;
+  modes = replicate subscriptions-max auto-mode;
+}
 
-abbrev pub no-transactions : TransactionIds
+abbrev pub no-transactions : TransactionStore
 no-transactions = record { ids = replicate (transactions-max * id-max) 0; lens = replicate transactions-max 0 }
 
 abbrev pub fresh : ℕ → ℕ → List Bool → Session
@@ -71,10 +75,10 @@ fresh sends wants offered =
     session-of (record { sends = sends; wants = wants; versions = offered }) nothing-agreed no-subscriptions no-transactions no-deliveries 0 fresh-phase
 
 -- the session with another part
-abbrev pub with-subscriptions : Session → SubscriptionIds → Session
+abbrev pub with-subscriptions : Session → SubscriptionStore → Session
 with-subscriptions s ids = session-of (s .offers) (s .agreed) ids (s .transactions) (s .deliveries) (s .«last_heard») (s .phase)
 
-abbrev pub with-transactions : Session → TransactionIds → Session
+abbrev pub with-transactions : Session → TransactionStore → Session
 with-transactions s ids = session-of (s .offers) (s .agreed) (s .subscriptions) ids (s .deliveries) (s .«last_heard») (s .phase)
 
 abbrev pub with-deliveries : Session → Deliveries → Session
@@ -95,7 +99,7 @@ opened s shared inbound outbound =
 
 -- "Any close now empties these places."
 abbrev pub closed : Session → Session
-closed s = with-deliveries (with-phase s closed-phase) (emptied (s .deliveries))
+closed s = with-deliveries (with-phase s closed-phase) no-deliveries
 
 -- The view of a session: its ids of a kind as a list, [] for a free place; and the session with other ids, laid out.
 abbrev pub ids-of : Kind → Session → List (List ℕ)
@@ -103,8 +107,12 @@ ids-of Subscriptions s = ids id-max (s .subscriptions .ids) (s .subscriptions .l
 ids-of Transactions s = ids id-max (s .transactions .ids) (s .transactions .lens)
 
 abbrev pub with-ids : Kind → Session → List (List ℕ) → Session
-with-ids Subscriptions s is = with-subscriptions s (record { ids = laid id-max is; lens = lengths is })
+with-ids Subscriptions s is = with-subscriptions s (record { ids = laid id-max is; lens = lengths is; modes = s .subscriptions .modes })
 with-ids Transactions s is = with-transactions s (record { ids = laid id-max is; lens = lengths is })
+
+-- the session with other ack modes of its subscriptions
+abbrev pub with-modes : Session → List ℕ → Session
+with-modes s ms = with-subscriptions s (record { ids = s .subscriptions .ids; lens = s .subscriptions .lens; modes = ms })
 
 -- the protocol version that the frames of a session are in: 1.2, the only one that it may offer
 abbrev pub spoken : Session → Version
@@ -125,10 +133,10 @@ right-flags s = in-phase closed-phase s || may-offer (s .offers .versions)
 abbrev pub valid-numbers : Session → Bool
 valid-numbers s = leb (s .phase) closed-phase && ((valid-offers (s .offers) && valid-agreed (s .agreed)) && right-flags s)
 
-abbrev pub valid-subscriptions : SubscriptionIds → Bool
-valid-subscriptions s = valid-store id-max (s .ids) (s .lens)
+abbrev pub valid-subscriptions : SubscriptionStore → Bool
+valid-subscriptions s = valid-store id-max (s .ids) (s .lens) && valid-modes (s .lens) (s .modes)
 
-abbrev pub valid-transactions : TransactionIds → Bool
+abbrev pub valid-transactions : TransactionStore → Bool
 valid-transactions t = valid-store id-max (t .ids) (t .lens)
 
 abbrev pub valid-ids : Session → Bool
@@ -136,17 +144,18 @@ valid-ids s = valid-subscriptions (s .subscriptions) && valid-transactions (s .t
 
 -- no deliveries are pending but in an open session
 abbrev pub right-deliveries : Session → Bool
-right-deliveries s = valid-deliveries (s .subscriptions .lens) (s .deliveries) && (in-phase open-phase s || eqb (s .deliveries .count) 0)
+right-deliveries s = valid-deliveries (s .subscriptions) (s .deliveries) && (in-phase open-phase s || eqb (s .deliveries .count) 0)
 
 unfoldable pub is-valid : Session → Bool
 is-valid s = valid-numbers s && (valid-ids s && right-deliveries s)
 
 -- the sizes that the arrays of every record have
-pub record SizedSubscriptions (s : SubscriptionIds) : Type 0 where
+pub record SizedSubscriptions (s : SubscriptionStore) : Type 0 where
   pub ids-long : length (s .ids) ≡ subscriptions-max * id-max
   pub lens-long : length (s .lens) ≡ subscriptions-max
+  pub modes-long : length (s .modes) ≡ subscriptions-max
 
-pub record SizedTransactions (t : TransactionIds) : Type 0 where
+pub record SizedTransactions (t : TransactionStore) : Type 0 where
   pub ids-long : length (t .ids) ≡ transactions-max * id-max
   pub lens-long : length (t .lens) ≡ transactions-max
 
@@ -158,4 +167,3 @@ pub record SizedDeliveries (d : Deliveries) : Type 0 where
   pub labels-long : length (d .labels) ≡ deliveries-max * label-max
   pub lens-long : length (d .lens) ≡ deliveries-max
   pub places-long : length (d .places) ≡ deliveries-max
-  pub modes-long : length (d .modes) ≡ modes-max

@@ -11,15 +11,15 @@ use Rattle.headers.specs.Rows.{empty}
 use Rattle.headers.specs.Block.{Entry}
 use Rattle.headers.specs.Answers.{Check, settle}
 use Rattle.sessions.specs.Stores.{enters, wants-live, changes, bad-length}
-use Rattle.sessions.specs.Deliveries.{deliveries-max, label-max, auto-mode, mode-of, is-pending, subscribe, unsubscribe, record-label}
-use Rattle.sessions.specs.Deliveries.{known-modes, idle-modes, valid-labels, valid-places}
+use Rattle.sessions.specs.Deliveries.{deliveries-max, label-max, auto-mode, mode-of, is-pending, with-mode, dropped, record-label}
+use Rattle.sessions.specs.Deliveries.{valid-labels, valid-places}
 use Rattle.sessions.specs.Opening.{none-shared}
 use Rattle.sessions.specs.Headers.{is-some, from-server, opens, mode-asked, value-of, IdUse, id-use, changed-id}
 use Rattle.sessions.specs.Sessions.{subscriptions-max, transactions-max, id-max, fresh-phase, open-phase, closed-phase, ids-of, with-subscriptions, with-transactions}
-use Rattle.sessions.specs.Sessions.{with-deliveries, closed, heard, is-valid}
+use Rattle.sessions.specs.Sessions.{with-modes, with-deliveries, closed, heard, is-valid}
 use Rattle.sessions.specs.Answers.{acceptance-says, answer-says, delivery-says}
 use Rattle.sessions.specs.Calls.{left-by, shared-by, client-versions, client-heart-beats, opening, uses-of, id-effect, id-checks}
-use Rattle.sessions.specs.Calls.{delivery-checks, delivery-effect, entry-checks, acceptance-of, effect, is-no-label, free-place, place-named}
+use Rattle.sessions.specs.Calls.{delivery-checks, named-effect, entry-checks, acceptance-of, effect, is-no-label, free-place, place-named}
 use Rattle.sessions.specs.Calls.{mode-or-auto, settle-named, recorded-by}
 use Rattle.sessions.specs.Places.{put-in, Settles}
 use Rattle.sessions.specs.declared.store.Use.{Use}
@@ -29,8 +29,8 @@ use Rattle.sessions.specs.declared.command.Namings.{Namings}
 use Rattle.sessions.specs.declared.command.Header.the-variants.{Id}
 use Rattle.sessions.specs.declared.command.Kind.{Kind}
 use Rattle.sessions.specs.declared.command.Kind.the-variants.{Subscriptions, Transactions}
-use Rattle.sessions.specs.declared.parts.SubscriptionIds.{SubscriptionIds}
-use Rattle.sessions.specs.declared.parts.TransactionIds.{TransactionIds}
+use Rattle.sessions.specs.declared.parts.SubscriptionStore.{SubscriptionStore}
+use Rattle.sessions.specs.declared.parts.TransactionStore.{TransactionStore}
 use Rattle.sessions.specs.declared.session.Session.{Session}
 use Rattle.sessions.specs.declared.session.SessionAnswer.{SessionAnswer}
 use Rattle.sessions.specs.declared.session.Acceptance.{Acceptance}
@@ -66,10 +66,13 @@ abbrev pub count-of : Kind → ℕ
 count-of Subscriptions = subscriptions-max
 count-of Transactions = transactions-max
 
-abbrev pub put-subscription : SubscriptionIds → ℕ → List ℕ → SubscriptionIds
-put-subscription s k id = record { ids = put-in id-max (s .ids) k id; lens = set (s .lens) k (length id) }
+abbrev pub put-subscription : SubscriptionStore → ℕ → List ℕ → SubscriptionStore
+put-subscription s k id = record { ids = put-in id-max (s .ids) k id; lens = set (s .lens) k (length id); modes = s .modes }
 
-abbrev pub put-transaction : TransactionIds → ℕ → List ℕ → TransactionIds
+abbrev pub put-mode : SubscriptionStore → ℕ → ℕ → SubscriptionStore
+put-mode s k m = record { ids = s .ids; lens = s .lens; modes = set (s .modes) k m }
+
+abbrev pub put-transaction : TransactionStore → ℕ → List ℕ → TransactionStore
 put-transaction t k id = record { ids = put-in id-max (t .ids) k id; lens = set (t .lens) k (length id) }
 
 abbrev pub put-of : Kind → Session → ℕ → List ℕ → Session
@@ -127,8 +130,7 @@ GivesUses s us acceptance time r = Gives (id-checks s us) acceptance s (heard (i
 -- and the delivery that it names or the mode that it asks for: 49 and 60
 abbrev pub GivesDelivery : Session → ℕ → List Entry → Acceptance → ℕ → Outcome → Type 0
 GivesDelivery s n es acceptance time r =
-    Gives (id-checks s (uses-of s n es) ++ delivery-checks s n es) acceptance s
-    (heard (with-deliveries (id-effect s (changed-id (uses-of s n es))) (delivery-effect s n es)) time) r
+    Gives (id-checks s (uses-of s n es) ++ delivery-checks s n es) acceptance s (heard (named-effect s n es) time) r
 
 -- all that depends on the entries: from 43 on
 abbrev pub GivesEntries : Session → ℕ → List Entry → ℕ → Outcome → Type 0
@@ -139,28 +141,40 @@ GivesEntries s n es time r = Gives (entry-checks s n es) (acceptance-of n es) s 
 -- a valid record of deliveries by its parts, with the lengths of the subscriptions' ids last but one
 abbrev pub valid-parts : List ℕ → List ℕ → List ℕ → List ℕ → List ℕ → ℕ → Bool
 valid-parts labels lens places modes sub-lens count =
-    leb count deliveries-max
-    && ((known-modes modes && idle-modes sub-lens modes) && (valid-labels count labels lens && valid-places count places sub-lens modes))
+    leb count deliveries-max && (valid-labels count labels lens && valid-places count places sub-lens modes)
 
--- what is given where an outcome was: a refusal stays; what was accepted passes further checks, and its session gets other deliveries
-abbrev pub after-answer : SessionAnswer → List Check → Session → Deliveries → Outcome → Outcome → Type 0
-after-answer (SessionAnswer.Refused k) checks before d named r = r ≡ named
-after-answer (SessionAnswer.Accepted acceptance) checks before d named r = Gives checks acceptance before (with-deliveries (named .session) d) r
+-- what is given where an outcome was: a refusal stays; what was accepted passes further checks, and its session gets other modes and
+-- deliveries
+abbrev pub after-answer : SessionAnswer → List Check → Session → List ℕ → Deliveries → Outcome → Outcome → Type 0
+after-answer (SessionAnswer.Refused k) checks before ms d named r = r ≡ named
+after-answer (SessionAnswer.Accepted acceptance) checks before ms d named r =
+    Gives checks acceptance before (with-deliveries (with-modes (named .session) ms) d) r
 
-abbrev pub GivesThen : List Check → Session → Deliveries → Outcome → Outcome → Type 0
-GivesThen checks before d named r = after-answer (named .answer) checks before d named r
+abbrev pub GivesThen : List Check → Session → List ℕ → Deliveries → Outcome → Outcome → Type 0
+GivesThen checks before ms d named r = after-answer (named .answer) checks before ms d named r
 
--- an outcome that was accepted has the session's deliveries still
+-- it has the session's modes and deliveries still
+pub record Unchanged (s r : Session) : Type 0 where
+  pub modes-same : r .subscriptions .modes ≡ s .subscriptions .modes
+  pub deliveries-same : r .deliveries ≡ s .deliveries
+
+-- so has an outcome that was accepted
 abbrev pub untouched : SessionAnswer → Session → Outcome → Type 0
 untouched (SessionAnswer.Refused k) s named = Unit {0}
-untouched (SessionAnswer.Accepted acceptance) s named = named .session .deliveries ≡ s .deliveries
+untouched (SessionAnswer.Accepted acceptance) s named = Unchanged s (named .session)
 
 abbrev pub Untouched : Session → Outcome → Type 0
 Untouched s named = untouched (named .answer) s named
 
--- an outcome with other deliveries
-abbrev pub outcome-with : Outcome → Deliveries → Outcome
-outcome-with r d = record { session = with-deliveries (r .session) d; answer = r .answer }
+-- an outcome with other modes, with other deliveries, and with both
+abbrev pub outcome-modes : Outcome → List ℕ → Outcome
+outcome-modes r ms = record { session = with-modes (r .session) ms; answer = r .answer }
+
+abbrev pub outcome-deliveries : Outcome → Deliveries → Outcome
+outcome-deliveries r d = record { session = with-deliveries (r .session) d; answer = r .answer }
+
+abbrev pub outcome-with : Outcome → List ℕ → Deliveries → Outcome
+outcome-with r ms d = outcome-deliveries (outcome-modes r ms) d
 
 -- 49 of the ack mode that a SUBSCRIBE asks for, 60 of the label that an ACK or NACK names
 abbrev pub mode-checks : List Entry → List Check
@@ -171,13 +185,17 @@ label-checks o d = record { fails = is-no-label o d; number = 60 } ∷ []
 
 -- a SUBSCRIBE, an UNSUBSCRIBE, and an ACK or NACK, after the id that each names was settled
 abbrev pub GivesMode : Session → List Entry → Outcome → Outcome → Type 0
-GivesMode s es named r = GivesThen (mode-checks es) s (subscribe (free-place s) (mode-or-auto (mode-asked es)) (s .deliveries)) named r
+GivesMode s es named r =
+    GivesThen (mode-checks es) s (with-mode (free-place s) (mode-or-auto (mode-asked es)) (s .subscriptions .modes)) (s .deliveries) named r
 
 abbrev pub GivesDropped : Session → List Entry → Outcome → Outcome → Type 0
-GivesDropped s es named r = GivesThen [] s (unsubscribe (place-named s (value-of Id es)) (s .deliveries)) named r
+GivesDropped s es named r =
+    GivesThen [] s (with-mode (place-named s (value-of Id es)) auto-mode (s .subscriptions .modes))
+    (dropped (place-named s (value-of Id es)) (s .deliveries)) named r
 
 abbrev pub GivesLabel : Session → Option (List ℕ) → Outcome → Outcome → Type 0
-GivesLabel s o named r = GivesThen (label-checks o (s .deliveries)) s (settle-named o (s .deliveries)) named r
+GivesLabel s o named r =
+    GivesThen (label-checks o (s .deliveries)) s (s .subscriptions .modes) (settle-named (s .subscriptions .modes) o (s .deliveries)) named r
 
 -- a delivery that is recorded, by its checks and the session that it leaves where it is accepted
 pub record Records (checks : List Check) (before after : Session) (r : Recording) : Type 0 where
@@ -199,15 +217,18 @@ subscription-at s id = cond (empty id) none (place-named s (some id))
 abbrev pub recording-checks : Session → ℕ → List ℕ → List Check
 recording-checks s k label =
     record { fails = bad-length label-max label || is-pending label (s .deliveries); number = 62 } ∷
-    record { fails = not (eqb (mode-of (s .deliveries) k) auto-mode) && leb deliveries-max (s .deliveries .count); number = 61 } ∷
+    record { fails = not (eqb (mode-of (s .subscriptions .modes) k) auto-mode) && leb deliveries-max (s .deliveries .count); number = 61 } ∷
     []
 
+abbrev pub recording-at : Session → ℕ → List ℕ → Session
+recording-at s k label = with-deliveries s (record-label (s .subscriptions .modes) (some k) label (s .deliveries))
+
 abbrev pub RecordsAt : Session → ℕ → List ℕ → Recording → Type 0
-RecordsAt s k label r = Records (recording-checks s k label) s (with-deliveries s (record-label (some k) label (s .deliveries))) r
+RecordsAt s k label r = Records (recording-checks s k label) s (recording-at s k label) r
 
 -- what recording relies on: a valid session, a place, a label that fits, and room where the mode is not auto
 pub record MayRecord (s : Session) (k : ℕ) (label : List ℕ) : Type 0 where
   pub valid : is-valid s ≡ true
   pub place : k < subscriptions-max
   pub fits : length label ≤ label-max
-  pub room : eqb (mode-of (s .deliveries) k) auto-mode ≡ false → s .deliveries .count < deliveries-max
+  pub room : eqb (mode-of (s .subscriptions .modes) k) auto-mode ≡ false → s .deliveries .count < deliveries-max

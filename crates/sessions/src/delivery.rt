@@ -1,5 +1,4 @@
-// What a session keeps for deliveries: the ack mode of each subscription, and the pending deliveries, oldest first. A delivery has
-// a label, and the place of its subscription. Modes are 0 auto, 1 client, 2 client-individual.
+// The pending deliveries of a session, oldest first. A delivery has a label, and the place of its subscription.
 ghost use mathlib.Core.Path.{_≡_};
 ghost use mathlib.Core.List.{List, [], _∷_, _++_};
 ghost use mathlib.Core.Option.{some};
@@ -8,11 +7,11 @@ ghost use lib.ListN.{length, set};
 ghost use Rattle.stores.specs.Searches.{first-from, search-says};
 ghost use Rattle.stores.specs.Compaction.{kept};
 ghost use Rattle.sessions.specs.Sessions.{subscriptions-max};
-ghost use Rattle.sessions.specs.Deliveries.{Pending, pending, labelled, places-of, with-pending, with-modes, unsubscribe, settle-label, no-deliveries};
-ghost use Rattle.sessions.specs.Deliveries.{emptied, known-modes, some-lengths, idle-modes, acknowledging, valid-labels, valid-places};
-ghost use Rattle.sessions.specs.Deliveries.{Laid};
+ghost use Rattle.sessions.specs.Deliveries.{Pending, pending, labelled, places-of, deliveries-of, dropped, settle-label, no-deliveries};
+ghost use Rattle.sessions.specs.Deliveries.{some-lengths, acknowledging, valid-labels, valid-places, Laid};
 ghost use Rattle.sessions.specs.Steps.{valid-parts};
 ghost use Rattle.headers.specs.Rows.{every};
+use crate::parts::SubscriptionStore;
 use crate::session::Session;
 use stores::Range;
 use stores::Search;
@@ -21,20 +20,13 @@ pub struct Deliveries {
     pub labels: [u8; Deliveries::MAX * Session::ID],
     pub lens: [u8; Deliveries::MAX],
     pub places: [u8; Deliveries::MAX],
-    pub modes: [u8; Session::SUBSCRIPTIONS],
     pub count: u8,
 }
 
 impl Deliveries {
     pub const MAX: usize = 64;
 
-    pub const AUTO: u8 = 0;
-
-    pub const CLIENT: u8 = 1;
-
-    pub const INDIVIDUAL: u8 = 2;
-
-    // Of a fresh session: none, and every mode auto.
+    // Of a session that is fresh or closed.
     pub(crate) fn none() -> Deliveries
         ensures { λ r. ⌜ r ≡ no-deliveries ⌝ }
     {
@@ -42,29 +34,14 @@ impl Deliveries {
             labels: [0; Deliveries::MAX * Session::ID],
             lens: [0; Deliveries::MAX],
             places: [0; Deliveries::MAX],
-            modes: [0; Session::SUBSCRIPTIONS],
             count: 0,
         }
     }
 
-    // None pending; the modes stay.
-    pub(crate) fn emptied(self) -> Deliveries
-        ensures { λ r. ⌜ r ≡ emptied self ⌝ }
-    {
-        let modes = self.modes;
-        Deliveries {
-            labels: [0; Deliveries::MAX * Session::ID],
-            lens: [0; Deliveries::MAX],
-            places: [0; Deliveries::MAX],
-            modes,
-            count: 0,
-        }
-    }
-
-    // Those that stay, in their order; the modes stay.
+    // Those that stay, in their order.
     pub(crate) fn without(self, range: Range) -> Deliveries
         requires { ⌜ Laid self ⌝ }
-        ensures { λ r. ⌜ r ≡ with-pending self (kept range 0 (places-of (pending self)) (pending self)) ⌝ }
+        ensures { λ r. ⌜ r ≡ deliveries-of (kept range 0 (places-of (pending self)) (pending self)) ⌝ }
     {
         let n = wide(self.count);
         let end = n * 32;
@@ -72,7 +49,6 @@ impl Deliveries {
         let lens = self.lens;
         let places = self.places;
         let same = self.places;
-        let modes = self.modes;
         let mut kept_labels = [0u8; 2048];
         let mut kept_lens = [0u8; 64];
         let mut kept_places = [0u8; 64];
@@ -83,35 +59,25 @@ impl Deliveries {
             labels: kept_labels,
             lens: kept_lens,
             places: kept_places,
-            modes,
             count: (count % 256) as u8,
         }
     }
 
-    // With a mode for the subscription in a place.
-    pub(crate) fn with_mode(mut self, place: usize, mode: u8) -> Deliveries
-        requires { ⌜ place < subscriptions-max ⌝ }
-        ensures { λ r. ⌜ r ≡ with-modes self (set (self .modes) place mode) ⌝ }
-    {
-        self.modes[place] = mode;
-        self
-    }
-
-    // Without those of the subscription in a place, and its mode.
-    pub(crate) fn unsubscribed(self, place: usize) -> Deliveries
+    // Without those of the subscription in a place.
+    pub(crate) fn dropped(self, place: usize) -> Deliveries
         requires { ⌜ (Laid self) × (place < subscriptions-max) ⌝ }
-        ensures { λ r. ⌜ r ≡ unsubscribe (some place) self ⌝ }
+        ensures { λ r. ⌜ r ≡ dropped (some place) self ⌝ }
     {
         let n = wide(self.count);
         if n == 0 {
-            return self.with_mode(place, Deliveries::AUTO);
+            return self;
         }
         let range = Range {
             from: 0,
             to: n,
             of: (place % 256) as u8,
         };
-        self.without(range).with_mode(place, Deliveries::AUTO)
+        self.without(range)
     }
 
     // The number of the pending delivery with a label, the oldest being 0.
@@ -127,15 +93,16 @@ impl Deliveries {
     }
 
     // The one with a number settled, and where its subscription's mode is client the earlier ones of that subscription.
-    pub(crate) fn settled(self, index: usize) -> Deliveries
+    pub(crate) fn settled(self, index: usize, modes: &[u8]) -> Deliveries
         requires { ⌜ (Laid self) × (index < self .count) ⌝ }
-        ensures { λ r. ⌜ ((l : List ℕ) → first-from (labelled l) 0 (pending self) ≡ some index → r ≡ settle-label l self) ⌝ }
+        ensures { λ r. ⌜
+            ((l : List ℕ) → first-from (labelled l) 0 (pending self) ≡ some index → r ≡ settle-label (now (modes .entry)) l self)
+            ⌝ }
     {
         let places = self.places;
-        let modes = self.modes;
         let of = places[index];
-        let mode = stores::octet_at(&modes, wide(of));
-        if mode == Deliveries::CLIENT {
+        let mode = stores::octet_at(modes, wide(of));
+        if mode == SubscriptionStore::CLIENT {
             return self.without(Range {
                 from: 0,
                 to: index + 1,
@@ -152,7 +119,7 @@ impl Deliveries {
     // One more, the youngest.
     pub(crate) fn entered(mut self, place: u8, label: &[u8]) -> Deliveries
         requires { ⌜ (Laid self) × (self .count < 64) × (length (now label) ≤ 32) ⌝ }
-        ensures { λ r. ⌜ r ≡ with-pending self (pending self ++ (record { place = place; label = now (label .entry) } ∷ [])) ⌝ }
+        ensures { λ r. ⌜ r ≡ deliveries-of (pending self ++ (record { place = place; label = now (label .entry) } ∷ [])) ⌝ }
     {
         let n = wide(self.count);
         let mut labels = self.labels;
@@ -171,19 +138,6 @@ pub(crate) fn wide(x: u8) -> usize
     x as usize
 }
 
-// Whether each mode is known.
-fn are_known(modes: &[u8]) -> bool
-    ensures { λ r. ⌜ r ≡ known-modes (now (modes .entry)) ⌝ }
-{
-    let mut known = true;
-    let mut i = 0usize;
-    while i < modes.len() {
-        known = known & (modes[i] <= 2);
-        i += 1;
-    }
-    known
-}
-
 // Whether each length is above 0.
 fn are_some(lens: &[u8]) -> bool
     ensures { λ r. ⌜ r ≡ some-lengths (now (lens .entry)) ⌝ }
@@ -195,20 +149,6 @@ fn are_some(lens: &[u8]) -> bool
         i += 1;
     }
     some
-}
-
-// Whether the mode of each free place is auto.
-fn are_idle(lens: &[u8], modes: &[u8]) -> bool
-    requires { ⌜ length (now lens) ≡ length (now modes) ⌝ }
-    ensures { λ r. ⌜ r ≡ idle-modes (now (lens .entry)) (now (modes .entry)) ⌝ }
-{
-    let mut idle = true;
-    let mut i = 0usize;
-    while i < lens.len() {
-        idle = idle & ((lens[i] != 0) | (modes[i] == 0));
-        i += 1;
-    }
-    idle
 }
 
 // Whether the subscription in a place is live and not an auto one.
@@ -268,7 +208,7 @@ fn are_valid_places(places: &[u8], n: usize, lens: &[u8], modes: &[u8]) -> bool
     stores::is_zero(&places[n..])
 }
 
-// Whether a record of deliveries is valid, by its parts, over the lengths of the subscriptions' ids. The parts are lent, and all at one
+// Whether a record of deliveries is valid, by its parts, over the modes and the lengths of the subscriptions. The parts are lent, and all at one
 // lifetime, since they are fields of one session.
 pub(crate) fn are_valid<'a>(
     labels: &'a [u8],
@@ -278,21 +218,13 @@ pub(crate) fn are_valid<'a>(
     lens: &'a [u8],
     count: u8,
 ) -> bool
-    requires { ⌜
-        (length (now labels) ≡ 2048) × (length (now «label_lens») ≡ 64) × (length (now places) ≡ 64) × (length (now lens) ≡ length (now modes))
-        ⌝ }
+    requires { ⌜ (length (now labels) ≡ 2048) × (length (now «label_lens») ≡ 64) × (length (now places) ≡ 64) ⌝ }
     ensures { λ r. ⌜
         r ≡ valid-parts (now (labels .entry)) (now («label_lens» .entry)) (now (places .entry)) (now (modes .entry)) (now (lens .entry)) count
         ⌝ }
 {
     let n = wide(count);
     if Deliveries::MAX < n {
-        return false;
-    }
-    if !are_known(modes) {
-        return false;
-    }
-    if !are_idle(lens, modes) {
         return false;
     }
     if !are_valid_labels(labels, label_lens, n) {

@@ -11,9 +11,9 @@ ghost use Rattle.sessions.specs.Reads.{versions-say, heart-beats-say, mo
 ghost use Rattle.sessions.specs.Notes.{Locates, AllNoted};
 use crate::command::Header;
 use crate::commands;
-use crate::delivery::Deliveries;
 use crate::notes::Located;
 use crate::notes::Notes;
+use crate::parts::SubscriptionStore;
 use crate::session::Acceptance;
 use crate::value::HeartBeatsRead;
 use crate::value::ModeRead;
@@ -102,7 +102,7 @@ pub(crate) fn mode_asked(notes: Notes, block: &[u8]) -> ModeRead
 {
     let l = locate(notes, block, Header::Ack);
     if !l.present {
-        return ModeRead::Mode(Deliveries::AUTO);
+        return ModeRead::Mode(SubscriptionStore::AUTO);
     }
     let start = l.start;
     let end = l.end;

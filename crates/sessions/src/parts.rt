@@ -1,10 +1,11 @@
-// The parts of a session's record: what the server offers, what both sides agreed on, and the ids of subscriptions and of transactions.
+// The parts of a session's record: what the server offers, what both sides agreed on, the subscriptions and the transactions.
 ghost use mathlib.Core.Path.{_≡_};
 ghost use Prim.Native.Nat.{_≤_, _<_};
-ghost use lib.ListN.{length};
+ghost use lib.ListN.{length, set};
 ghost use Rattle.sessions.specs.Sessions.{subscriptions-max, transactions-max, id-max, nothing-agreed, no-subscriptions, no-transactions};
 ghost use Rattle.sessions.specs.Sessions.{valid-offers, valid-agreed};
-ghost use Rattle.sessions.specs.Steps.{put-subscription, put-transaction};
+ghost use Rattle.sessions.specs.Deliveries.{known-modes, idle-modes, valid-modes};
+ghost use Rattle.sessions.specs.Steps.{put-subscription, put-transaction, put-mode};
 use crate::session::Session;
 use crate::value::HEART_BEAT_MAX;
 
@@ -24,14 +25,16 @@ pub struct Agreed {
     pub versions: [bool; 3],
 }
 
-// The ids of the subscriptions that are live, in places of 32 octets, with a length for each.
-pub struct SubscriptionIds {
+// The subscriptions that are live: their ids in places of 32 octets, with a length and an ack mode for each. A place of length 0 is
+// free, and has mode auto.
+pub struct SubscriptionStore {
     pub ids: [u8; Session::SUBSCRIPTIONS * Session::ID],
     pub lens: [u8; Session::SUBSCRIPTIONS],
+    pub modes: [u8; Session::SUBSCRIPTIONS],
 }
 
-// The ids of the transactions that are open, in the same way.
-pub struct TransactionIds {
+// The ids of the transactions that are open, in the same way but for the mode.
+pub struct TransactionStore {
     pub ids: [u8; Session::TRANSACTIONS * Session::ID],
     pub lens: [u8; Session::TRANSACTIONS],
 }
@@ -65,19 +68,27 @@ impl Agreed {
     }
 }
 
-impl SubscriptionIds {
+impl SubscriptionStore {
+    // The ack modes.
+    pub const AUTO: u8 = 0;
+
+    pub const CLIENT: u8 = 1;
+
+    pub const INDIVIDUAL: u8 = 2;
+
     // No place is taken.
-    pub(crate) fn none() -> SubscriptionIds
+    pub(crate) fn none() -> SubscriptionStore
         ensures { λ r. ⌜ r ≡ no-subscriptions ⌝ }
     {
-        SubscriptionIds {
+        SubscriptionStore {
             ids: [0; 512],
             lens: [0; Session::SUBSCRIPTIONS],
+            modes: [SubscriptionStore::AUTO; Session::SUBSCRIPTIONS],
         }
     }
 
     // With an id in a place.
-    pub(crate) fn with_id(mut self, index: usize, id: &[u8]) -> SubscriptionIds
+    pub(crate) fn with_id(mut self, index: usize, id: &[u8]) -> SubscriptionStore
         requires { ⌜ (index < subscriptions-max) × (length (now id) ≤ id-max) ⌝ }
         ensures { λ r. ⌜ r ≡ put-subscription self index (now (id .entry)) ⌝ }
     {
@@ -87,21 +98,65 @@ impl SubscriptionIds {
         self.lens[index] = (id.len() % 256) as u8;
         self
     }
+
+    // With a mode for the subscription in a place.
+    pub(crate) fn with_mode(mut self, index: usize, mode: u8) -> SubscriptionStore
+        requires { ⌜ index < subscriptions-max ⌝ }
+        ensures { λ r. ⌜ r ≡ put-mode self index mode ⌝ }
+    {
+        self.modes[index] = mode;
+        self
+    }
 }
 
-impl TransactionIds {
+// Whether each mode is known.
+fn are_known(modes: &[u8]) -> bool
+    ensures { λ r. ⌜ r ≡ known-modes (now (modes .entry)) ⌝ }
+{
+    let mut known = true;
+    let mut i = 0usize;
+    while i < modes.len() {
+        known = known & (modes[i] <= 2);
+        i += 1;
+    }
+    known
+}
+
+// Whether the mode of each free place is auto.
+fn are_idle(lens: &[u8], modes: &[u8]) -> bool
+    requires { ⌜ length (now lens) ≡ length (now modes) ⌝ }
+    ensures { λ r. ⌜ r ≡ idle-modes (now (lens .entry)) (now (modes .entry)) ⌝ }
+{
+    let mut idle = true;
+    let mut i = 0usize;
+    while i < lens.len() {
+        idle = idle & ((lens[i] != 0) | (modes[i] == 0));
+        i += 1;
+    }
+    idle
+}
+
+// Whether the modes are valid, over the lengths of the ids.
+pub(crate) fn are_valid_modes(lens: &[u8], modes: &[u8]) -> bool
+    requires { ⌜ length (now lens) ≡ length (now modes) ⌝ }
+    ensures { λ r. ⌜ r ≡ valid-modes (now (lens .entry)) (now (modes .entry)) ⌝ }
+{
+    are_known(modes) & are_idle(lens, modes)
+}
+
+impl TransactionStore {
     // No place is taken.
-    pub(crate) fn none() -> TransactionIds
+    pub(crate) fn none() -> TransactionStore
         ensures { λ r. ⌜ r ≡ no-transactions ⌝ }
     {
-        TransactionIds {
+        TransactionStore {
             ids: [0; Session::TRANSACTIONS * Session::ID],
             lens: [0; Session::TRANSACTIONS],
         }
     }
 
     // With an id in a place.
-    pub(crate) fn with_id(mut self, index: usize, id: &[u8]) -> TransactionIds
+    pub(crate) fn with_id(mut self, index: usize, id: &[u8]) -> TransactionStore
         requires { ⌜ (index < transactions-max) × (length (now id) ≤ id-max) ⌝ }
         ensures { λ r. ⌜ r ≡ put-transaction self index (now (id .entry)) ⌝ }
     {

@@ -4,24 +4,24 @@ ghost use mathlib.Core.Bool.{true, _&&_};
 ghost use mathlib.Core.Option.{some};
 ghost use mathlib.Core.List.{[]};
 ghost use Prim.Native.Nat.{_*_, _≤_, _<_};
-ghost use lib.ListN.{length};
+ghost use lib.ListN.{length, set};
 ghost use Rattle.headers.specs.Block.{entries, listed};
 ghost use Rattle.stores.specs.Searches.{search-says};
 ghost use Rattle.sessions.specs.Stores.{valid-store};
 ghost use Rattle.sessions.specs.Opening.{highest, interval};
 ghost use Rattle.sessions.specs.Sessions.{id-max, subscriptions-max, fresh, ids-of, closed, opened, valid-numbers};
-ghost use Rattle.sessions.specs.Sessions.{is-valid, with-deliveries};
+ghost use Rattle.sessions.specs.Sessions.{is-valid};
 ghost use Rattle.sessions.specs.Answers.{answer-says, making-says, timed-out-says, delivery-says};
 ghost use Rattle.sessions.specs.Headers.{has, put-before, changed-id};
 ghost use Rattle.sessions.specs.Calls.{making-answer, made, frame-answer, frame-session, heart-beat-answer, heart-beat-session};
 ghost use Rattle.sessions.specs.Calls.{timed-out-answer, deliver-answer, deliver-session, free-place, place-named, label-named, uses-of, id-effect};
-ghost use Rattle.sessions.specs.Deliveries.{subscribe, unsubscribe, record-label};
+ghost use Rattle.sessions.specs.Deliveries.{auto-mode, with-mode, dropped, valid-modes};
 ghost use Rattle.sessions.specs.Held.{held-deliveries, nth, nothing-told, told-of, pending-answer};
 ghost use Rattle.sessions.specs.Places.{Settles};
 ghost use Rattle.sessions.specs.Notes.{AllNoted};
-ghost use Rattle.sessions.specs.Steps.{kept-by, closed-by, accepted-by, count-of, put-of, outcome-with, unrecorded-by, recorded-as};
+ghost use Rattle.sessions.specs.Steps.{kept-by, closed-by, accepted-by, count-of, put-of, outcome-modes, outcome-deliveries, outcome-with, unrecorded-by, recorded-as, recording-at};
 ghost use Rattle.sessions.specs.Steps.{SettlesUse, settled-number, use-named, GivesUses, GivesOpening, GivesEntries, GivesMode, GivesDropped};
-ghost use Rattle.sessions.specs.Steps.{GivesLabel, RecordsAt, MayRecord, Untouched};
+ghost use Rattle.sessions.specs.Steps.{GivesLabel, RecordsAt, MayRecord, Unchanged, Untouched};
 ghost use Rattle.sessions.specs.declared.command.Header.the-variants.{Id};
 use crate::command::Header;
 use crate::command::Kind;
@@ -31,8 +31,8 @@ use crate::delivery::Deliveries;
 use crate::notes::Notes;
 use crate::parts::Agreed;
 use crate::parts::Offers;
-use crate::parts::SubscriptionIds;
-use crate::parts::TransactionIds;
+use crate::parts::SubscriptionStore;
+use crate::parts::TransactionStore;
 use crate::refusals;
 use crate::store::Settled;
 use crate::store::Use;
@@ -45,8 +45,8 @@ use stores::Search;
 pub struct Session {
     pub offers: Offers,
     pub agreed: Agreed,
-    pub subscriptions: SubscriptionIds,
-    pub transactions: TransactionIds,
+    pub subscriptions: SubscriptionStore,
+    pub transactions: TransactionStore,
     pub deliveries: Deliveries,
     pub last_heard: u32,
     pub phase: u8,
@@ -119,9 +119,21 @@ pub enum TimedOut {
 }
 
 impl Outcome {
+    // With a mode for the subscription in a place.
+    fn with_mode(self, place: usize, mode: u8) -> Outcome
+        requires { ⌜ place < subscriptions-max ⌝ }
+        ensures { λ r. ⌜ r ≡ outcome-modes self (set (self .session .subscriptions .modes) place mode) ⌝ }
+    {
+        let answer = self.answer;
+        let mut session = self.session;
+        let subscriptions = session.subscriptions;
+        session.subscriptions = subscriptions.with_mode(place, mode);
+        Outcome { session, answer }
+    }
+
     // With other deliveries.
     fn with_deliveries(self, deliveries: Deliveries) -> Outcome
-        ensures { λ r. ⌜ r ≡ outcome-with self deliveries ⌝ }
+        ensures { λ r. ⌜ r ≡ outcome-deliveries self deliveries ⌝ }
     {
         let answer = self.answer;
         let mut session = self.session;
@@ -144,16 +156,29 @@ fn nothing_told(answer: PendingAnswer) -> PendingAt
     }
 }
 
-// Whether the stores of ids are valid. They are lent, and all at one lifetime, since they are fields of one session.
-fn are_valid_ids<'a>(subs: &'a [u8], sub_lens: &'a [u8], txs: &'a [u8], tx_lens: &'a [u8]) -> bool
+// Whether the stores of subscriptions and transactions are valid. They are lent, and all at one lifetime, since they are fields of one
+// session.
+fn are_valid_ids<'a>(
+    subs: &'a [u8],
+    sub_lens: &'a [u8],
+    modes: &'a [u8],
+    txs: &'a [u8],
+    tx_lens: &'a [u8],
+) -> bool
     requires { ⌜
-        (length (now «sub_lens») ≡ 16) × (length (now subs) ≡ 16 * 32) × (length (now «tx_lens») ≡ 4) × (length (now txs) ≡ 4 * 32)
+        (length (now «sub_lens») ≡ 16) × (length (now subs) ≡ 16 * 32) × (length (now modes) ≡ 16) × (length (now «tx_lens») ≡ 4)
+        × (length (now txs) ≡ 4 * 32)
         ⌝ }
     ensures { λ r. ⌜
-        r ≡ valid-store id-max (now (subs .entry)) (now («sub_lens» .entry)) && valid-store id-max (now (txs .entry)) (now («tx_lens» .entry))
+        r
+        ≡ (valid-store id-max (now (subs .entry)) (now («sub_lens» .entry)) && valid-modes (now («sub_lens» .entry)) (now (modes .entry)))
+        && valid-store id-max (now (txs .entry)) (now («tx_lens» .entry))
         ⌝ }
 {
     if !crate::store::is_valid(subs, sub_lens, Session::SUBSCRIPTIONS, Session::ID) {
+        return false;
+    }
+    if !crate::parts::are_valid_modes(sub_lens, modes) {
         return false;
     }
     crate::store::is_valid(txs, tx_lens, Session::TRANSACTIONS, Session::ID)
@@ -183,8 +208,8 @@ impl Session {
                 versions: offered,
             },
             agreed: Agreed::nothing(),
-            subscriptions: SubscriptionIds::none(),
-            transactions: TransactionIds::none(),
+            subscriptions: SubscriptionStore::none(),
+            transactions: TransactionStore::none(),
             deliveries: Deliveries::none(),
             last_heard: 0,
             phase: Session::FRESH,
@@ -196,8 +221,7 @@ impl Session {
         ensures { λ r. ⌜ r ≡ closed self ⌝ }
     {
         self.phase = Session::CLOSED;
-        let deliveries = self.deliveries;
-        self.deliveries = deliveries.emptied();
+        self.deliveries = Deliveries::none();
         self
     }
 
@@ -270,6 +294,7 @@ impl Session {
         let ids = are_valid_ids(
             &self.subscriptions.ids,
             &self.subscriptions.lens,
+            &self.subscriptions.modes,
             &self.transactions.ids,
             &self.transactions.lens,
         );
@@ -278,7 +303,7 @@ impl Session {
             &self.deliveries.labels,
             &self.deliveries.lens,
             &self.deliveries.places,
-            &self.deliveries.modes,
+            &self.subscriptions.modes,
             &self.subscriptions.lens,
             count,
         );
@@ -482,18 +507,15 @@ impl Session {
 
     // An outcome that was accepted, with a mode for the subscription that was entered in the first free place. A free place has auto.
     fn with_mode(self, named: Outcome, mode: u8) -> Outcome
-        requires { ⌜ (is-valid self ≡ true) × (named .session .deliveries ≡ self .deliveries) ⌝ }
-        ensures { λ r. ⌜ r ≡ outcome-with named (subscribe (free-place self) mode (self .deliveries)) ⌝ }
+        requires { ⌜ (is-valid self ≡ true) × Unchanged self (named .session) ⌝ }
+        ensures { λ r. ⌜ r ≡ outcome-with named (with-mode (free-place self) mode (self .subscriptions .modes)) (self .deliveries) ⌝ }
     {
-        if mode == Deliveries::AUTO {
+        if mode == SubscriptionStore::AUTO {
             return named;
         }
         let lens = self.subscriptions.lens;
         match crate::store::find_free(&lens) {
-            Search::At(k) => {
-                let deliveries = self.deliveries;
-                named.with_deliveries(deliveries.with_mode(k, mode))
-            }
+            Search::At(k) => named.with_mode(k, mode),
             Search::Nowhere => named,
         }
     }
@@ -523,18 +545,25 @@ impl Session {
         crate::store::find(&ids, &lens, Session::SUBSCRIPTIONS, Session::ID, id)
     }
 
-    // An outcome that was accepted, with the deliveries of a subscription dropped, by its id, and its mode. Most often no subscription has either, and none is looked for.
+    // An outcome that was accepted, with the mode and the deliveries of a subscription dropped, by its id. Most often no subscription has
+    // either, and none is looked for.
     fn without_deliveries(self, named: Outcome, id: &[u8]) -> Outcome
-        requires { ⌜ (is-valid self ≡ true) × (named .session .deliveries ≡ self .deliveries) ⌝ }
-        ensures { λ r. ⌜ r ≡ outcome-with named (unsubscribe (place-named self (some (now (id .entry)))) (self .deliveries)) ⌝ }
+        requires { ⌜ (is-valid self ≡ true) × Unchanged self (named .session) ⌝ }
+        ensures { λ r. ⌜
+            r
+            ≡ outcome-with named (with-mode (place-named self (some (now (id .entry)))) auto-mode (self .subscriptions .modes))
+            (dropped (place-named self (some (now (id .entry)))) (self .deliveries))
+            ⌝ }
     {
         let deliveries = self.deliveries;
-        let modes = deliveries.modes;
+        let modes = self.subscriptions.modes;
         if (deliveries.count == 0) & stores::is_zero(&modes) {
             return named;
         }
         match self.find_subscription(id) {
-            Search::At(k) => named.with_deliveries(deliveries.unsubscribed(k)),
+            Search::At(k) => named
+                .with_mode(k, SubscriptionStore::AUTO)
+                .with_deliveries(deliveries.dropped(k)),
             Search::Nowhere => named,
         }
     }
@@ -556,7 +585,7 @@ impl Session {
 
     // A pending delivery settled, by its label, in an outcome that was accepted; or 60.
     fn settle_label(self, named: Outcome, label: &[u8]) -> Outcome
-        requires { ⌜ is-valid self ≡ true ⌝ }
+        requires { ⌜ (is-valid self ≡ true) × Untouched self named ⌝ }
         ensures { λ r. ⌜ GivesLabel self (some (now (label .entry))) named r ⌝ }
     {
         let answer = named.answer;
@@ -564,15 +593,16 @@ impl Session {
             return named;
         }
         let deliveries = self.deliveries;
+        let modes = self.subscriptions.modes;
         match deliveries.find(label) {
-            Search::At(i) => named.with_deliveries(deliveries.settled(i)),
+            Search::At(i) => named.with_deliveries(deliveries.settled(i, &modes)),
             Search::Nowhere => self.refused(refusals::NOT_PENDING),
         }
     }
 
     // An ACK or NACK whose transaction was settled: the delivery that its id names is settled, or 60.
     fn settle_delivery(self, named: Outcome, notes: Notes, block: &[u8]) -> Outcome
-        requires { ⌜ (is-valid self ≡ true) × AllNoted (now block) notes × (has Id (listed (entries (now block))) ≡ true) ⌝ }
+        requires { ⌜ (is-valid self ≡ true) × AllNoted (now block) notes × (has Id (listed (entries (now block))) ≡ true) × Untouched self named ⌝ }
         ensures { λ r. ⌜ GivesLabel self (label-named (listed (entries (now (block .entry))))) named r ⌝ }
     {
         let l = crate::locate::locate(notes, block, Header::Id);
@@ -620,6 +650,7 @@ impl Session {
         let ids = are_valid_ids(
             &self.subscriptions.ids,
             &self.subscriptions.lens,
+            &self.subscriptions.modes,
             &self.transactions.ids,
             &self.transactions.lens,
         );
@@ -628,7 +659,7 @@ impl Session {
             &self.deliveries.labels,
             &self.deliveries.lens,
             &self.deliveries.places,
-            &self.deliveries.modes,
+            &self.subscriptions.modes,
             &self.subscriptions.lens,
             count,
         );
@@ -658,11 +689,11 @@ impl Session {
     // A delivery recorded; it is pending where the mode of its subscription, in a place, is not auto.
     fn recorded(mut self, place: usize, label: &[u8]) -> Recording
         requires { ⌜ MayRecord self place (now label) ⌝ }
-        ensures { λ r. ⌜ r ≡ recorded-as (with-deliveries self (record-label (some place) (now (label .entry)) (self .deliveries))) ⌝ }
+        ensures { λ r. ⌜ r ≡ recorded-as (recording-at self place (now (label .entry))) ⌝ }
     {
         let deliveries = self.deliveries;
-        let modes = deliveries.modes;
-        if modes[place] != Deliveries::AUTO {
+        let modes = self.subscriptions.modes;
+        if modes[place] != SubscriptionStore::AUTO {
             self.deliveries = deliveries.entered((place % 256) as u8, label);
         }
         Recording {
@@ -683,8 +714,8 @@ impl Session {
         if stores::is_found(deliveries.find(label)) {
             return self.unrecorded(refusals::BAD_LABEL);
         }
-        let modes = deliveries.modes;
-        if (modes[place] != Deliveries::AUTO) & (64 <= deliveries.count) {
+        let modes = self.subscriptions.modes;
+        if (modes[place] != SubscriptionStore::AUTO) & (64 <= deliveries.count) {
             return self.unrecorded(refusals::ALL_PENDING);
         }
         self.recorded(place, label)
@@ -719,7 +750,7 @@ impl Session {
     {
         let deliveries = self.deliveries;
         let places = deliveries.places;
-        let modes = deliveries.modes;
+        let modes = self.subscriptions.modes;
         let labels = deliveries.labels;
         let lens = deliveries.lens;
         let ids = self.subscriptions.ids;

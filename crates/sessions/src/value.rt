@@ -9,7 +9,7 @@ ghost use Rattle.sessions.specs.Values.{some-digits, is-item, versions, 
 ghost use Rattle.sessions.specs.Opening.{shared-flags, none-shared, may-offer, interval as interval-of};
 ghost use Rattle.sessions.specs.Headers.{mode-named};
 ghost use Rattle.sessions.specs.Reads.{version, counted, versions-say, heart-beats-say, mode-says};
-use crate::delivery::Deliveries;
+use crate::parts::SubscriptionStore;
 use headers::DecimalRead;
 
 // The versions of an accept-version value, as flags for 1.0, 1.1 and 1.2, and whether it is well formed.
@@ -201,13 +201,13 @@ pub(crate) fn read_mode(word: &[u8]) -> ModeRead
     ensures { λ r. ⌜ mode-says r ≡ mode-named (some (now (word .entry))) ⌝ }
 {
     if headers::equal(word, b"auto") {
-        return ModeRead::Mode(Deliveries::AUTO);
+        return ModeRead::Mode(SubscriptionStore::AUTO);
     }
     if headers::equal(word, b"client") {
-        return ModeRead::Mode(Deliveries::CLIENT);
+        return ModeRead::Mode(SubscriptionStore::CLIENT);
     }
     if headers::equal(word, b"client-individual") {
-        return ModeRead::Mode(Deliveries::INDIVIDUAL);
+        return ModeRead::Mode(SubscriptionStore::INDIVIDUAL);
     }
     ModeRead::Unknown
 }

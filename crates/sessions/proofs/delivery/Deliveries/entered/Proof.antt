@@ -11,7 +11,7 @@ use Rattle.sessions.proofs.delivery.Deliveries.entered.Tie as tie
 
 -- the sizes of its arrays
 sized : (c : tie.Start) → SizedDeliveries (c .args .t1)
-sized c = record { labels-long = search needs; lens-long = search needs; places-long = search needs; modes-long = search needs }
+sized c = record { labels-long = search needs; lens-long = search needs; places-long = search needs }
 
 wide-requires : tie.Need-wide-requires
 wide-requires c κs = search needs

@@ -10,7 +10,7 @@ use Rattle.sessions.proofs.delivery.Deliveries.find.Tie as tie
 
 -- the sizes of its arrays
 sized : (c : tie.Start) → SizedDeliveries (c .args .self)
-sized c = record { labels-long = search needs; lens-long = search needs; places-long = search needs; modes-long = search needs }
+sized c = record { labels-long = search needs; lens-long = search needs; places-long = search needs }
 
 wide-requires : tie.Need-wide-requires
 wide-requires c κs = search needs

@@ -8,7 +8,7 @@ use Rattle.sessions.proofs.delivery.Deliveries.without.Tie as tie
 
 -- the sizes of its arrays
 sized : (c : tie.Start) → SizedDeliveries (c .args .self)
-sized c = record { labels-long = search needs; lens-long = search needs; places-long = search needs; modes-long = search needs }
+sized c = record { labels-long = search needs; lens-long = search needs; places-long = search needs }
 
 wide-requires : tie.Need-wide-requires
 wide-requires c κs = search needs
@@ -27,8 +27,9 @@ part-keep-rows-start c = search needs
 
 part-keep-rows-end : tie.Need-part-keep-rows-end
 part-keep-rows-end c =
-    let z = sized (c .before .before .before .before .before .before .before .before) in
-    omega (arith, c .before .before .before .before .before .before .before .wide .ensures .0, c .before .before .before .before .before .before .before .before .pre .few, z .labels-long, z .lens-long, z .places-long)
+    let s = c .before .before .before .before .before .before .before in
+    let z = sized s in
+    omega (arith, c .before .before .before .before .before .before .wide .ensures .0, s .pre .few, z .labels-long, z .lens-long, z .places-long)
 
 sub-keep-rows-2 : tie.Need-sub-keep-rows-2
 sub-keep-rows-2 c = search needs
@@ -38,8 +39,9 @@ part-keep-rows-start-2 c = search needs
 
 part-keep-rows-end-2 : tie.Need-part-keep-rows-end-2
 part-keep-rows-end-2 c =
-    let z = sized (c .before .before .before .before .before .before .before .before .before .before) in
-    omega (arith, c .before .before .before .before .before .before .before .before .before .wide .ensures .0, c .before .before .before .before .before .before .before .before .before .before .pre .few, z .labels-long, z .lens-long, z .places-long)
+    let s = c .before .before .before .before .before .before .before .before .before in
+    let z = sized s in
+    omega (arith, c .before .before .before .before .before .before .before .before .wide .ensures .0, s .pre .few, z .labels-long, z .lens-long, z .places-long)
 
 keep-rows-requires : tie.Need-keep-rows-requires
 keep-rows-requires c κs = search needs
@@ -55,8 +57,9 @@ part-keep-rows-start-3 c = search needs
 
 part-keep-rows-end-3 : tie.Need-part-keep-rows-end-3
 part-keep-rows-end-3 c =
-    let z = sized (c .before .before .before .before .before .before .before .before .before .before .before .before .before .before .before) in
-    omega (arith, c .before .before .before .before .before .before .before .before .before .before .before .before .before .before .wide .ensures .0, c .before .before .before .before .before .before .before .before .before .before .before .before .before .before .before .pre .few, z .labels-long, z .lens-long, z .places-long)
+    let s = c .before .before .before .before .before .before .before .before .before .before .before .before .before .before in
+    let z = sized s in
+    omega (arith, c .before .before .before .before .before .before .before .before .before .before .before .before .before .wide .ensures .0, s .pre .few, z .labels-long, z .lens-long, z .places-long)
 
 sub-keep-rows-4 : tie.Need-sub-keep-rows-4
 sub-keep-rows-4 c = search needs
@@ -66,8 +69,9 @@ part-keep-rows-start-4 c = search needs
 
 part-keep-rows-end-4 : tie.Need-part-keep-rows-end-4
 part-keep-rows-end-4 c =
-    let z = sized (c .before .before .before .before .before .before .before .before .before .before .before .before .before .before .before .before .before) in
-    omega (arith, c .before .before .before .before .before .before .before .before .before .before .before .before .before .before .before .before .wide .ensures .0, c .before .before .before .before .before .before .before .before .before .before .before .before .before .before .before .before .before .pre .few, z .labels-long, z .lens-long, z .places-long)
+    let s = c .before .before .before .before .before .before .before .before .before .before .before .before .before .before .before .before in
+    let z = sized s in
+    omega (arith, c .before .before .before .before .before .before .before .before .before .before .before .before .before .before .before .wide .ensures .0, s .pre .few, z .labels-long, z .lens-long, z .places-long)
 
 keep-rows-requires-2 : tie.Need-keep-rows-requires-2
 keep-rows-requires-2 c κs = search needs
@@ -83,8 +87,9 @@ part-keep-rows-start-5 c = search needs
 
 part-keep-rows-end-5 : tie.Need-part-keep-rows-end-5
 part-keep-rows-end-5 c =
-    let z = sized (c .before .before .before .before .before .before .before .before .before .before .before .before .before .before .before .before .before .before .before .before .before .before) in
-    omega (arith, c .before .before .before .before .before .before .before .before .before .before .before .before .before .before .before .before .before .before .before .before .before .wide .ensures .0, c .before .before .before .before .before .before .before .before .before .before .before .before .before .before .before .before .before .before .before .before .before .before .pre .few, z .labels-long, z .lens-long, z .places-long)
+    let s = c .before .before .before .before .before .before .before .before .before .before .before .before .before .before .before .before .before .before .before .before .before in
+    let z = sized s in
+    omega (arith, c .before .before .before .before .before .before .before .before .before .before .before .before .before .before .before .before .before .before .before .before .wide .ensures .0, s .pre .few, z .labels-long, z .lens-long, z .places-long)
 
 sub-keep-rows-6 : tie.Need-sub-keep-rows-6
 sub-keep-rows-6 c = search needs
@@ -94,19 +99,23 @@ part-keep-rows-start-6 c = search needs
 
 part-keep-rows-end-6 : tie.Need-part-keep-rows-end-6
 part-keep-rows-end-6 c =
-    let z = sized (c .before .before .before .before .before .before .before .before .before .before .before .before .before .before .before .before .before .before .before .before .before .before .before .before) in
-    omega (arith, c .before .before .before .before .before .before .before .before .before .before .before .before .before .before .before .before .before .before .before .before .before .before .before .wide .ensures .0, c .before .before .before .before .before .before .before .before .before .before .before .before .before .before .before .before .before .before .before .before .before .before .before .before .pre .few, z .labels-long, z .lens-long, z .places-long)
+    let s = c .before .before .before .before .before .before .before .before .before .before .before .before .before .before .before .before .before .before .before .before .before .before .before in
+    let z = sized s in
+    omega (arith, c .before .before .before .before .before .before .before .before .before .before .before .before .before .before .before .before .before .before .before .before .before .before .wide .ensures .0, s .pre .few, z .labels-long, z .lens-long, z .places-long)
 
 keep-rows-requires-3 : tie.Need-keep-rows-requires-3
 keep-rows-requires-3 c κs = search needs
 
-cast-t50 : tie.Need-cast-t50
-cast-t50 c = search needs
+cast-t49 : tie.Need-cast-t49
+cast-t49 c = search needs
 
 returns : tie.Need-returns
 returns c =
-    let s = c .before .before .before .before .before .before .before .before .before .before .before .before .before .before .before .before .before .before .before .before .before .before .before .before .before .before .before in
-    without-at (s .args .self) (sized s) (s .pre) (c .before .before .before .before .before .before .before .before .before .before .before .before .before .before .before .before .before .before .before .before .before .before .before .before .before .before .wide .result) (c .before .before .before .before .before .before .before .before .before .before .before .before .before .before .before .before .before .before .before .before .before .before .before .before .before .before .wide .ensures .0) (s .args .range) _ _ _ _ _ (c .before .keep-rows3 .result) _ (c .before .before .before .before .before .before .before .before .before .before .before .before .before .before .before .keep-rows .ensures) (c .before .before .before .before .before .before .before .before .keep-rows2 .ensures) (c .before .keep-rows3 .ensures) (λ h. omega arith)
+    let s = c .before .before .before .before .before .before .before .before .before .before .before .before .before .before .before .before .before .before .before .before .before .before .before .before .before .before in
+    let wide = c .before .before .before .before .before .before .before .before .before .before .before .before .before .before .before .before .before .before .before .before .before .before .before .before .before .wide in
+    without-at (s .args .self) (sized s) (s .pre) (wide .result) (wide .ensures .0) (s .args .range) _ _ _ _ _ (c .before .keep-rows3 .result) _
+    (c .before .before .before .before .before .before .before .before .before .before .before .before .before .before .before .keep-rows .ensures)
+    (c .before .before .before .before .before .before .before .before .keep-rows2 .ensures) (c .before .keep-rows3 .ensures) (λ h. omega arith)
 
 pub without-spec : {M : Type 1} → statement M
 without-spec =
@@ -138,5 +147,5 @@ without-spec =
     part-keep-rows-start-6
     part-keep-rows-end-6
     keep-rows-requires-3
-    cast-t50
+    cast-t49
     returns)

@@ -125,6 +125,8 @@ settle-delivery-requires c κs =
       all,
       settling-has (s .args .self) (s .args .command) es (sym (c .before .before .before .before .before .before .before .before .before .before .lacks-needed .ensures block all) ∙ c .before .before .before .before .before .before .before .before .before .if1 .left)
           (sym (c .before .settles .ensures) ∙ c .if6 .taken),
+      uses-untouched (s .args .self) (uses-of (s .args .self) (s .args .command) es) (c .before .before .before .before .before .before .before .before .acceptance .result) (s .args .time)
+          (c .before .before .before .before .use-ids .result) (c .before .before .before .before .use-ids .ensures),
     )
 
 returns-6 : tie.Need-returns-6

@@ -1,6 +1,6 @@
 -- `session::Session::is_valid` meets its contract: the numbers, the ids and the deliveries.
-use borrow.Author.Needs.{needs}
 use Rattle.sessions.proofs.Validating.{whole-valid}
+use borrow.Author.Needs.{needs}
 use Rattle.sessions.proofs.session.Session.is_valid.Statement.{statement}
 use Rattle.sessions.proofs.session.Session.is_valid.Tie as tie
 
@@ -14,7 +14,12 @@ are-valid-requires : tie.Need-are-valid-requires
 are-valid-requires c κs = search needs
 
 returns : tie.Need-returns
-returns c = whole-valid (c .before .before .before .before .before .before .before .before .before .before .before .before .before .before .before .before .before .before .before .before .before .before .before .args .t1) _ _ _ (c .before .before .before .before .before .before .before .before .before .before .before .before .before .before .before .before .before .before .before .before .before .before .has-valid-numbers .ensures) (c .before .before .before .before .before .before .before .before .before .before .before .before .are-valid-ids .ensures) (c .are-valid .ensures)
+returns c =
+    let s = c .before .before .before .before .before .before .before .before .before .before .before .before .before .before .before .before .before .before .before .before .before .before .before .before .before in
+    whole-valid (s .args .t1) _ _ _
+    (c .before .before .before .before .before .before .before .before .before .before .before .before .before .before .before .before .before .before .before .before .before .before .before .before .has-valid-numbers .ensures)
+    (c .before .before .before .before .before .before .before .before .before .before .before .before .are-valid-ids .ensures)
+    (c .are-valid .ensures)
 
 pub is-valid-spec : {M : Type 1} → statement M
 is-valid-spec = tie.close (tie.spec has-valid-numbers-requires are-valid-ids-requires are-valid-requires returns)

@@ -15,8 +15,8 @@ use Rattle.sessions.proofs.session.Session.record_at.Tie as tie
 -- a valid session, with the sizes of its arrays
 kept : (c : tie.Start) → is-valid (c .args .self) ≡ true → Kept (c .args .self)
 kept c v =
-    kept-of (c .args .self) (record { subscriptions = record { ids-long = search needs; lens-long = search needs }; transactions = record { ids-long = search needs; lens-long = search needs } })
-    (record { labels-long = search needs; lens-long = search needs; places-long = search needs; modes-long = search needs }) v
+    kept-of (c .args .self) (record { subscriptions = record { ids-long = search needs; lens-long = search needs; modes-long = search needs }; transactions = record { ids-long = search needs; lens-long = search needs } })
+    (record { labels-long = search needs; lens-long = search needs; places-long = search needs }) v
 
 unrecorded-requires : tie.Need-unrecorded-requires
 unrecorded-requires c κs = search needs

@@ -8,7 +8,7 @@ use Rattle.sessions.proofs.session.Session.settle.Tie as tie
 
 -- the sizes of its arrays
 sized : (c : tie.Start) → Sized (c .args .self)
-sized c = record { subscriptions = record { ids-long = search needs; lens-long = search needs }; transactions = record { ids-long = search needs; lens-long = search needs } }
+sized c = record { subscriptions = record { ids-long = search needs; lens-long = search needs; modes-long = search needs }; transactions = record { ids-long = search needs; lens-long = search needs } }
 
 enum-told : tie.Need-enum-told
 enum-told c = search needs

@@ -19,7 +19,9 @@ part-settle-label-end : tie.Need-part-settle-label-end
 part-settle-label-end c = search needs
 
 settle-label-requires : tie.Need-settle-label-requires
-settle-label-requires c κs = search needs
+settle-label-requires c κs =
+    let s = c .before .before .before in
+    (s .pre .0, s .pre .3)
 
 returns : tie.Need-returns
 returns c = subst (λ o. GivesLabel (c .before .before .before .before .args .self) o (c .before .before .before .before .args .named) (c .settle-label .result)) (sym (located-there (c .before .before .locate .ensures) (c .before .before .before .before .pre .2))) (c .settle-label .ensures)

@@ -14,8 +14,8 @@ use Rattle.sessions.proofs.session.Session.told.Tie as tie
 -- a valid session, with the sizes of its arrays
 kept : (c : tie.Start) → is-valid (c .args .self) ≡ true → Kept (c .args .self)
 kept c v =
-    kept-of (c .args .self) (record { subscriptions = record { ids-long = search needs; lens-long = search needs }; transactions = record { ids-long = search needs; lens-long = search needs } })
-    (record { labels-long = search needs; lens-long = search needs; places-long = search needs; modes-long = search needs }) v
+    kept-of (c .args .self) (record { subscriptions = record { ids-long = search needs; lens-long = search needs; modes-long = search needs }; transactions = record { ids-long = search needs; lens-long = search needs } })
+    (record { labels-long = search needs; lens-long = search needs; places-long = search needs }) v
 
 array-read-wide : tie.Need-array-read-wide
 array-read-wide c = omega (arith, c .before .before .before .before .before .before .before .pre .1, laid-of (c .before .before .before .before .before .before .before .args .self) (kept (c .before .before .before .before .before .before .before) (c .before .before .before .before .before .before .before .pre .0)) .few)
@@ -51,7 +51,7 @@ returns c = ap₂ (λ a b. record {
   answer = PendingAnswer.Held;
   subscription = a;
   «subscription_len» = getD (c .before .before .before .before .before .before .before .before .before .before .before .before .args .self .subscriptions .lens) (c .before .before .before .before .wide .result) 0;
-  mode = getD (c .before .before .before .before .before .before .before .before .before .before .before .before .args .self .deliveries .modes) (c .before .before .before .before .wide .result) 0;
+  mode = getD (c .before .before .before .before .before .before .before .before .before .before .before .before .args .self .subscriptions .modes) (c .before .before .before .before .wide .result) 0;
   label = b;
   «label_len» = getD (c .before .before .before .before .before .before .before .before .before .before .before .before .args .self .deliveries .lens) (c .before .before .before .before .before .before .before .before .before .before .before .before .args .index) 0;
 }) (c .before .before .row .ensures) (c .row2 .ensures)

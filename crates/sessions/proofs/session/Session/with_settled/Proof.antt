@@ -16,7 +16,11 @@ use Rattle.sessions.proofs.session.Session.with_settled.Tie as tie
 sized : (s : tie.Start) → Sized (s .args .self)
 sized s =
     record {
-      subscriptions = record { ids-long = search (needs, s .good .0 .1 .1 .1 .1 .0); lens-long = search (needs, s .good .0 .1 .1 .1 .1 .0) };
+      subscriptions = record {
+        ids-long = search (needs, s .good .0 .1 .1 .1 .1 .0);
+        lens-long = search (needs, s .good .0 .1 .1 .1 .1 .0);
+        modes-long = search (needs, s .good .0 .1 .1 .1 .1 .0);
+      };
       transactions = record { ids-long = search (needs, s .good .0 .1 .1 .1 .1 .1 .0); lens-long = search (needs, s .good .0 .1 .1 .1 .1 .1 .0) };
     }
 

@@ -1,17 +1,19 @@
 -- `session::Session::without_deliveries` meets its contract, by the place of the id. Assumes nothing.
-use mathlib.Core.Path.{_≡_, sym, _∙_, ap}
+use mathlib.Core.Path.{_≡_, sym, _∙_, ap, ap₂}
 use mathlib.Core.Bool.{true, _&&_}
 use Rattle.sessions.specs.Sessions.{is-valid}
 use Rattle.sessions.proofs.Kept.{Kept, kept-of}
-use Rattle.sessions.proofs.Delivering.{laid-of, place-inside, says-at, says-nowhere, dropped-idle, outcome-same}
 use Rattle.headers.specs.Rows.{same}
+use Rattle.headers.proofs.Rows.{and-left, and-right}
+use borrow.Author.Tests.{eqb-true}
 use denote.Ref.{now}
-use Rattle.sessions.specs.Deliveries.{unsubscribe}
-use Rattle.sessions.specs.Steps.{outcome-with}
 use lib.Dec.{eqb}
 use mathlib.Core.Option.{some}
 use Rattle.stores.specs.Places.{is-zero}
+use Rattle.sessions.specs.Deliveries.{auto-mode, with-mode, dropped}
 use Rattle.sessions.specs.Calls.{place-named}
+use Rattle.sessions.specs.Steps.{outcome-deliveries, outcome-with}
+use Rattle.sessions.proofs.Delivering.{laid-of, place-inside, says-at, says-nowhere, dropped-idle, modes-idle, outcome-same, outcome-freed}
 use borrow.Author.Needs.{needs}
 use Rattle.sessions.proofs.session.Session.without_deliveries.Statement.{statement}
 use Rattle.sessions.proofs.session.Session.without_deliveries.Tie as tie
@@ -24,26 +26,29 @@ kept c v =
     let ds = c .good .0 .1 .1 .1 .1 .1 .1 .0 in
     kept-of (c .args .self)
     (record {
-      subscriptions = record { ids-long = search (needs, subs); lens-long = search (needs, subs) };
+      subscriptions = record { ids-long = search (needs, subs); lens-long = search (needs, subs); modes-long = search (needs, subs) };
       transactions = record { ids-long = search (needs, txs); lens-long = search (needs, txs) };
     })
-    (record { labels-long = search (needs, ds); lens-long = search (needs, ds); places-long = search (needs, ds); modes-long = search (needs, ds) }) v
+    (record { labels-long = search (needs, ds); lens-long = search (needs, ds); places-long = search (needs, ds) }) v
 
 slice-aggregate-is-zero : tie.Need-slice-aggregate-is-zero
-slice-aggregate-is-zero c = search (needs, c .before .before .before .before .before .good .0 .1 .1 .1 .1 .1 .1 .0)
+slice-aggregate-is-zero c = search (needs, c .before .before .before .before .before .good .0 .1 .1 .1 .1 .0)
 
 is-zero-requires : tie.Need-is-zero-requires
 is-zero-requires c κs = search needs
 
 returns : tie.Need-returns
 returns c =
-    let a = c .before .before .before .before .before .before .before .args in
+    let s = c .before .before .before .before .before .before .before in
+    let a = s .args in
+    let held = kept s (s .pre .0) in
     let d = a .self .deliveries in
-    let idle : eqb (d .count) 0 && is-zero (d .modes) ≡ true = ap (eqb (d .count) 0 &&_) (sym (c .before .is-zero .ensures)) ∙ c .if1 .taken in
-    outcome-same (a .named) _ (c .before .before .before .before .before .before .before .pre .1)
-    ∙ ap (outcome-with (a .named))
-    (sym (dropped-idle d ((kept (c .before .before .before .before .before .before .before) (c .before .before .before .before .before .before .before .pre .0)) .holds .sized)
-    (laid-of (a .self) (kept (c .before .before .before .before .before .before .before) (c .before .before .before .before .before .before .before .pre .0))) (place-named (a .self) (some (now (a .id)))) idle))
+    let ms = a .self .subscriptions .modes in
+    let o = place-named (a .self) (some (now (a .id))) in
+    let idle : eqb (d .count) 0 && is-zero ms ≡ true = ap (eqb (d .count) 0 &&_) (sym (c .before .is-zero .ensures)) ∙ c .if1 .taken in
+    outcome-same (a .self) (a .named) (s .pre .1)
+    ∙ ap₂ (outcome-with (a .named)) (modes-idle ms o (and-right (eqb (d .count) 0) (is-zero ms) idle))
+    (dropped-idle d (held .holds .sized) (laid-of (a .self) held) o (eqb-true (d .count) 0 (and-left (eqb (d .count) 0) (is-zero ms) idle)))
 
 find-subscription-requires : tie.Need-find-subscription-requires
 find-subscription-requires c κs = search needs
@@ -51,8 +56,19 @@ find-subscription-requires c κs = search needs
 enum-known-k : tie.Need-enum-known-k
 enum-known-k c = search needs
 
-unsubscribed-requires : tie.Need-unsubscribed-requires
-unsubscribed-requires c κs = (laid-of (c .before .before .before .before .before .before .before .before .before .before .before .args .self) (kept (c .before .before .before .before .before .before .before .before .before .before .before) (c .before .before .before .before .before .before .before .before .before .before .before .pre .0)), place-inside (c .before .before .before .before .before .before .before .before .before .before .before .args .self) (kept (c .before .before .before .before .before .before .before .before .before .before .before) (c .before .before .before .before .before .before .before .before .before .before .before .pre .0)) (λ x. same x (now (c .before .before .before .before .before .before .before .before .before .before .before .args .id))) _ (says-at _ _ _ (c .before .before .before .find-subscription .ensures) (c .before .k .given .1)))
+with-mode-requires : tie.Need-with-mode-requires
+with-mode-requires c κs =
+    let s = c .before .before .before .before .before .before .before .before .before .before .before in
+    let a = s .args in
+    let held = kept s (s .pre .0) in
+    place-inside (a .self) held (λ x. same x (now (a .id))) _ (says-at _ _ _ (c .before .before .before .find-subscription .ensures) (c .before .k .given .1))
+
+dropped-requires : tie.Need-dropped-requires
+dropped-requires c κs =
+    let s = c .before .before .before .before .before .before .before .before .before .before .before .before in
+    let a = s .args in
+    let held = kept s (s .pre .0) in
+    (laid-of (a .self) held, place-inside (a .self) held (λ x. same x (now (a .id))) _ (says-at _ _ _ (c .before .before .before .before .find-subscription .ensures) (c .before .before .k .given .1)))
 
 with-deliveries-requires : tie.Need-with-deliveries-requires
 with-deliveries-requires c κs = search needs
@@ -61,10 +77,21 @@ enum-told : tie.Need-enum-told
 enum-told c = search needs
 
 returns-2 : tie.Need-returns-2
-returns-2 c = c .with-deliveries .ensures ∙ ap (outcome-with (c .before .before .before .before .before .before .before .before .before .before .before .before .before .args .named)) (c .before .unsubscribed .ensures ∙ ap (λ o. unsubscribe o (c .before .before .before .before .before .before .before .before .before .before .before .before .before .args .self .deliveries)) (sym (says-at _ _ _ (c .before .before .before .before .before .find-subscription .ensures) (c .before .before .before .k .given .1))))
+returns-2 c =
+    let s = c .before .before .before .before .before .before .before .before .before .before .before .before .before .before in
+    let a = s .args in
+    let held = kept s (s .pre .0) in
+    c .with-deliveries .ensures ∙ ap₂ outcome-deliveries (c .before .before .with-mode .ensures) (c .before .dropped .ensures)
+    ∙ outcome-freed (a .self) (a .named) (s .pre .1) (place-named (a .self) (some (now (a .id)))) _ (says-at _ _ _ (c .before .before .before .before .before .before .find-subscription .ensures) (c .before .before .before .before .k .given .1))
 
 returns-3 : tie.Need-returns-3
-returns-3 c = outcome-same (c .before .before .before .before .before .before .before .before .before .before .args .named) _ (c .before .before .before .before .before .before .before .before .before .before .pre .1) ∙ ap (λ o. outcome-with (c .before .before .before .before .before .before .before .before .before .before .args .named) (unsubscribe o (c .before .before .before .before .before .before .before .before .before .before .args .self .deliveries))) (sym (says-nowhere _ _ (c .before .before .find-subscription .ensures) (c .enum-told .given .1)))
+returns-3 c =
+    let s = c .before .before .before .before .before .before .before .before .before .before in
+    let a = s .args in
+    let held = kept s (s .pre .0) in
+    outcome-same (a .self) (a .named) (s .pre .1)
+    ∙ ap (λ o. outcome-with (a .named) (with-mode o auto-mode (a .self .subscriptions .modes)) (dropped o (a .self .deliveries)))
+    (sym (says-nowhere _ _ (c .before .before .find-subscription .ensures) (c .enum-told .given .1)))
 
 pub without-deliveries-spec : {M : Type 1} → statement M
 without-deliveries-spec =
@@ -75,7 +102,8 @@ without-deliveries-spec =
     returns
     find-subscription-requires
     enum-known-k
-    unsubscribed-requires
+    with-mode-requires
+    dropped-requires
     with-deliveries-requires
     enum-told
     returns-2

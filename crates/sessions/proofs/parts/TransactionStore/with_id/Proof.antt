@@ -1,4 +1,4 @@
--- `parts::TransactionIds::with_id` meets its contract.
+-- `parts::TransactionStore::with_id` meets its contract.
 use mathlib.Core.Path.{_≡_}
 use Prim.Native.Nat.{_*_}
 use native.Mathlib.Omega.{arith}
@@ -7,8 +7,8 @@ use denote.Ref.{now}
 use Rattle.sessions.specs.Sessions.{transactions-max, id-max}
 use Rattle.sessions.proofs.Using.{transaction-put}
 use borrow.Author.Needs.{needs}
-use Rattle.sessions.proofs.parts.TransactionIds.with_id.Statement.{statement}
-use Rattle.sessions.proofs.parts.TransactionIds.with_id.Tie as tie
+use Rattle.sessions.proofs.parts.TransactionStore.with_id.Statement.{statement}
+use Rattle.sessions.proofs.parts.TransactionStore.with_id.Tie as tie
 
 slice-aggregate-put : tie.Need-slice-aggregate-put
 slice-aggregate-put c = search needs

@@ -1,4 +1,4 @@
--- `delivery::are_idle` meets its contract.
+-- `parts::are_idle` meets its contract.
 use borrow.Author.Needs.{needs}
 use mathlib.Core.Path.{_≡_, refl, sym, ap, _∙_}
 use mathlib.Core.Bool.{_&&_}
@@ -9,8 +9,8 @@ use Rattle.headers.proofs.Rows.{and-yes}
 use Rattle.sessions.specs.Deliveries.{idle-modes}
 use Rattle.stores.proofs.Rows.{and-assoc}
 use Rattle.sessions.proofs.Validating.{idle-step, idle-end}
-use Rattle.sessions.proofs.delivery.are_idle.Statement.{statement}
-use Rattle.sessions.proofs.delivery.are_idle.Tie as tie
+use Rattle.sessions.proofs.parts.are_idle.Statement.{statement}
+use Rattle.sessions.proofs.parts.are_idle.Tie as tie
 
 abbrev Inv-loop : tie.InvT-loop
 Inv-loop lens modes idle₀ i₀ idle i = (i ≤ length lens) × (idle-modes lens modes ≡ idle && idle-modes (drop i lens) (drop i modes))

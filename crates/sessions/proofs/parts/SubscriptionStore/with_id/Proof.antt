@@ -1,4 +1,4 @@
--- `parts::SubscriptionIds::with_id` meets its contract.
+-- `parts::SubscriptionStore::with_id` meets its contract.
 use mathlib.Core.Path.{_≡_}
 use Prim.Native.Nat.{_*_}
 use native.Mathlib.Omega.{arith}
@@ -7,8 +7,8 @@ use denote.Ref.{now}
 use Rattle.sessions.specs.Sessions.{subscriptions-max, id-max}
 use Rattle.sessions.proofs.Using.{subscription-put}
 use borrow.Author.Needs.{needs}
-use Rattle.sessions.proofs.parts.SubscriptionIds.with_id.Statement.{statement}
-use Rattle.sessions.proofs.parts.SubscriptionIds.with_id.Tie as tie
+use Rattle.sessions.proofs.parts.SubscriptionStore.with_id.Statement.{statement}
+use Rattle.sessions.proofs.parts.SubscriptionStore.with_id.Tie as tie
 
 slice-aggregate-put : tie.Need-slice-aggregate-put
 slice-aggregate-put c = search needs

@@ -1,4 +1,4 @@
--- `delivery::are_known` meets its contract: what was found so far, and what is left of the test from place i on.
+-- `parts::are_known` meets its contract: what was found so far, and what is left of the test from place i on.
 use borrow.Author.Needs.{needs}
 use mathlib.Core.Path.{_≡_, sym, ap, _∙_}
 use mathlib.Core.Bool.{_&&_}
@@ -8,8 +8,8 @@ use lib.ListN.{length, drop}
 use Rattle.headers.proofs.Rows.{and-yes, every-step, every-end}
 use Rattle.sessions.specs.Deliveries.{known-modes}
 use Rattle.stores.proofs.Rows.{and-assoc}
-use Rattle.sessions.proofs.delivery.are_known.Statement.{statement}
-use Rattle.sessions.proofs.delivery.are_known.Tie as tie
+use Rattle.sessions.proofs.parts.are_known.Statement.{statement}
+use Rattle.sessions.proofs.parts.are_known.Tie as tie
 
 abbrev Inv-loop : tie.InvT-loop
 Inv-loop s known₀ i₀ known i = (i ≤ length s) × (known-modes s ≡ known && known-modes (drop i s))
