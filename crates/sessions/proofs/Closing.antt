@@ -45,7 +45,8 @@ module _ (s : Session) (open-yet : s .phase ≢ closed-phase) where
   opening-open shared (some b) h = omega arith
 
   -- a refusal that closes
-  refused-closing : (c : Call) (left : Session) (k : ℕ) → may-close c ≡ true → answer-to s c ≡ refused k → (left-by (refused k) s left) .phase ≡ closed-phase → Closes s c
+  refused-closing : (c : Call) (left : Session) (k : ℕ) → may-close c ≡ true → answer-to s c ≡ refused k → (left-by (refused k) s left) .phase ≡ closed-phase
+      → Closes s c
   refused-closing c left k m e =
       cond-case (λ (r : Session). r .phase ≡ closed-phase → Closes s c) (eqb k 38 || eqb k 39)
       (λ t h. absurd (open-yet h))

@@ -20,20 +20,19 @@ use lib.ListN.{length, take, drop, getD, set, length-map, List·getD-map}
 use lib.Seq.{getD-take, length-take-le, take-take}
 use lib.Dec.{eqb, leb, ltb}
 use borrow.Author.Tests.{eq-eqb, ne-eqb, eqb-true, leb-true, leb-false, ltb-false}
-use Rattle.headers.specs.Rows.{every, any, empty, same, first-of}
+use Rattle.headers.specs.Rows.{every, empty, same, first-of}
 use Rattle.headers.specs.Answers.{accepted, refused, settle}
 use Rattle.stores.specs.Places.{padded, is-zero}
 use Rattle.stores.specs.Searches.{first-from, search-says, is-at}
 use Rattle.sessions.specs.Stores.{ids, laid, live, bad-length}
 use Rattle.sessions.specs.Places.{Fits}
 use Rattle.stores.specs.Compaction.{kept}
-use Rattle.sessions.specs.Deliveries.{deliveries-max, label-max, auto-mode, client-mode, Pending, paired, pending, places-of, labels-of, labelled}
+use Rattle.sessions.specs.Deliveries.{deliveries-max, label-max, auto-mode, client-mode, Pending, paired, pending, places-of, labelled}
 use Rattle.sessions.specs.Deliveries.{is-pending, mode-of, settled, settled-as, settle-label, without, deliveries-of, with-mode, dropped}
 use Rattle.sessions.specs.Deliveries.{record-label, acknowledging, idle-modes, Laid}
-use Rattle.sessions.specs.Accounts.{Delivery}
-use Rattle.sessions.specs.Sessions.{subscriptions-max, id-max, open-phase, in-phase, ids-of, with-deliveries, is-valid, SizedDeliveries}
+use Rattle.sessions.specs.Sessions.{subscriptions-max, id-max, open-phase, ids-of, with-deliveries, is-valid, SizedDeliveries}
 use Rattle.sessions.specs.Held.{delivery-of, held-deliveries, nth, nothing-told, told-of, pending-answer}
-use Rattle.sessions.specs.Calls.{free-place, place-named, is-no-label, is-auto, deliver-checks, deliver-answer, deliver-session, recording}
+use Rattle.sessions.specs.Calls.{free-place, place-named, is-auto, deliver-checks, deliver-answer, deliver-session, recording}
 use Rattle.sessions.specs.Steps.{outcome-modes, outcome-deliveries, outcome-with, Unchanged, Records, RecordsAt, MayRecord, unrecorded-by}
 use Rattle.sessions.specs.Steps.{recorded-as, recording-at, label-checks}
 use Rattle.sessions.specs.Answers.{delivery-says}
@@ -58,7 +57,8 @@ use Rattle.sessions.proofs.Kept.{Kept, first-passes, lens-are, lens-fre
 
 -- ---- the pending delivery with a label
 
-first-paired : (l : List ℕ) (k : ℕ) (ps : List ℕ) (ls : List (List ℕ)) → length ps ≡ length ls → first-from (labelled l) k (paired ps ls) ≡ first-from (λ x. same x l) k ls
+first-paired : (l : List ℕ) (k : ℕ) (ps : List ℕ) (ls : List (List ℕ)) → length ps ≡ length ls
+    → first-from (labelled l) k (paired ps ls) ≡ first-from (λ x. same x l) k ls
 unfolding first-from
 first-paired l k [] [] e = refl
 first-paired l k [] (x ∷ xs) e = absurd (omega (arith, e))
@@ -73,12 +73,14 @@ module _ (d : Deliveries) (sized : SizedDeliveries d) (l : Laid d) (n : ℕ) (e 
       → first-from (λ y. same y x) 0 (ids 32 (take (n * 32 - 0) (drop 0 (d .labels))) (take (n - 0) (drop 0 (d .lens)))) ≡ first-from (labelled x) 0 (pending d)
   find-pending x =
       ap₂ (λ s ls. first-from (λ y. same y x) 0 (ids 32 s ls)) (store-same d sized l n e) (lens-same d sized l n e)
-      ∙ sym (first-paired x 0 (take (d .count) (d .places)) (ids label-max (take (d .count * label-max) (d .labels)) (take (d .count) (d .lens))) (alike d sized l))
+      ∙ sym (first-paired x 0 (take (d .count) (d .places)) (ids label-max (take (d .count * label-max) (d .labels)) (take (d .count) (d .lens)))
+      (alike d sized l))
 
 -- ---- what an ACK or NACK leaves
 
 -- the first that passes is the one with the number found
-first-nth : {A : Type 0} (p : A → Bool) (d : A) (j k : ℕ) (xs : List A) → first-from p j xs ≡ some k → (i : ℕ) × (k ≡ j + i) × (i < length xs) × (first-of p xs ≡ some (getD xs i d))
+first-nth : {A : Type 0} (p : A → Bool) (d : A) (j k : ℕ) (xs : List A) → first-from p j xs ≡ some k → (i : ℕ) × (k ≡ j + i) × (i < length xs)
+    × (first-of p xs ≡ some (getD xs i d))
 unfolding first-from
 first-nth p d j k [] e = absurd (let z : _≡_ {A = ℕ} 0 1 = cc in omega arith)
 first-nth {A} p d j k (x ∷ xs) e = by (p x) e (first-nth p d (suc j) k xs)
@@ -96,14 +98,17 @@ module _ (d : Deliveries) (sized : SizedDeliveries d) (l : Laid d) where
   -- how many there are
   pub pending-count : length (pending d) ≡ d .count
   pending-count =
-      sym (length-map (pending d) (λ (p : Pending). p .place)) ∙ ap length (places-are d sized l) ∙ length-take-le (d .count) (d .places) (omega (arith, l .few, sized .places-long))
+      sym (length-map (pending d) (λ (p : Pending). p .place)) ∙ ap length (places-are d sized l)
+      ∙ length-take-le (d .count) (d .places) (omega (arith, l .few, sized .places-long))
 
   -- the place and the label of the one with a number
   pub place-at : (i : ℕ) → i < d .count → getD (pending d) i none-pending .place ≡ getD (d .places) i 0
   place-at i h =
-      sym (List·getD-map (λ (p : Pending). p .place) (pending d) i none-pending) ∙ ap (λ z. getD z i 0) (places-are d sized l) ∙ getD-take (d .count) (d .places) i 0 h
+      sym (List·getD-map (λ (p : Pending). p .place) (pending d) i none-pending) ∙ ap (λ z. getD z i 0) (places-are d sized l)
+      ∙ getD-take (d .count) (d .places) i 0 h
 
-  pub label-at : (i : ℕ) → getD (pending d) i none-pending .label ≡ getD (ids label-max (take (d .count * label-max) (d .labels)) (take (d .count) (d .lens))) i []
+  pub label-at : (i : ℕ)
+      → getD (pending d) i none-pending .label ≡ getD (ids label-max (take (d .count * label-max) (d .labels)) (take (d .count) (d .lens))) i []
   label-at i = sym (List·getD-map (λ (p : Pending). p .label) (pending d) i none-pending) ∙ ap (λ (z : List (List ℕ)). getD z i []) (labels-are d sized l)
 
   module _ (ms x : List ℕ) (i : ℕ) (found : first-from (labelled x) 0 (pending d) ≡ some i) (of : ℕ) (there : of ≡ getD (d .places) i 0) where
@@ -237,7 +242,12 @@ module _ (s : Session) (kept : Kept s) where
       by (some k) e =
           sym (set-same (s .subscriptions .modes) k auto-mode
           (idle-at (s .subscriptions .lens) (s .subscriptions .modes) k (idle (s .subscriptions .lens) (s .subscriptions .modes) (s .deliveries) (kept .holds))
-          (omega (arith, first-passes empty [] k (ids-of Subscriptions s) e .0, held-long s (kept .ids) Subscriptions, kept .ids .sized .subscriptions .lens-long))
+          (omega (
+            arith,
+            first-passes empty [] k (ids-of Subscriptions s) e .0,
+            held-long s (kept .ids) Subscriptions,
+            kept .ids .sized .subscriptions .lens-long,
+          ))
           (lens-free s kept k e)))
 
   -- a place that a search found is one
@@ -245,10 +255,13 @@ module _ (s : Session) (kept : Kept s) where
   place-inside p k e = omega (arith, first-passes p [] k (ids-of Subscriptions s) e .0, held-long s (kept .ids) Subscriptions)
 
   -- 60
-  pub label-found : (x : List ℕ) (i : ℕ) → first-from (labelled x) 0 (pending (s .deliveries)) ≡ some i → (i < s .deliveries .count) × ((v : List ℕ) → settle (label-checks (some x) (s .deliveries)) v ≡ accepted v)
+  pub label-found : (x : List ℕ) (i : ℕ) → first-from (labelled x) 0 (pending (s .deliveries)) ≡ some i → (i < s .deliveries .count)
+      × ((v : List ℕ) → settle (label-checks (some x) (s .deliveries)) v ≡ accepted v)
   label-found x i e =
-      let there : is-pending x (s .deliveries) ≡ true = told-any (labelled x) 0 (pending (s .deliveries)) (Search.At i) (sym e) in
-      (omega (arith, first-passes (labelled x) none-pending i (pending (s .deliveries)) e .0, pending-count (s .deliveries) (kept .holds .sized) laid-of), λ v. rw there)
+      let there : is-pending x (s .deliveries) ≡ true = told-any (labelled x) 0 (pending (s .deliveries)) (Search.At i) (sym e) in (
+        omega (arith, first-passes (labelled x) none-pending i (pending (s .deliveries)) e .0, pending-count (s .deliveries) (kept .holds .sized) laid-of),
+        λ v. rw there,
+      )
 
   pub label-missed : (x : List ℕ) → first-from (labelled x) 0 (pending (s .deliveries)) ≡ none → settle (label-checks (some x) (s .deliveries)) [] ≡ refused 60
   label-missed x e =
@@ -300,7 +313,8 @@ module _ (s : Session) (k : ℕ) (label : List ℕ) (r : Recording) where
     at-pending h q = records-refused _ 62 _ (ap₂ (_||_) (label-bad false fine) h) q
 
     module _ (new : is-pending label (s .deliveries) ≡ false) where
-      pub at-full : not (eqb (mode-of (s .subscriptions .modes) k) auto-mode) && leb 64 (s .deliveries .count) ≡ true → r ≡ unrecorded-by s 61 → RecordsAt s k label r
+      pub at-full : not (eqb (mode-of (s .subscriptions .modes) k) auto-mode) && leb 64 (s .deliveries .count) ≡ true → r ≡ unrecorded-by s 61
+          → RecordsAt s k label r
       at-full h q = records-on _ _ (ap₂ (_||_) (label-bad false fine) new) (records-refused _ 61 _ h q)
 
       pub at-done : not (eqb (mode-of (s .subscriptions .modes) k) auto-mode) && leb 64 (s .deliveries .count) ≡ false
@@ -315,7 +329,9 @@ module _ (s : Session) (k : ℕ) (label : List ℕ) (r : Recording) where
         valid = v;
         place = p;
         fits = ltb-false 32 (length label) (or-false-right (eqb (length label) 0) (ltb 32 (length label)) fine);
-        room = λ e. leb-false 64 (s .deliveries .count) (and-false (not (eqb (mode-of (s .subscriptions .modes) k) auto-mode)) (leb 64 (s .deliveries .count)) h (ap not e));
+        room =
+            λ e. leb-false 64 (s .deliveries .count)
+            (and-false (not (eqb (mode-of (s .subscriptions .modes) k) auto-mode)) (leb 64 (s .deliveries .count)) h (ap not e));
       }
 
 -- 38, 63 and 64
@@ -413,14 +429,17 @@ module _ (s : Session) (kept : Kept s) (i : ℕ) where
         by : (t : Bool) → leb subscriptions-max k ≡ t → k < subscriptions-max
         by false e = leb-false subscriptions-max k e
         by true e =
-            absurd (true≢false (sym acks ∙ sym (no-lens (s .subscriptions .lens) (s .subscriptions .modes) k (omega (arith, leb-true subscriptions-max k e, kept .ids .sized .subscriptions .lens-long)))))
+            absurd (true≢false (sym acks
+            ∙ sym (no-lens (s .subscriptions .lens) (s .subscriptions .modes) k
+            (omega (arith, leb-true subscriptions-max k e, kept .ids .sized .subscriptions .lens-long)))))
 
     abbrev sub : List ℕ
     sub = getD (ids-of Subscriptions s) k []
 
     sub-octets : padded id-max (getD (ids-of Subscriptions s) k []) ≡ take 32 (drop (k * 32) (s .subscriptions .ids))
     sub-octets =
-        place-padded id-max subscriptions-max (s .subscriptions .ids) (s .subscriptions .lens) (subscriptions-fit s (kept .ids)) (valid-clean id-max (s .subscriptions .ids) (s .subscriptions .lens) (kept .ids .valid .subscriptions)) k
+        place-padded id-max subscriptions-max (s .subscriptions .ids) (s .subscriptions .lens) (subscriptions-fit s (kept .ids))
+        (valid-clean id-max (s .subscriptions .ids) (s .subscriptions .lens) (kept .ids .valid .subscriptions)) k
         (omega (arith, told-place, kept .ids .sized .subscriptions .lens-long))
 
     sub-length : length (getD (ids-of Subscriptions s) k []) ≡ getD (s .subscriptions .lens) k 0
@@ -434,13 +453,16 @@ module _ (s : Session) (kept : Kept s) (i : ℕ) where
 
     label-octets : padded label-max (getD labels i []) ≡ take 32 (drop (i * 32) (few .labels))
     label-octets =
-        place-padded label-max (few .count) (take (few .count * label-max) (few .labels)) (take (few .count) (few .lens)) (fits few (kept .holds .sized) laid-few) (laid-few .clean-yes) i (omega (arith, h, lens-long))
+        place-padded label-max (few .count) (take (few .count * label-max) (few .labels)) (take (few .count) (few .lens))
+        (fits few (kept .holds .sized) laid-few) (laid-few .clean-yes) i (omega (arith, h, lens-long))
         ∙ part-front 32 (i * 32) (few .count * 32) (few .labels) (omega (arith, h))
 
     label-length : length (getD labels i []) ≡ getD (few .lens) i 0
     label-length =
         sym (List·getD-map length labels i [])
-        ∙ ap (λ z. getD z i 0) (lengths-ids label-max (few .count) (take (few .count * label-max) (few .labels)) (take (few .count) (few .lens)) (fits few (kept .holds .sized) laid-few))
+        ∙ ap (λ z. getD z i 0)
+        (lengths-ids label-max (few .count) (take (few .count * label-max) (few .labels)) (take (few .count) (few .lens))
+        (fits few (kept .holds .sized) laid-few))
         ∙ getD-take (few .count) (few .lens) i 0 h
 
     -- what is told of it
@@ -454,10 +476,13 @@ module _ (s : Session) (kept : Kept s) (i : ℕ) where
       «label_len» = m;
     }
 
-    pub told-at : telling (take 32 (drop (k * 32) (s .subscriptions .ids))) (getD (s .subscriptions .lens) k 0) (getD (s .subscriptions .modes) k 0) (take 32 (drop (i * 32) (few .labels))) (getD (few .lens) i 0)
+    pub told-at : telling (take 32 (drop (k * 32) (s .subscriptions .ids))) (getD (s .subscriptions .lens) k 0) (getD (s .subscriptions .modes) k 0)
+        (take 32 (drop (i * 32) (few .labels))) (getD (few .lens) i 0)
         ≡ told-of (nth i (held-deliveries s))
     told-at =
-        ap₂ (λ a b. telling a b (getD (s .subscriptions .modes) k 0) (take 32 (drop (i * 32) (few .labels))) (getD (few .lens) i 0)) (sym sub-octets) (sym sub-length)
+        ap₂ (λ a b. telling a b (getD (s .subscriptions .modes) k 0) (take 32 (drop (i * 32) (few .labels))) (getD (few .lens) i 0)) (sym sub-octets)
+        (sym sub-length)
         ∙ ap₂ (λ a b. telling (padded id-max sub) (length sub) (getD (s .subscriptions .modes) k 0) a b) (sym label-octets) (sym label-length)
-        ∙ ap₂ (λ (p : ℕ) (l : List ℕ). told-of (some (delivery-of s (record { place = p; label = l })))) (at ∙ sym (place-at few (kept .holds .sized) laid-few i h)) (sym (label-at few (kept .holds .sized) laid-few i))
+        ∙ ap₂ (λ (p : ℕ) (l : List ℕ). told-of (some (delivery-of s (record { place = p; label = l }))))
+        (at ∙ sym (place-at few (kept .holds .sized) laid-few i h)) (sym (label-at few (kept .holds .sized) laid-few i))
         ∙ ap told-of (sym (nth-map (delivery-of s) none-pending i (pending few) (omega (arith, h, pending-count few (kept .holds .sized) laid-few))))

@@ -30,7 +30,8 @@ use Rattle.sessions.specs.Examples.{not-pending, recordings, all-pending
 
 -- the definitions that a row is computed by: the calls, header blocks and their values, stores
 unfoldable calls : Unit {0}
-unfolding made making-answer frame-answer frame-session heart-beat-answer heart-beat-session timed-out-answer deliver-answer deliver-session is-valid fate accounts
+unfolding made making-answer frame-answer frame-session heart-beat-answer heart-beat-session timed-out-answer deliver-answer deliver-session is-valid fate
+    accounts
 calls = tt
 
 unfoldable blocks : Unit {0}

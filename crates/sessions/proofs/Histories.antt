@@ -22,7 +22,8 @@ use Rattle.sessions.specs.Sessions.{subscriptions-max, transactions-max,
 use Rattle.sessions.specs.Calls.{left-by, making-answer, made-by, made, shared-by, client-versions, client-heart-beats, opened-by, uses-of}
 use Rattle.sessions.specs.Calls.{id-checks, frame-answer, id-effect, effect, frame-session, heart-beat-answer, heart-beat-session, modes-effect}
 use Rattle.sessions.specs.Calls.{delivery-effect, recorded-by, recording, deliver-answer, deliver-session}
-use Rattle.sessions.specs.Histories.{Call, frame, heart-beat, deliver, answer-to, next, after, same-kind, by-use, told-uses, live-changed, live-by, live-after}
+use Rattle.sessions.specs.Histories.{Call, frame, heart-beat, deliver, answer-to, next, after, same-kind, by-use, told-uses, live-changed}
+use Rattle.sessions.specs.Histories.{live-by, live-after}
 use Rattle.sessions.specs.declared.store.Use.{Use}
 use Rattle.sessions.specs.declared.command.Kind.{Kind}
 use Rattle.sessions.specs.declared.command.Kind.the-variants.{Subscriptions, Transactions}
@@ -76,11 +77,13 @@ module _ (s : Session) (h : Held s) (k : Kind) (id : List ℕ) (some-id : id ≢
       here : (i : Kind) → settle (use-checks id-max u x (ids-of i s)) [] ≡ accepted []
           → live id (ids-of i (with-ids i s (used u x (ids-of i s)))) ≡ cond (same x id) (by-use u (live id (ids-of i s))) (live id (ids-of i s))
       here i e =
-          ap (live id) (ids-with i s (used u x (ids-of i s)) (used-short id-max u x (ids-of i s) (use-short id-max u x (ids-of i s) [] [] e) (held-short s h i)))
+          ap (live id) (ids-with i s (used u x (ids-of i s))
+          (used-short id-max u x (ids-of i s) (use-short id-max u x (ids-of i s) [] [] e) (held-short s h i)))
           ∙ used-live id-max u x (ids-of i s) [] [] e (held-distinct s h i) id some-id
 
       by : (i j : Kind) → settle (use-checks id-max u x (ids-of j s)) [] ≡ accepted []
-          → live id (ids-of i (with-ids j s (used u x (ids-of j s)))) ≡ cond (same-kind i j && same x id) (by-use u (live id (ids-of i s))) (live id (ids-of i s))
+          → live id (ids-of i (with-ids j s (used u x (ids-of j s)))) ≡ cond (same-kind i j && same x id) (by-use u (live id (ids-of i s)))
+          (live id (ids-of i s))
       by Subscriptions Subscriptions e = here Subscriptions e
       by Subscriptions Transactions e = refl
       by Transactions Subscriptions e = refl

@@ -45,7 +45,8 @@ use Rattle.sessions.specs.declared.command.Kind.{Kind}
 use Rattle.sessions.specs.declared.command.Kind.the-variants.{Subscriptions, Transactions}
 use Rattle.sessions.specs.declared.session.Session.{Session}
 use Rattle.sessions.proofs.Checks.{Passes, all-pass, Passed, frame-passed, changed-settles, left-case}
-use Rattle.sessions.proofs.Stores.{length-ids, valid-fits, are-short, ids-short, length-laid, laid-valid, valid-distinct, used-length, used-short, used-distinct, use-short, zeros-valid}
+use Rattle.sessions.proofs.Stores.{length-ids, valid-fits, are-short, ids-short, length-laid, laid-valid, valid-distinct, used-length}
+use Rattle.sessions.proofs.Stores.{used-short, used-distinct, use-short, zeros-valid}
 
 -- ---- a valid record
 
@@ -149,10 +150,14 @@ pub record Held (s : Session) : Type 0 where
 -- its ids
 module _ (s : Session) (h : Held s) where
   pub subscriptions-fit : Fits id-max subscriptions-max (s .subscriptions .ids) (s .subscriptions .lens)
-  subscriptions-fit = valid-fits id-max (s .subscriptions .ids) (s .subscriptions .lens) (h .valid .subscriptions) subscriptions-max (h .sized .subscriptions .lens-long) (h .sized .subscriptions .ids-long)
+  subscriptions-fit =
+      valid-fits id-max (s .subscriptions .ids) (s .subscriptions .lens) (h .valid .subscriptions) subscriptions-max (h .sized .subscriptions .lens-long)
+      (h .sized .subscriptions .ids-long)
 
   transactions-fit : Fits id-max transactions-max (s .transactions .ids) (s .transactions .lens)
-  transactions-fit = valid-fits id-max (s .transactions .ids) (s .transactions .lens) (h .valid .transactions) transactions-max (h .sized .transactions .lens-long) (h .sized .transactions .ids-long)
+  transactions-fit =
+      valid-fits id-max (s .transactions .ids) (s .transactions .lens) (h .valid .transactions) transactions-max (h .sized .transactions .lens-long)
+      (h .sized .transactions .ids-long)
 
   pub held-long : (k : Kind) → length (ids-of k s) ≡ count-of k
   held-long Subscriptions = length-ids id-max (s .subscriptions .ids) (s .subscriptions .lens) ∙ h .sized .subscriptions .lens-long
@@ -241,7 +246,8 @@ module _ (s : Session) (h : Held s) where
         valid = stored (h .valid .subscriptions) (laid-valid id-max is m d);
       }
 
-  pub held-used : (k : Kind) (u : Use) (id : List ℕ) → settle (use-checks id-max u id (ids-of k s)) [] ≡ accepted [] → Held (with-ids k s (used u id (ids-of k s)))
+  pub held-used : (k : Kind) (u : Use) (id : List ℕ) → settle (use-checks id-max u id (ids-of k s)) [] ≡ accepted []
+      → Held (with-ids k s (used u id (ids-of k s)))
   held-used k u id e =
       held-with k (used u id (ids-of k s))
       (used-length u id (ids-of k s) ∙ held-long k)
@@ -291,7 +297,8 @@ module _ (s : Session) (h : Held s) where
   pub held-effect : (n : ℕ) (es : List Entry) → Passed s n es → Held (effect s n es)
   held-effect n es p =
       cond-case Held (opens n)
-      (λ o. held-opened s h (not-false (in-phase fresh-phase s) (sym (ap (λ t. cond t (not (in-phase fresh-phase s)) (not (in-phase open-phase s))) o) ∙ p .in-turn))
+      (λ o. held-opened s h
+      (not-false (in-phase fresh-phase s) (sym (ap (λ t. cond t (not (in-phase fresh-phase s)) (not (in-phase open-phase s))) o) ∙ p .in-turn))
       (shared-by s (client-versions es)) (client-heart-beats es) (of-small (value-of HeartBeat es)))
       (λ o. cond-case Held (is DISCONNECT n) (λ d. held-closed s h) (λ d. held-named n es p))
 

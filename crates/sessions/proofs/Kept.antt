@@ -24,7 +24,7 @@ use Rattle.sessions.proofs.Tables.{transaction-named}
 use Rattle.sessions.specs.Headers.{IdUse, changed-id, value-of, has, is, opens, mode-named, mode-asked, settles, is-some}
 use Rattle.sessions.specs.Deliveries.{individual-mode, auto-mode, label-max, Pending, pending, labelled, is-pending, mode-of, goes-with}
 use Rattle.sessions.specs.Deliveries.{deliveries-of, settled-as, with-mode, dropped, record-label, valid-modes, valid-deliveries, no-deliveries}
-use Rattle.sessions.specs.Sessions.{spoken, id-max, fresh-phase, open-phase, in-phase, fresh, ids-of, with-ids, with-modes, with-deliveries}
+use Rattle.sessions.specs.Sessions.{spoken, id-max, fresh-phase, open-phase, in-phase, fresh, ids-of, with-ids, with-deliveries}
 use Rattle.sessions.specs.Sessions.{no-subscriptions, closed, heard, valid-numbers, valid-ids, right-deliveries, is-valid, Sized, SizedDeliveries}
 use Rattle.sessions.specs.Calls.{out-of-phase, lacks-needed, opening, shared-by, client-versions, client-heart-beats, opened-by, uses-of}
 use Rattle.sessions.specs.Calls.{frame-answer, id-effect, effect, frame-session, heart-beat-answer, heart-beat-session, place-named, free-place}
@@ -38,7 +38,8 @@ use Rattle.sessions.specs.declared.store.Use.the-variants.{Enter, Free}
 use Rattle.sessions.specs.declared.delivery.Deliveries.{Deliveries}
 use Rattle.sessions.specs.declared.parts.SubscriptionStore.{SubscriptionStore}
 use Rattle.sessions.specs.declared.session.Session.{Session}
-use Rattle.sessions.proofs.Checks.{Passed, frame-passed, Delivered, deliver-passed, subscribe-changes, subscribe-settles, unsubscribe-changes, unsubscribe-settles, left-case}
+use Rattle.sessions.proofs.Checks.{Passed, frame-passed, Delivered, deliver-passed, subscribe-changes, subscribe-settles, unsubscribe-changes}
+use Rattle.sessions.proofs.Checks.{unsubscribe-settles, left-case}
 use Rattle.stores.proofs.Searching.{is-some as finds, found-at, any-first, first-at}
 use Rattle.sessions.proofs.Stores.{lengths-ids, lengths-set, use-some, use-live, use-room, zeros-ids}
 use Rattle.sessions.proofs.Pending.{Holds, Proper, holds-none, holds-settled, holds-snoc, holds-dropped, holds-subscribed}
@@ -120,7 +121,8 @@ module _ (s : Session) (kept : Kept s) where
   -- a free place
   pub lens-free : (k : ℕ) → first-from empty 0 (ids-of Subscriptions s) ≡ some k → getD (s .subscriptions .lens) k 0 ≡ 0
   lens-free k e =
-      ap (λ z. getD z k 0) (sym lens-are) ∙ List·getD-map length (ids-of Subscriptions s) k [] ∙ none (getD (ids-of Subscriptions s) k []) (first-passes empty [] k (ids-of Subscriptions s) e .1)
+      ap (λ z. getD z k 0) (sym lens-are) ∙ List·getD-map length (ids-of Subscriptions s) k []
+      ∙ none (getD (ids-of Subscriptions s) k []) (first-passes empty [] k (ids-of Subscriptions s) e .1)
     where
       none : (x : List ℕ) → empty x ≡ true → length x ≡ 0
       none [] h = refl
@@ -152,10 +154,13 @@ module _ (s : Session) (kept : Kept s) where
 
   -- SUBSCRIBE's place, and UNSUBSCRIBE's
   pub enter-place : (id : List ℕ) → settle (use-checks id-max Enter id (ids-of Subscriptions s)) [] ≡ accepted [] → (k : ℕ) × (free-place s ≡ some k)
-  enter-place id e = some-first empty (ids-of Subscriptions s) (not-false (any empty (ids-of Subscriptions s)) (use-room id-max Enter id (ids-of Subscriptions s) [] [] e))
+  enter-place id e =
+      some-first empty (ids-of Subscriptions s) (not-false (any empty (ids-of Subscriptions s)) (use-room id-max Enter id (ids-of Subscriptions s) [] [] e))
 
   pub free-there : (id : List ℕ) → settle (use-checks id-max Free id (ids-of Subscriptions s)) [] ≡ accepted [] → (k : ℕ) × (place-named s (some id) ≡ some k)
-  free-there id e = some-first (λ x. same x id) (ids-of Subscriptions s) (not-false (live id (ids-of Subscriptions s)) (use-live id-max Free id (ids-of Subscriptions s) [] [] e))
+  free-there id e =
+      some-first (λ x. same x id) (ids-of Subscriptions s)
+      (not-false (live id (ids-of Subscriptions s)) (use-live id-max Free id (ids-of Subscriptions s) [] [] e))
 
   -- the modes, and what is left of the deliveries
   abbrev ms : List ℕ
@@ -190,7 +195,8 @@ module _ (s : Session) (kept : Kept s) where
       by (some p) = holds-settled (s .subscriptions .lens) ms (s .deliveries) (kept .holds) (labelled l) (goes-with ms p) .0
 
   -- ids of transactions leave the subscriptions as they are
-  pub other-lens : (n : ℕ) (es : List Entry) → is SUBSCRIBE n ≡ false → is UNSUBSCRIBE n ≡ false → SameSubscriptions (id-effect s (changed-id (uses-of s n es))) s
+  pub other-lens : (n : ℕ) (es : List Entry) → is SUBSCRIBE n ≡ false → is UNSUBSCRIBE n ≡ false
+      → SameSubscriptions (id-effect s (changed-id (uses-of s n es))) s
   other-lens n es a b = by (changed-id (uses-of s n es)) (λ u e. transaction-named (spoken s) n es u a b e)
     where
       of : (k : Kind) (u : IdUse) → k ≡ Transactions → SameSubscriptions (with-ids k s (used (u .usage) (u .id) (ids-of k s))) s
@@ -276,7 +282,8 @@ module _ (s : Session) (kept : Kept s) where
 
     pub deliver-place : (k : ℕ) × (place-named s (some id) ≡ some k)
     deliver-place =
-        some-first (λ x. same x id) (ids-of Subscriptions s) (not-false (live id (ids-of Subscriptions s)) (or-false-right (empty id) (not (live id (ids-of Subscriptions s))) (passed .subscribed)))
+        some-first (λ x. same x id) (ids-of Subscriptions s)
+        (not-false (live id (ids-of Subscriptions s)) (or-false-right (empty id) (not (live id (ids-of Subscriptions s))) (passed .subscribed)))
 
     good-label : bad-length label-max label ≡ false
     good-label = or-false-left (bad-length label-max label) (is-pending label (s .deliveries)) (passed .new-label)
@@ -287,7 +294,8 @@ module _ (s : Session) (kept : Kept s) where
 
       there : getD (s .subscriptions .lens) k 0 ≢ 0
       there z =
-          let long : length id ≡ 0 = ap length (sym deliver-at) ∙ sym (List·getD-map length (ids-of Subscriptions s) k []) ∙ ap (λ z. getD z k 0) lens-are ∙ z in
+          let long : length id ≡ 0 = ap length (sym deliver-at) ∙ sym (List·getD-map length (ids-of Subscriptions s) k []) ∙ ap (λ z. getD z k 0) lens-are
+          ∙ z in
           true≢false (sym (empty-zero id long) ∙ deliver-id)
 
       module _ (a : eqb (mode-of ms k) auto-mode ≡ false) where
@@ -299,7 +307,8 @@ module _ (s : Session) (kept : Kept s) where
         sound : Proper (s .subscriptions .lens) ms (record { place = k; label = label })
         sound =
             record {
-              short = le-leb (length label) label-max (ltb-false label-max (length label) (or-false-right (empty label) (ltb label-max (length label)) good-label));
+              short =
+                  le-leb (length label) label-max (ltb-false label-max (length label) (or-false-right (empty label) (ltb label-max (length label)) good-label));
               there = ap not (sym (empty-eqb label) ∙ or-false-left (empty label) (ltb label-max (length label)) good-label);
               acks = ap₂ (λ x y. not x && not y) (ne-eqb (getD (s .subscriptions .lens) k 0) 0 there) a;
             }
@@ -381,7 +390,9 @@ kept-made sends wants offered =
       ids = held-made sends wants offered;
       holds = subst (λ (z : SubscriptionStore). Holds (z .lens) (z .modes) (made sends wants offered .deliveries)) (sym t)
           (subst (Holds (no-subscriptions .lens) (no-subscriptions .modes)) (sym d) (holds-none (no-subscriptions .lens) (no-subscriptions .modes) refl .0));
-      only-open = ap (λ (z : Deliveries). in-phase open-phase (made sends wants offered) || eqb (z .count) 0) d ∙ or-yes (in-phase open-phase (made sends wants offered));
+      only-open =
+          ap (λ (z : Deliveries). in-phase open-phase (made sends wants offered) || eqb (z .count) 0) d
+          ∙ or-yes (in-phase open-phase (made sends wants offered));
     }
 
 -- a valid session stays valid

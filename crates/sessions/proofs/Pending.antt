@@ -1,13 +1,13 @@
 -- Pending deliveries as a list and laid out. Assumes nothing.
 --     pending-with                 deliveries laid out are those that the record holds
 use mathlib.Core.Path.{_≡_, refl, sym, ap, ap₂, _∙_}
-use mathlib.Core.Bool.{Bool, true, false, cond, _&&_, _||_, not, true≢false}
+use mathlib.Core.Bool.{Bool, true, false, _&&_, _||_, not, true≢false}
 use mathlib.Core.Option.{some}
 use mathlib.Core.List.{List, [], _∷_, _++_, map}
 use Prim.Native.Nat.{ℕ, zero, suc, _+_, _-_, _*_, _≤_, _<_}
 use native.Mathlib.Omega.{arith}
 use lib.Dec.{eqb, leb}
-use lib.ListN.{length, take, drop, getD, set, replicate, length-append, length-map, length-replicate, length-set}
+use lib.ListN.{length, take, drop, getD, set, replicate, length-append, length-map, length-replicate}
 use lib.Seq.{take-at, drop-at, length-take-le, getD-set-other}
 use borrow.Author.Tests.{leb-true, le-leb, not-true, eqb-false, ne-eqb}
 use Rattle.headers.specs.Rows.{every, any, empty, same, All}
@@ -80,7 +80,9 @@ module _ (ps : List Pending) (few : length ps ≤ 64) (short : are-short label-m
     where
       by : (xs : List (List ℕ)) → every (λ (x : List ℕ). not (eqb (length x) 0)) xs ≡ true → every (λ l. not (eqb l 0)) (lengths xs) ≡ true
       by [] h = refl
-      by (x ∷ xs) h = ap₂ (_&&_) (and-left (not (eqb (length x) 0)) (every (λ (y : List ℕ). not (eqb (length y) 0)) xs) h) (by xs (and-right (not (eqb (length x) 0)) (every (λ (y : List ℕ). not (eqb (length y) 0)) xs) h))
+      by (x ∷ xs) h =
+          ap₂ (_&&_) (and-left (not (eqb (length x) 0)) (every (λ (y : List ℕ). not (eqb (length y) 0)) xs) h)
+          (by xs (and-right (not (eqb (length x) 0)) (every (λ (y : List ℕ). not (eqb (length y) 0)) xs) h))
 
   -- such a record is valid where its labels are there and distinct, and each is of a subscription that acknowledges
   pub valid-with : (lens ms : List ℕ) → every (λ (x : List ℕ). not (eqb (length x) 0)) (labels-of ps) ≡ true → distinct (labels-of ps) ≡ true
@@ -143,7 +145,8 @@ distinct-apart : (ps : List Pending) → All (λ p. not (eqb (length (p .label))
 unfolding distinct
 distinct-apart [] a h = tt
 distinct-apart (p ∷ ps) (a, more) h =
-    let first : empty (p .label) || not (live (p .label) (labels-of ps)) ≡ true = and-left (empty (p .label) || not (live (p .label) (labels-of ps))) (distinct (labels-of ps)) h in (
+    let first : empty (p .label) || not (live (p .label) (labels-of ps)) ≡ true = and-left (empty (p .label) || not (live (p .label) (labels-of ps)))
+    (distinct (labels-of ps)) h in (
       sym (any-map (λ x. same x (p .label)) (λ (q : Pending). q .label) ps)
           ∙ not-true (live (p .label) (labels-of ps)) (sym (ap (_|| not (live (p .label) (labels-of ps))) (some-label (p .label) a)) ∙ first),
       distinct-apart ps more (and-right (empty (p .label) || not (live (p .label) (labels-of ps))) (distinct (labels-of ps)) h),
@@ -153,7 +156,8 @@ apart-distinct : (ps : List Pending) → Apart ps → distinct (labels-of ps) �
 unfolding distinct
 apart-distinct [] a = refl
 apart-distinct (p ∷ ps) (a, more) =
-    ap₂ (_&&_) (ap (λ t. empty (p .label) || not t) (any-map (λ x. same x (p .label)) (λ (q : Pending). q .label) ps ∙ a) ∙ or-yes (empty (p .label))) (apart-distinct ps more)
+    ap₂ (_&&_) (ap (λ t. empty (p .label) || not t) (any-map (λ x. same x (p .label)) (λ (q : Pending). q .label) ps ∙ a) ∙ or-yes (empty (p .label)))
+    (apart-distinct ps more)
 
 -- deliveries that are good, laid out, are valid
 module _ (lens ms : List ℕ) (ps : List Pending) (g : Good lens ms ps) where
@@ -223,7 +227,8 @@ module _ (lens ms : List ℕ) (d : Deliveries) (sized : SizedDeliveries d) (vali
   alike-long : length (take (d .count) (d .places)) ≡ length (ids label-max (take (d .count * label-max) (d .labels)) (take (d .count) (d .lens)))
   alike-long =
       length-take-le (d .count) (d .places) (omega (arith, held-few, sized .places-long))
-      ∙ sym (length-ids label-max (take (d .count * label-max) (d .labels)) (take (d .count) (d .lens)) ∙ length-take-le (d .count) (d .lens) (omega (arith, held-few, sized .lens-long)))
+      ∙ sym (length-ids label-max (take (d .count * label-max) (d .labels)) (take (d .count) (d .lens))
+      ∙ length-take-le (d .count) (d .lens) (omega (arith, held-few, sized .lens-long)))
 
   pub held-places : places-of (pending d) ≡ take (d .count) (d .places)
   held-places = places-paired (take (d .count) (d .places)) _ alike-long
@@ -232,18 +237,23 @@ module _ (lens ms : List ℕ) (d : Deliveries) (sized : SizedDeliveries d) (vali
   held-labels = labels-paired (take (d .count) (d .places)) _ alike-long
 
   pub held-count : length (pending d) ≡ d .count
-  held-count = sym (length-map (pending d) (λ (p : Pending). p .place)) ∙ ap length held-places ∙ length-take-le (d .count) (d .places) (omega (arith, held-few, sized .places-long))
+  held-count =
+      sym (length-map (pending d) (λ (p : Pending). p .place)) ∙ ap length held-places
+      ∙ length-take-le (d .count) (d .places) (omega (arith, held-few, sized .places-long))
 
   there-all : All (λ (p : Pending). not (eqb (length (p .label)) 0) ≡ true) (pending d)
   there-all =
       every-all (λ (p : Pending). not (eqb (length (p .label)) 0)) (pending d)
-      (sym (every-map (λ l. not (eqb l 0)) length (labels-of (pending d)) ∙ every-map (λ (x : List ℕ). not (eqb (length x) 0)) (λ (p : Pending). p .label) (pending d))
-      ∙ ap (λ z. every (λ l. not (eqb l 0)) (lengths z)) held-labels ∙ ap (every (λ l. not (eqb l 0))) (lengths-ids label-max (d .count) _ _ front-fits) ∙ lens-there)
+      (sym (every-map (λ l. not (eqb l 0)) length (labels-of (pending d))
+      ∙ every-map (λ (x : List ℕ). not (eqb (length x) 0)) (λ (p : Pending). p .label) (pending d))
+      ∙ ap (λ z. every (λ l. not (eqb l 0)) (lengths z)) held-labels ∙ ap (every (λ l. not (eqb l 0))) (lengths-ids label-max (d .count) _ _ front-fits)
+      ∙ lens-there)
 
   short-all : All (λ (p : Pending). leb (length (p .label)) label-max ≡ true) (pending d)
   short-all =
       every-all (λ (p : Pending). leb (length (p .label)) label-max) (pending d)
-      (sym (every-map (λ (x : List ℕ). leb (length x) label-max) (λ (p : Pending). p .label) (pending d)) ∙ ap (are-short label-max) held-labels ∙ ids-short label-max (d .count) _ _ front-fits)
+      (sym (every-map (λ (x : List ℕ). leb (length x) label-max) (λ (p : Pending). p .label) (pending d)) ∙ ap (are-short label-max) held-labels
+      ∙ ids-short label-max (d .count) _ _ front-fits)
 
   acks-all : All (λ (p : Pending). acknowledging lens ms (p .place) ≡ true) (pending d)
   acks-all =
@@ -338,7 +348,8 @@ module _ (f : Pending → Bool) where
 module _ (f g : Pending → Bool) where
   all-settled : (P : Pending → Type 0) (ps : List Pending) → All P ps → All P (settled f g ps)
   all-settled P [] h = tt
-  all-settled P (p ∷ ps) (h, more) = cond-case (All P) (f p) (λ e. more) (λ e. cond-case (All P) (g p) (λ e. all-settled P ps more) (λ e. (h, all-settled P ps more)))
+  all-settled P (p ∷ ps) (h, more) =
+      cond-case (All P) (f p) (λ e. more) (λ e. cond-case (All P) (g p) (λ e. all-settled P ps more) (λ e. (h, all-settled P ps more)))
 
   any-settled : (t : Pending → Bool) (ps : List Pending) → any t ps ≡ false → any t (settled f g ps) ≡ false
   any-settled t [] h = refl
@@ -350,7 +361,8 @@ module _ (f g : Pending → Bool) where
   apart-settled : (ps : List Pending) → Apart ps → Apart (settled f g ps)
   apart-settled [] a = tt
   apart-settled (p ∷ ps) (a, more) =
-      cond-case Apart (f p) (λ e. more) (λ e. cond-case Apart (g p) (λ e. apart-settled ps more) (λ e. (any-settled (labelled (p .label)) ps a, apart-settled ps more)))
+      cond-case Apart (f p) (λ e. more)
+      (λ e. cond-case Apart (g p) (λ e. apart-settled ps more) (λ e. (any-settled (labelled (p .label)) ps a, apart-settled ps more)))
 
   few-settled : (ps : List Pending) → length (settled f g ps) ≤ length ps
   few-settled [] = omega arith
@@ -380,7 +392,8 @@ apart-snoc (q ∷ ps) p (a, more) h = (
   apart-snoc ps p more (or-false-right (labelled (p .label) q) (any (labelled (p .label)) ps) h),
 )
 
-pub good-snoc : (lens ms : List ℕ) (ps : List Pending) (p : Pending) → Good lens ms ps → length ps < 64 → Proper lens ms p → any (labelled (p .label)) ps ≡ false
+pub good-snoc : (lens ms : List ℕ) (ps : List Pending) (p : Pending) → Good lens ms ps → length ps < 64 → Proper lens ms p
+    → any (labelled (p .label)) ps ≡ false
     → Good lens ms (ps ++ (p ∷ []))
 good-snoc lens ms ps p g room s new =
     record { few = omega (arith, length-append ps (p ∷ []), room); each = all-snoc (Proper lens ms) ps p (g .each) s; apart = apart-snoc ps p (g .apart) new }
@@ -407,12 +420,15 @@ good-elsewhere lens ms k l m ps e g = record { few = g .few; each = by ps e (g .
 
 -- a free place has none
 pub free-elsewhere : (lens ms : List ℕ) (k : ℕ) (ps : List Pending) → getD lens k 0 ≡ 0 → All (Proper lens ms) ps → All (Elsewhere k) ps
-free-elsewhere lens ms k ps free = all-with (λ p s e. true≢false (sym (s .acks) ∙ ap (λ z. not (eqb z 0) && not (eqb (getD ms (p .place) auto-mode) auto-mode)) (ap (λ z. getD lens z 0) e ∙ free))) ps
+free-elsewhere lens ms k ps free =
+    all-with (λ p s e. true≢false (sym (s .acks)
+    ∙ ap (λ z. not (eqb z 0) && not (eqb (getD ms (p .place) auto-mode) auto-mode)) (ap (λ z. getD lens z 0) e ∙ free))) ps
 
 known-set : (ms : List ℕ) (k m : ℕ) → known-modes ms ≡ true → leb m individual-mode ≡ true → known-modes (set ms k m) ≡ true
 known-set [] k m h e = refl
 known-set (x ∷ ms) zero m h e = ap₂ (_&&_) e (and-right (leb x individual-mode) (known-modes ms) h)
-known-set (x ∷ ms) (suc k) m h e = ap₂ (_&&_) (and-left (leb x individual-mode) (known-modes ms) h) (known-set ms k m (and-right (leb x individual-mode) (known-modes ms) h) e)
+known-set (x ∷ ms) (suc k) m h e =
+    ap₂ (_&&_) (and-left (leb x individual-mode) (known-modes ms) h) (known-set ms k m (and-right (leb x individual-mode) (known-modes ms) h) e)
 
 idle-set : (lens ms : List ℕ) (k l m : ℕ) → idle-modes lens ms ≡ true → not (eqb l 0) || eqb m auto-mode ≡ true → idle-modes (set lens k l) (set ms k m) ≡ true
 idle-set [] ms k l m h e = refl
@@ -423,7 +439,8 @@ idle-set (x ∷ lens) [] k l m h e = by k
     by (suc j) = refl
 idle-set (x ∷ lens) (y ∷ ms) zero l m h e = ap₂ (_&&_) e (and-right (not (eqb x 0) || eqb y auto-mode) (idle-modes lens ms) h)
 idle-set (x ∷ lens) (y ∷ ms) (suc k) l m h e =
-    ap₂ (_&&_) (and-left (not (eqb x 0) || eqb y auto-mode) (idle-modes lens ms) h) (idle-set lens ms k l m (and-right (not (eqb x 0) || eqb y auto-mode) (idle-modes lens ms) h) e)
+    ap₂ (_&&_) (and-left (not (eqb x 0) || eqb y auto-mode) (idle-modes lens ms) h)
+    (idle-set lens ms k l m (and-right (not (eqb x 0) || eqb y auto-mode) (idle-modes lens ms) h) e)
 
 -- ---- the modes and the deliveries of a session that is kept valid, over the lengths of its subscriptions' ids
 
@@ -471,7 +488,8 @@ module _ (lens ms : List ℕ) (d : Deliveries) (h : Holds lens ms d) where
 
   -- UNSUBSCRIBE
   pub holds-dropped : (k : ℕ)
-      → Holds (set lens k 0) (set ms k auto-mode) (dropped (some k) d) × (pending (dropped (some k) d) ≡ without (λ (p : Pending). eqb (p .place) k) (pending d))
+      → Holds (set lens k 0) (set ms k auto-mode) (dropped (some k) d)
+      × (pending (dropped (some k) d) ≡ without (λ (p : Pending). eqb (p .place) k) (pending d))
   holds-dropped k =
       let left = without (λ (p : Pending). eqb (p .place) k) (pending d) in
       holds-of (set lens k 0) (set ms k auto-mode) left (set-valid k 0 auto-mode refl refl)

@@ -60,15 +60,18 @@ module _ {acceptance : Acceptance} {before after : Session} {r : Outcome} where
   gives-on c cs h g = record { answered = rw h (g .answered); left = rw h (g .left) }
 
   -- other checks that settle on the same answer
-  pub gives-alike : (cs ds : List Check) → settle cs (acceptance-says acceptance) ≡ settle ds (acceptance-says acceptance) → Gives cs acceptance before after r → Gives ds acceptance before after r
+  pub gives-alike : (cs ds : List Check) → settle cs (acceptance-says acceptance) ≡ settle ds (acceptance-says acceptance) → Gives cs acceptance before after r
+      → Gives ds acceptance before after r
   gives-alike cs ds e g = record { answered = rw (← e) (g .answered); left = rw (← e) (g .left) }
 
   -- by the answer that the checks settle on
-  pub gives-refused : (cs : List Check) (k : ℕ) → settle cs (acceptance-says acceptance) ≡ refused k → keeps k ≡ false → r ≡ closed-by before k → Gives cs acceptance before after r
+  pub gives-refused : (cs : List Check) (k : ℕ) → settle cs (acceptance-says acceptance) ≡ refused k → keeps k ≡ false → r ≡ closed-by before k
+      → Gives cs acceptance before after r
   gives-refused cs k h n e = record { answered = rw (h, e) refl; left = rw (h, e, n) refl }
 
 -- accepted, and heard from
-pub gives-accepted : (cs : List Check) (acceptance : Acceptance) (before after : Session) (time : ℕ) (r : Outcome) → settle cs (acceptance-says acceptance) ≡ accepted (acceptance-says acceptance)
+pub gives-accepted : (cs : List Check) (acceptance : Acceptance) (before after : Session) (time : ℕ) (r : Outcome)
+    → settle cs (acceptance-says acceptance) ≡ accepted (acceptance-says acceptance)
     → r ≡ accepted-by after acceptance time → Gives cs acceptance before (heard after time) r
 gives-accepted cs acceptance before after time r h e = record { answered = rw (h, e) refl; left = rw (h, e) refl }
 
@@ -92,7 +95,8 @@ settle-closes (c ∷ cs) v k h e = by (c .fails) (settle-closes cs v k (and-righ
     flipped false q = refl
 
     by : (t : Bool) → (settle cs v ≡ refused k → keeps k ≡ false) → cond t (refused (c .number)) (settle cs v) ≡ refused k → keeps k ≡ false
-    by true more e = let n : c .number ≡ k = cc in rw (← n) (flipped (keeps (c .number)) (and-left (not (keeps (c .number))) (every (λ d. not (keeps (d .number))) cs) h))
+    by true more e =
+        let n : c .number ≡ k = cc in rw (← n) (flipped (keeps (c .number)) (and-left (not (keeps (c .number))) (every (λ d. not (keeps (d .number))) cs) h))
     by false more e = more e
 
 -- ---- 40, 41 and 42, by the number that they come to
@@ -101,13 +105,15 @@ abbrev three : Bool → Bool → Bool → List Check → List Check
 three a b c cs = record { fails = a; number = 40 } ∷ record { fails = b; number = 41 } ∷ record { fails = c; number = 42 } ∷ cs
 
 module _ {acceptance : Acceptance} {before after : Session} {r : Outcome} (k : ℕ) (cs : List Check) where
-  pub phase-refuses : (a b c : Bool) → k ≡ cond a 40 (cond b 41 (cond c 42 0)) → (k ≡ 0 → ⊥) → r ≡ closed-by before k → Gives (three a b c cs) acceptance before after r
+  pub phase-refuses : (a b c : Bool) → k ≡ cond a 40 (cond b 41 (cond c 42 0)) → (k ≡ 0 → ⊥) → r ≡ closed-by before k
+      → Gives (three a b c cs) acceptance before after r
   phase-refuses true b c e n q = gives-closed true 40 _ refl refl (q ∙ ap (closed-by before) e)
   phase-refuses false true c e n q = gives-on _ _ refl (gives-closed true 41 _ refl refl (q ∙ ap (closed-by before) e))
   phase-refuses false false true e n q = gives-on _ _ refl (gives-on _ _ refl (gives-closed true 42 _ refl refl (q ∙ ap (closed-by before) e)))
   phase-refuses false false false e n q = absurd (n e)
 
-  pub phase-passes : (a b c : Bool) → k ≡ cond a 40 (cond b 41 (cond c 42 0)) → k ≡ 0 → Gives cs acceptance before after r → Gives (three a b c cs) acceptance before after r
+  pub phase-passes : (a b c : Bool) → k ≡ cond a 40 (cond b 41 (cond c 42 0)) → k ≡ 0 → Gives cs acceptance before after r
+      → Gives (three a b c cs) acceptance before after r
   phase-passes true b c e n g = absurd (omega (arith, e, n))
   phase-passes false true c e n g = absurd (omega (arith, e, n))
   phase-passes false false true e n g = absurd (omega (arith, e, n))
@@ -117,7 +123,8 @@ module _ {acceptance : Acceptance} {before after : Session} {r : Outcome} (k : �
 
 module _ (s : Session) (n : ℕ) (es : List Entry) (time : ℕ) (r : Outcome) where
   -- the opening frame: no id is named, and no receipt is owed
-  opening-is : (n ≡ number CONNECT) ⊎ (n ≡ number STOMP) → lacks-needed s n es ≡ false → GivesOpening s es (acceptance-of n es) time r → GivesEntries s n es time r
+  opening-is : (n ≡ number CONNECT) ⊎ (n ≡ number STOMP) → lacks-needed s n es ≡ false → GivesOpening s es (acceptance-of n es) time r
+      → GivesEntries s n es time r
   opening-is q h g = ⊎-elim (λ (e : n ≡ number CONNECT). rw e (gives-on _ _ (rw e at h) (gives-alike (opening-only s es) _ refl (rw e at g))))
       (λ (e : n ≡ number STOMP). rw e (gives-on _ _ (rw e at h) (gives-alike (opening-only s es) _ refl (rw e at g)))) q
 
@@ -139,7 +146,8 @@ module _ (s : Session) (n : ℕ) (es : List Entry) (time : ℕ) (r : Outcome) wh
         rw e (gives-accepted _ (acceptance-of (number DISCONNECT) es) s (closed s) time r refl (rw e at q′))
 
     -- any other frame
-    pub entries-naming : lacks-needed s n es ≡ false → opens n ≡ false → is DISCONNECT n ≡ false → GivesDelivery s n es acceptance time r → GivesEntries s n es time r
+    pub entries-naming : lacks-needed s n es ≡ false → opens n ≡ false → is DISCONNECT n ≡ false → GivesDelivery s n es acceptance time r
+        → GivesEntries s n es time r
     entries-naming h o d g =
         let same-effect : effect s n es ≡ named-effect s n es = rw (o, d) in
         let g′ : GivesDelivery s n es (acceptance-of n es) time r = subst (λ a. GivesDelivery s n es a time r) same g in
@@ -207,7 +215,8 @@ module _ (cs ds : List Check) (acceptance : Acceptance) (before after : Session)
       by (SessionAnswer.Accepted a) (accepted v) e f h =
           let q : accepted (acceptance-says a) ≡ accepted v = sym (ap answer-says e) ∙ g .answered ∙ f in
           let same : acceptance-says a ≡ says = (let w : acceptance-says a ≡ v = cc in w) ∙ settle-values cs says v f in
-          let whole : settle (cs ++ ds) says ≡ settle ds (acceptance-says a) = settle-append cs ds says ∙ ap (λ A. then A (settle ds says)) f ∙ ap (settle ds) (sym same) in
+          let whole : settle (cs ++ ds) says ≡ settle ds (acceptance-says a) = settle-append cs ds says ∙ ap (λ A. then A (settle ds says)) f
+          ∙ ap (settle ds) (sym same) in
           let there : named .session ≡ after = g .left ∙ ap (λ A. left-by A before after) f in
           record {
             answered = h .answered ∙ sym whole;
@@ -219,7 +228,8 @@ module _ (checks : List Check) (before : Session) (ms : List ℕ) (d : Deliverie
   pub then-refused : (k : ℕ) → named .answer ≡ SessionAnswer.Refused k → r ≡ named → GivesThen checks before ms d named r
   then-refused k e q = subst (λ x. after-answer x checks before ms d named r) (sym e) q
 
-  pub then-closed : (k : ℕ) → settle checks [] ≡ refused k → keeps k ≡ false → (a : Acceptance) → named .answer ≡ SessionAnswer.Accepted a → r ≡ closed-by before k
+  pub then-closed : (k : ℕ) → settle checks [] ≡ refused k → keeps k ≡ false → (a : Acceptance) → named .answer ≡ SessionAnswer.Accepted a
+      → r ≡ closed-by before k
       → GivesThen checks before ms d named r
   then-closed k h n a e q =
       subst (λ x. after-answer x checks before ms d named r) (sym e)
@@ -354,12 +364,14 @@ module _ (s : Session) (n : ℕ) (es : List Entry) (acceptance : Acceptance) (ti
         then-own [] v = refl
         then-own (c ∷ cs) v = pass (c .fails) (then-own cs v)
           where
-            pass : (t : Bool) → then (settle cs v) (accepted v) ≡ settle cs v → then (cond t (refused (c .number)) (settle cs v)) (accepted v) ≡ cond t (refused (c .number)) (settle cs v)
+            pass : (t : Bool) → then (settle cs v) (accepted v) ≡ settle cs v
+                → then (cond t (refused (c .number)) (settle cs v)) (accepted v) ≡ cond t (refused (c .number)) (settle cs v)
             pass true e = refl
             pass false e = e
 
 -- where the id was settled the modes and the deliveries are those that were
-pub uses-untouched : (s : Session) (us : List IdUse) (acceptance : Acceptance) (time : ℕ) (named : Outcome) → GivesUses s us acceptance time named → Untouched s named
+pub uses-untouched : (s : Session) (us : List IdUse) (acceptance : Acceptance) (time : ℕ) (named : Outcome) → GivesUses s us acceptance time named
+    → Untouched s named
 uses-untouched s us acceptance time named g = by (named .answer) (settle (id-checks s us) (acceptance-says acceptance)) refl refl
   where
     kept : (o : Option IdUse) → Unchanged s (heard (id-effect s o) time)
@@ -396,7 +408,8 @@ module _ (s : Session) (n : ℕ) (es : List Entry) (there : lacks-needed s n es 
 -- ---- a delivery that is recorded
 
 module _ {before after : Session} {r : Recording} where
-  pub records-refused : (fails : Bool) (k : ℕ) (cs : List Check) → fails ≡ true → r ≡ unrecorded-by before k → Records (record { fails = fails; number = k } ∷ cs) before after r
+  pub records-refused : (fails : Bool) (k : ℕ) (cs : List Check) → fails ≡ true → r ≡ unrecorded-by before k
+      → Records (record { fails = fails; number = k } ∷ cs) before after r
   records-refused fails k cs h e = record { answered = rw (h, e) refl; left = rw (h, e) refl }
 
   pub records-on : (c : Check) (cs : List Check) → c .fails ≡ false → Records cs before after r → Records (c ∷ cs) before after r
@@ -413,7 +426,8 @@ pub frame-gives : (s : Session) (n : ℕ) (block : List ℕ) (time : ℕ) (r : O
 unfolding frame-answer frame-session
 frame-gives s n block time r g = (g .answered, g .left)
 
-pub heart-beat-gives : (s : Session) (time : ℕ) (r : Outcome) → Gives (heart-beat-checks s) no-receipt s (heard s time) r → (answer-says (r .answer) ≡ heart-beat-answer s) × (r .session ≡ heart-beat-session s time)
+pub heart-beat-gives : (s : Session) (time : ℕ) (r : Outcome) → Gives (heart-beat-checks s) no-receipt s (heard s time) r
+    → (answer-says (r .answer) ≡ heart-beat-answer s) × (r .session ≡ heart-beat-session s time)
 unfolding heart-beat-answer heart-beat-session
 heart-beat-gives s time r g = (g .answered, g .left)
 

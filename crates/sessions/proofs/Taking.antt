@@ -2,11 +2,11 @@
 --     kept-labels, kept-lens, kept-places      the rows that stay are the layout of the deliveries that stay
 --     without-laid, entered-laid               what the code builds is the record with those deliveries
 use mathlib.Core.Path.{_≡_, refl, sym, ap, ap₂, _∙_}
-use mathlib.Core.Bool.{Bool, true, false, cond, _&&_, _||_, not}
+use mathlib.Core.Bool.{Bool, true, false, cond, _||_, not}
 use mathlib.Core.Option.{some}
 use mathlib.Core.List.{List, [], _∷_, _++_, map, append-assoc, append-nil}
 use Prim.Native.Nat.{ℕ, suc, _+_, _-_, _*_, _≤_, _<_}
-use native.Mathlib.Nat.{suc-mul, mul-one, sub-zero}
+use native.Mathlib.Nat.{mul-one, sub-zero}
 use native.Mathlib.Omega.{arith}
 use lib.Dec.{eqb, leb, ltb}
 use borrow.Author.Tests.{eq-eqb, le-leb, lt-leb, lt-ltb, le-ltb}
@@ -14,14 +14,14 @@ use lib.ListN.{length, take, drop, getD, set, replicate, length-append, length-m
 use lib.Seq.{length-take-le, drop-drop, set-at}
 use Rattle.headers.specs.Rows.{first-of}
 use Rattle.headers.specs.Answers.{Puts}
-use Rattle.headers.proofs.Rows.{cond-case, and-left, and-right, every-drop, every-replicate, or-yes}
+use Rattle.headers.proofs.Rows.{and-left, and-right, every-drop, every-replicate, or-yes}
 use Rattle.stores.specs.Places.{padded, is-zero}
 use Rattle.stores.specs.Searches.{first-from}
 use Rattle.sessions.specs.Stores.{ids, laid, lengths, clean}
 use Rattle.sessions.specs.Places.{Fits, put-in}
 use Rattle.stores.specs.Compaction.{rows, joined, stays-at, kept, kept-octets, kept-in, Compacts}
 use Rattle.sessions.specs.Sessions.{SizedDeliveries}
-use Rattle.sessions.specs.Deliveries.{label-max, Pending, paired, pending, labels-of, places-of, filled, deliveries-of, labelled, without, settled, Laid}
+use Rattle.sessions.specs.Deliveries.{label-max, Pending, pending, labels-of, places-of, filled, deliveries-of, labelled, without, settled, Laid}
 use Rattle.stores.specs.declared.compaction.Range.{Range}
 use Rattle.sessions.specs.declared.delivery.Deliveries.{Deliveries}
 use Rattle.stores.proofs.Filling.{padded-take, zeros, padded-long}
@@ -39,7 +39,8 @@ kept-map f g i [] xs = refl
 kept-map f g i (p ∷ ps) [] = refl
 kept-map f g i (p ∷ ps) (x ∷ xs) = by (stays-at g i p) (kept-map f g (suc i) ps xs)
   where
-    by : (t : Bool) → kept g (suc i) ps (map f xs) ≡ map f (kept g (suc i) ps xs) → cond t (f x ∷ kept g (suc i) ps (map f xs)) (kept g (suc i) ps (map f xs)) ≡ map f (cond t (x ∷ kept g (suc i) ps xs) (kept g (suc i) ps xs))
+    by : (t : Bool) → kept g (suc i) ps (map f xs) ≡ map f (kept g (suc i) ps xs)
+        → cond t (f x ∷ kept g (suc i) ps (map f xs)) (kept g (suc i) ps (map f xs)) ≡ map f (cond t (x ∷ kept g (suc i) ps xs) (kept g (suc i) ps xs))
     by true go = ap (f x ∷_) go
     by false go = go
 
@@ -87,7 +88,8 @@ tail-zero k w n xs long h =
     ∙ ap (λ m. replicate m 0) (length-drop (k + w) xs ∙ ap (_- (k + w)) long)
 
 -- an element set where all from there on is 0
-set-behind : (n k : ℕ) (xs front : List ℕ) (x : ℕ) → length xs ≡ n → k < n → take k xs ≡ front → is-zero (drop k xs) ≡ true → set xs k x ≡ filled n (front ++ (x ∷ []))
+set-behind : (n k : ℕ) (xs front : List ℕ) (x : ℕ) → length xs ≡ n → k < n → take k xs ≡ front → is-zero (drop k xs) ≡ true
+    → set xs k x ≡ filled n (front ++ (x ∷ []))
 set-behind n k xs front x long less is h =
     let front-long : length front ≡ k = ap length (sym is) ∙ length-take-le k xs (omega (arith, long, less)) in
     let whole : xs ≡ front ++ (getD xs k 0 ∷ drop (k + 1) xs) = sym (take-append-drop k xs) ∙ ap₂ (_++_) is (drop-one xs k 0 (omega (arith, long, less))) in
@@ -145,7 +147,8 @@ module _ (d : Deliveries) (sized : SizedDeliveries d) (l : Laid d) where
       ap (λ z. joined (kept g 0 places z)) (rows-single lens places (lens-count ∙ sym places-count))
       ∙ ap joined (kept-map (λ x. x ∷ []) g 0 places lens) ∙ joined-single (kept g 0 places lens)
       ∙ ap₂ (kept g 0) (sym places-are) (sym (ap lengths labels-are ∙ lengths-ids label-max (d .count) store lens fits))
-      ∙ kept-map length g 0 (places-of (pending d)) (labels-of (pending d)) ∙ ap lengths (kept-map (λ (p : Pending). p .label) g 0 (places-of (pending d)) (pending d))
+      ∙ kept-map length g 0 (places-of (pending d)) (labels-of (pending d))
+      ∙ ap lengths (kept-map (λ (p : Pending). p .label) g 0 (places-of (pending d)) (pending d))
 
   pub kept-places : (g : Range) → kept-octets g 1 0 places places ≡ places-of (staying g)
   kept-places g =
@@ -161,20 +164,30 @@ module _ (d : Deliveries) (sized : SizedDeliveries d) (l : Laid d) where
       dropped n k = zeros (drop k (replicate n 0)) (every-drop (λ x. eqb x 0) k (replicate n 0) (every-replicate (λ x. eqb x 0) n 0 refl))
           ∙ ap (λ m. replicate m 0) (length-drop k (replicate n 0) ∙ ap (_- k) (length-replicate {A = ℕ} n 0))
 
-  pub without-laid : (g : Range) (a b c : List ℕ) (i j r m : ℕ) → Puts (kept-octets g 32 0 store places) i (replicate 2048 0) a → Puts (kept-octets g 1 0 lens places) j (replicate 64 0) b
-      → Puts (kept-octets g 1 0 places places) r (replicate 64 0) c → length (kept-octets g 32 0 store places) ≤ 2048 → length (kept-octets g 1 0 lens places) ≤ 64 → length (kept-octets g 1 0 places places) ≤ 64
+  pub without-laid : (g : Range) (a b c : List ℕ) (i j r m : ℕ) → Puts (kept-octets g 32 0 store places) i (replicate 2048 0) a
+      → Puts (kept-octets g 1 0 lens places) j (replicate 64 0) b
+      → Puts (kept-octets g 1 0 places places) r (replicate 64 0) c → length (kept-octets g 32 0 store places) ≤ 2048
+      → length (kept-octets g 1 0 lens places) ≤ 64 → length (kept-octets g 1 0 places places) ≤ 64
       → m ≡ r → record { labels = a; lens = b; places = c; count = m } ≡ deliveries-of (staying g)
   unfolding deliveries-of
   without-laid g a b c i j r m pa pb pc la lb lc e =
-      let x : a ≡ filled 2048 (laid label-max (labels-of (staying g))) = filled-put 2048 i (kept-octets g 32 0 store places) a pa la ∙ ap (filled 2048) (kept-labels g) in
+      let x : a ≡ filled 2048 (laid label-max (labels-of (staying g))) = filled-put 2048 i (kept-octets g 32 0 store places) a pa la
+      ∙ ap (filled 2048) (kept-labels g) in
       let y : b ≡ filled 64 (lengths (labels-of (staying g))) = filled-put 64 j (kept-octets g 1 0 lens places) b pb lb ∙ ap (filled 64) (kept-lens g) in
       let z : c ≡ filled 64 (places-of (staying g)) = filled-put 64 r (kept-octets g 1 0 places places) c pc lc ∙ ap (filled 64) (kept-places g) in
       let w : m ≡ length (staying g) = e ∙ pc .0 ∙ ap length (kept-places g) ∙ length-map (staying g) (λ (p : Pending). p .place) in
       ap₂ (λ x y. record { labels = x; lens = y; places = c; count = m }) x y
-      ∙ ap₂ (λ x y. record { labels = filled 2048 (laid label-max (labels-of (staying g))); lens = filled 64 (lengths (labels-of (staying g))); places = x; count = y }) z w
+      ∙ ap₂ (λ x y. record {
+        labels = filled 2048 (laid label-max (labels-of (staying g)));
+        lens = filled 64
+            (lengths (labels-of (staying g)));
+        places = x;
+        count = y;
+      }) z w
 
   -- how long they are
-  pub kept-room : (g : Range) → (length (kept-octets g 32 0 store places) ≤ 2048) × (length (kept-octets g 1 0 lens places) ≤ 64) × (length (kept-octets g 1 0 places places) ≤ 64)
+  pub kept-room : (g : Range) → (length (kept-octets g 32 0 store places) ≤ 2048) × (length (kept-octets g 1 0 lens places) ≤ 64)
+      × (length (kept-octets g 1 0 places places) ≤ 64)
   kept-room g = (
     omega (arith, kept-long g 32 0 store places (store-count ∙ ap (_* 32) (sym places-count)), store-count, l .few),
     omega (arith, kept-long g 1 0 lens places (lens-count ∙ sym places-count ∙ sym (mul-one (length places))), lens-count, l .few),
@@ -192,13 +205,15 @@ module _ (d : Deliveries) (sized : SizedDeliveries d) (l : Laid d) where
 
   -- ---- one more
 
-  pub entered-laid : (place : ℕ) (label labels : List ℕ) (m : ℕ) → d .count < 64 → length label ≤ 32 → labels ≡ put-in 32 (d .labels) (d .count) label → m ≡ length label
+  pub entered-laid : (place : ℕ) (label labels : List ℕ) (m : ℕ) → d .count < 64 → length label ≤ 32 → labels ≡ put-in 32 (d .labels) (d .count) label
+      → m ≡ length label
       → record { labels = labels; lens = set (d .lens) (d .count) m; places = set (d .places) (d .count) place; count = d .count + 1 }
       ≡ deliveries-of (pending d ++ (record { place = place; label = label } ∷ []))
   unfolding deliveries-of
   entered-laid place label labels m room short put e =
       ap₂ (λ x y. record { labels = x; lens = y; places = set (d .places) (d .count) place; count = d .count + 1 }) octets lengths-are
-      ∙ ap₂ (λ x y. record { labels = filled 2048 (laid label-max (labels-of more)); lens = filled 64 (lengths (labels-of more)); places = x; count = y }) places-set count-is
+      ∙ ap₂ (λ x y. record { labels = filled 2048 (laid label-max (labels-of more)); lens = filled 64 (lengths (labels-of more)); places = x; count = y })
+      places-set count-is
     where
       more : List Pending
       more = pending d ++ (record { place = place; label = label } ∷ [])
@@ -216,7 +231,8 @@ module _ (d : Deliveries) (sized : SizedDeliveries d) (l : Laid d) where
       count-is = sym (length-append (pending d) (record { place = place; label = label } ∷ []) ∙ ap (_+ 1) pending-count)
 
       -- a row after which all is 0
-      behind : (n k : ℕ) (xs front : List ℕ) (x : ℕ) → length xs ≡ n → k < n → take k xs ≡ front → is-zero (drop k xs) ≡ true → set xs k x ≡ filled n (front ++ (x ∷ []))
+      behind : (n k : ℕ) (xs front : List ℕ) (x : ℕ) → length xs ≡ n → k < n → take k xs ≡ front → is-zero (drop k xs) ≡ true
+          → set xs k x ≡ filled n (front ++ (x ∷ []))
       behind n k xs front x long less is zero-behind = set-behind n k xs front x long less is zero-behind
 
       lengths-are : set (d .lens) (d .count) m ≡ filled 64 (lengths (labels-of more))
@@ -231,7 +247,8 @@ module _ (d : Deliveries) (sized : SizedDeliveries d) (l : Laid d) where
       octets : labels ≡ filled 2048 (laid label-max (labels-of more))
       octets =
           put
-          ∙ ap₂ (λ a b. a ++ (padded 32 label ++ b)) (sym (laid-ids label-max (d .count) store lens fits (l .clean-yes))) (tail-zero (d .count * 32) 32 2048 (d .labels) (sized .labels-long) (l .labels-zero))
+          ∙ ap₂ (λ a b. a ++ (padded 32 label ++ b)) (sym (laid-ids label-max (d .count) store lens fits (l .clean-yes)))
+          (tail-zero (d .count * 32) 32 2048 (d .labels) (sized .labels-long) (l .labels-zero))
           ∙ sym (append-assoc (laid label-max (ids label-max store lens)) (padded 32 label) (replicate (2048 - (d .count * 32 + 32)) 0))
           ∙ ap₂ (λ a b. a ++ replicate (2048 - b) 0) front long-front
         where
@@ -245,7 +262,8 @@ module _ (d : Deliveries) (sized : SizedDeliveries d) (l : Laid d) where
 
 -- ---- the same with numbers and parts as the code has them
 
-pub entered-at : (d : Deliveries) (sized : SizedDeliveries d) (l : Laid d) (n : ℕ) → n ≡ d .count → (place : ℕ) (label labels : List ℕ) (m : ℕ) → d .count < 64 → length label ≤ 32
+pub entered-at : (d : Deliveries) (sized : SizedDeliveries d) (l : Laid d) (n : ℕ) → n ≡ d .count → (place : ℕ) (label labels : List ℕ) (m : ℕ) → d .count < 64
+    → length label ≤ 32
     → labels ≡ put-in 32 (d .labels) n label → m ≡ length label
     → record { labels = labels; lens = set (d .lens) n m; places = set (d .places) n place; count = d .count + 1 }
     ≡ deliveries-of (pending d ++ (record { place = place; label = label } ∷ []))
@@ -333,7 +351,8 @@ module _ (to of : ℕ) where
       ∙ ap (λ r. cond (of-it p) r (p ∷ r)) (dropped-kept (suc i) ps (omega arith))
 
 -- ACK and NACK in client mode: the named one, numbered m, and those before it of its place
-pub client-kept : (l : List ℕ) (of m i : ℕ) (ps : List Pending) → first-from (labelled l) i ps ≡ some m → ((p : Pending) → first-of (labelled l) ps ≡ some p → p .place ≡ of)
+pub client-kept : (l : List ℕ) (of m i : ℕ) (ps : List Pending) → first-from (labelled l) i ps ≡ some m
+    → ((p : Pending) → first-of (labelled l) ps ≡ some p → p .place ≡ of)
     → kept (record { from = 0; to = suc m; of = of }) i (places-of ps) ps ≡ settled (labelled l) (λ (p : Pending). eqb (p .place) of) ps
 unfolding kept first-from
 client-kept l of m i [] e at = refl
@@ -343,13 +362,16 @@ client-kept l of m i (p ∷ ps) e at = by (labelled l p) refl e (client-kept l o
     g = record { from = 0; to = suc m; of = of }
 
     by : (t : Bool) → labelled l p ≡ t → cond t (some i) (first-from (labelled l) (suc i) ps) ≡ some m
-        → (first-from (labelled l) (suc i) ps ≡ some m → ((q : Pending) → first-of (labelled l) ps ≡ some q → q .place ≡ of) → kept g (suc i) (places-of ps) ps ≡ settled (labelled l) (λ (q : Pending). eqb (q .place) of) ps)
+        → (first-from (labelled l) (suc i) ps ≡ some m → ((q : Pending) → first-of (labelled l) ps ≡ some q → q .place ≡ of)
+        → kept g (suc i) (places-of ps) ps ≡ settled (labelled l) (λ (q : Pending). eqb (q .place) of) ps)
         → cond (stays-at g i (p .place)) (p ∷ kept g (suc i) (places-of ps) ps) (kept g (suc i) (places-of ps) ps)
-        ≡ cond t ps (cond (eqb (p .place) of) (settled (labelled l) (λ (q : Pending). eqb (q .place) of) ps) (p ∷ settled (labelled l) (λ (q : Pending). eqb (q .place) of) ps))
+        ≡ cond t ps (cond (eqb (p .place) of) (settled (labelled l) (λ (q : Pending). eqb (q .place) of) ps)
+        (p ∷ settled (labelled l) (λ (q : Pending). eqb (q .place) of) ps))
     by true q f go =
         let here : i ≡ m = cc in
         let place-is : p .place ≡ of = at p (ap (λ t. cond t (some p) (first-of (labelled l) ps)) q) in
-        ap (λ t. cond t (p ∷ kept g (suc i) (places-of ps) ps) (kept g (suc i) (places-of ps) ps)) (stays-before (suc m) of i p (omega (arith, here)) ∙ ap not (eq-eqb (p .place) of place-is))
+        ap (λ t. cond t (p ∷ kept g (suc i) (places-of ps) ps) (kept g (suc i) (places-of ps) ps)) (stays-before (suc m) of i p (omega (arith, here))
+        ∙ ap not (eq-eqb (p .place) of place-is))
         ∙ kept-beyond g (suc i) ps (omega (arith, here))
     by false q f go =
         let (j, a, b, c) = first-at (labelled l) (record { place = 0; label = [] }) (suc i) m ps f in
@@ -358,7 +380,8 @@ client-kept l of m i (p ∷ ps) e at = by (labelled l p) refl e (client-kept l o
         ∙ ap (λ r. cond (eqb (p .place) of) r (p ∷ r)) (go f (λ x y. at x (ap (λ t. cond t (some p) (first-of (labelled l) ps)) q ∙ y)))
 
 -- in client-individual mode: the named one alone
-pub individual-kept : (l : List ℕ) (of m i : ℕ) (ps : List Pending) → first-from (labelled l) i ps ≡ some m → ((p : Pending) → first-of (labelled l) ps ≡ some p → p .place ≡ of)
+pub individual-kept : (l : List ℕ) (of m i : ℕ) (ps : List Pending) → first-from (labelled l) i ps ≡ some m
+    → ((p : Pending) → first-of (labelled l) ps ≡ some p → p .place ≡ of)
     → kept (record { from = m; to = suc m; of = of }) i (places-of ps) ps ≡ settled (labelled l) (λ (p : Pending). false) ps
 unfolding kept first-from
 individual-kept l of m i [] e at = refl
@@ -368,15 +391,19 @@ individual-kept l of m i (p ∷ ps) e at = by (labelled l p) refl e (individual-
     g = record { from = m; to = suc m; of = of }
 
     by : (t : Bool) → labelled l p ≡ t → cond t (some i) (first-from (labelled l) (suc i) ps) ≡ some m
-        → (first-from (labelled l) (suc i) ps ≡ some m → ((q : Pending) → first-of (labelled l) ps ≡ some q → q .place ≡ of) → kept g (suc i) (places-of ps) ps ≡ settled (labelled l) (λ (q : Pending). false) ps)
-        → cond (stays-at g i (p .place)) (p ∷ kept g (suc i) (places-of ps) ps) (kept g (suc i) (places-of ps) ps) ≡ cond t ps (p ∷ settled (labelled l) (λ (q : Pending). false) ps)
+        → (first-from (labelled l) (suc i) ps ≡ some m → ((q : Pending) → first-of (labelled l) ps ≡ some q → q .place ≡ of)
+        → kept g (suc i) (places-of ps) ps ≡ settled (labelled l) (λ (q : Pending). false) ps)
+        → cond (stays-at g i (p .place)) (p ∷ kept g (suc i) (places-of ps) ps) (kept g (suc i) (places-of ps) ps) ≡ cond t ps
+        (p ∷ settled (labelled l) (λ (q : Pending). false) ps)
     by true q f go =
         let here : i ≡ m = cc in
         let place-is : p .place ≡ of = at p (ap (λ t. cond t (some p) (first-of (labelled l) ps)) q) in
         ap (λ t. cond t (p ∷ kept g (suc i) (places-of ps) ps) (kept g (suc i) (places-of ps) ps))
-        (ap₂ (λ a b. a || (b || not (eqb (p .place) of))) (le-ltb i m (omega (arith, here))) (lt-leb (suc m) i (omega (arith, here))) ∙ ap not (eq-eqb (p .place) of place-is))
+        (ap₂ (λ a b. a || (b || not (eqb (p .place) of))) (le-ltb i m (omega (arith, here))) (lt-leb (suc m) i (omega (arith, here)))
+        ∙ ap not (eq-eqb (p .place) of place-is))
         ∙ kept-beyond g (suc i) ps (omega (arith, here))
     by false q f go =
         let (j, a, b, c) = first-at (labelled l) (record { place = 0; label = [] }) (suc i) m ps f in
-        ap (λ t. cond t (p ∷ kept g (suc i) (places-of ps) ps) (kept g (suc i) (places-of ps) ps)) (ap (_|| (leb (suc m) i || not (eqb (p .place) of))) (lt-ltb i m (omega (arith, a))))
+        ap (λ t. cond t (p ∷ kept g (suc i) (places-of ps) ps) (kept g (suc i) (places-of ps) ps))
+        (ap (_|| (leb (suc m) i || not (eqb (p .place) of))) (lt-ltb i m (omega (arith, a))))
         ∙ ap (p ∷_) (go f (λ x y. at x (ap (λ t. cond t (some p) (first-of (labelled l) ps)) q ∙ y)))

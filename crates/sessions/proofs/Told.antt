@@ -15,16 +15,17 @@ use lib.Seq.{getD-set-same, getD-set-other}
 use lib.Dec.{eqb}
 use borrow.Author.Tests.{eqb-true, eqb-false, not-true}
 use Rattle.headers.specs.Rows.{any, empty, same, All, first-of}
-use Rattle.headers.proofs.Rows.{cond-case, and-left, and-right, or-false-left, or-false-right, same-eq, same-self, empty-not, not-empty, empty-eqb}
+use Rattle.headers.proofs.Rows.{and-left, and-right, or-false-left, or-false-right, same-eq, same-self, empty-not, not-empty, empty-eqb}
 use Rattle.headers.specs.Block.{Entry, entries, listed}
 use Rattle.frames.specs.Grammar.{ACK, CONNECT, DISCONNECT, NACK, STOMP, SUBSCRIBE, UNSUBSCRIBE}
 use Rattle.sessions.specs.Values.{HeartBeats}
 use Rattle.sessions.specs.Headers.{changed-id, value-of, has, is, opens, mode-asked}
 use Rattle.sessions.specs.Stores.{ids, live, distinct, used, use-checks}
-use Rattle.sessions.specs.Deliveries.{auto-mode, client-mode, Pending, pending, labelled, mode-of, goes-with, deliveries-of, no-deliveries}
+use Rattle.sessions.specs.Deliveries.{auto-mode, client-mode, Pending, pending, labelled, mode-of, goes-with, deliveries-of}
 use Rattle.sessions.specs.Deliveries.{without, settled, settled-as, settle-label, with-mode, dropped, record-label}
 use Rattle.sessions.proofs.Rows.{nil-apart, or-either}
-use Rattle.sessions.specs.Accounts.{Delivery, Event, subscribed, unsubscribed, mode-in, made-at, accounts, with-fate, is-acknowledged, is-refused, is-dropped, recorded, delivered, acked, nacked, closed, nothing, settled-with, pending-in}
+use Rattle.sessions.specs.Accounts.{Delivery, Event, subscribed, unsubscribed, mode-in, made-at, accounts, with-fate, is-acknowledged}
+use Rattle.sessions.specs.Accounts.{is-refused, is-dropped, recorded, delivered, acked, nacked, closed, nothing, settled-with, pending-in}
 use Rattle.sessions.specs.declared.delivery.Deliveries.{Deliveries}
 use Rattle.headers.specs.Answers.{Answer, accepted, refused, settle}
 use Rattle.sessions.specs.Sessions.{id-max, ids-of, with-ids, with-modes, with-deliveries, heard, closed as closed-session}
@@ -33,7 +34,9 @@ use Rattle.sessions.specs.Held.{delivery-of, held-deliveries}
 use Rattle.sessions.specs.declared.command.Kind.the-variants.{Subscriptions}
 use Rattle.sessions.specs.declared.parts.SubscriptionStore.{SubscriptionStore}
 use Rattle.sessions.specs.declared.session.Session.{Session}
-use Rattle.sessions.proofs.Kept.{Kept, SameSubscriptions, first-passes, lens-are, lens-free, enter-place, free-there, other-lens, subscribe-id, unsubscribe-id, deliver-place, deliver-id, deliver-at, deliver-entered, kept-next, kept-made, made-none, made-ids}
+use Rattle.sessions.proofs.Kept.{Kept, SameSubscriptions, first-passes, lens-are, lens-free, enter-place, free-there, other-lens, subscribe-id}
+use Rattle.sessions.proofs.Kept.{unsubscribe-id, deliver-place, deliver-id, deliver-at, deliver-entered, kept-next, kept-made, made-none}
+use Rattle.sessions.proofs.Kept.{made-ids}
 use Rattle.sessions.proofs.Keeping.{held-long, held-short, held-distinct}
 use Rattle.sessions.proofs.Checks.{Passed, frame-passed, subscribe-changes, subscribe-settles, unsubscribe-changes, unsubscribe-settles}
 use Rattle.stores.proofs.Searching.{found-at}
@@ -45,8 +48,10 @@ use Rattle.sessions.specs.Calls.{left-by as session-left, made, opened-b
 use Rattle.sessions.specs.Calls.{id-effect, effect, free-place, place-named, settle-named, mode-or-auto, modes-effect, delivery-effect, named-effect}
 use Rattle.sessions.specs.Calls.{frame-answer, frame-session, heart-beat-answer, heart-beat-session, deliver-checks, deliver-answer, recorded-by}
 use Rattle.sessions.specs.Calls.{recording, deliver-session}
-use Rattle.sessions.proofs.Accounts.{named, settled-for, settled-by, entered, left-by, Distinct, Agrees, same-turn, survivors, step-pending, none-later, all-accounted}
-use Rattle.sessions.proofs.Pending.{Apart, Elsewhere, Proper, Holds, good, holds-none, holds-dropped, free-elsewhere, all-with, any-map, without-fail, holds-settled}
+use Rattle.sessions.proofs.Accounts.{named, settled-for, settled-by, entered, left-by, Distinct, Agrees, same-turn, survivors, step-pending}
+use Rattle.sessions.proofs.Accounts.{none-later, all-accounted}
+use Rattle.sessions.proofs.Pending.{Apart, Elsewhere, Proper, Holds, good, holds-none, holds-dropped, free-elsewhere, all-with, any-map}
+use Rattle.sessions.proofs.Pending.{without-fail, holds-settled}
 
 -- ---- places of ids that are told apart
 
@@ -91,17 +96,20 @@ module _ (f : Pending → Delivery) where
   map-without a b [] h = refl
   map-without a b (p ∷ ps) (h, more) = by (a p) (b (f p)) h (map-without a b ps more)
     where
-      by : (s t : Bool) → s ≡ t → map f (without a ps) ≡ without b (map f ps) → map f (cond s (without a ps) (p ∷ without a ps)) ≡ cond t (without b (map f ps)) (f p ∷ without b (map f ps))
+      by : (s t : Bool) → s ≡ t → map f (without a ps) ≡ without b (map f ps)
+          → map f (cond s (without a ps) (p ∷ without a ps)) ≡ cond t (without b (map f ps)) (f p ∷ without b (map f ps))
       by true t e go = go ∙ ap (λ z. cond z (without b (map f ps)) (f p ∷ without b (map f ps))) e
       by false t e go = ap (f p ∷_) go ∙ ap (λ z. cond z (without b (map f ps)) (f p ∷ without b (map f ps))) e
 
-  map-settled : (a g : Pending → Bool) (b h : Delivery → Bool) (ps : List Pending) → All (λ p. (a p ≡ b (f p)) × (g p ≡ h (f p))) ps → map f (settled a g ps) ≡ settled b h (map f ps)
+  map-settled : (a g : Pending → Bool) (b h : Delivery → Bool) (ps : List Pending) → All (λ p. (a p ≡ b (f p)) × (g p ≡ h (f p))) ps
+      → map f (settled a g ps) ≡ settled b h (map f ps)
   map-settled a g b h [] e = refl
   map-settled a g b h (p ∷ ps) ((e, d), more) =
       ap (map f) (ap₂ (λ s t. cond s ps (cond t (settled a g ps) (p ∷ settled a g ps))) e d) ∙ by (b (f p)) (h (f p)) (map-settled a g b h ps more)
     where
       by : (s t : Bool) → map f (settled a g ps) ≡ settled b h (map f ps)
-          → map f (cond s ps (cond t (settled a g ps) (p ∷ settled a g ps))) ≡ cond s (map f ps) (cond t (settled b h (map f ps)) (f p ∷ settled b h (map f ps)))
+          → map f (cond s ps (cond t (settled a g ps) (p ∷ settled a g ps))) ≡ cond s (map f ps)
+          (cond t (settled b h (map f ps)) (f p ∷ settled b h (map f ps)))
       by true t go = refl
       by false true go = go
       by false false go = ap (f p ∷_) go
@@ -229,7 +237,8 @@ first-map : (f : Pending → Delivery) (b : Delivery → Bool) (ps : List Pendin
 first-map f b [] = refl
 first-map f b (p ∷ ps) = by (b (f p)) (first-map f b ps)
   where
-    by : (t : Bool) → first-of b (map f ps) ≡ seen-option f (first-of (λ p. b (f p)) ps) → cond t (some (f p)) (first-of b (map f ps)) ≡ seen-option f (cond t (some p) (first-of (λ p. b (f p)) ps))
+    by : (t : Bool) → first-of b (map f ps) ≡ seen-option f (first-of (λ p. b (f p)) ps)
+        → cond t (some (f p)) (first-of b (map f ps)) ≡ seen-option f (cond t (some p) (first-of (λ p. b (f p)) ps))
     by true go = refl
     by false go = go
 
@@ -476,7 +485,8 @@ module _ (past : List Event) (s : Session) (kept : Kept s) (knows : Knows past s
   left-effect n es p = by (opens n) (is DISCONNECT n) refl refl
     where
       no-event : opens n ≡ true → frame-event n es ≡ nothing
-      no-event o = or-either (is CONNECT n) (is STOMP n) o (λ e. ap (λ m. frame-event m es) (eqb-true n 5 e)) (λ e. ap (λ m. frame-event m es) (eqb-true n 13 e))
+      no-event o =
+          or-either (is CONNECT n) (is STOMP n) o (λ e. ap (λ m. frame-event m es) (eqb-true n 5 e)) (λ e. ap (λ m. frame-event m es) (eqb-true n 13 e))
 
       by : (a b : Bool) → opens n ≡ a → is DISCONNECT n ≡ b
           → Left past s (cond a (opening s es) (cond b (closed-session s) (named-effect s n es))) (frame-event n es)
@@ -564,17 +574,20 @@ made-pending sends wants offered cs =
 -- history of calls and answers
 pub made-counted : (sends wants : ℕ) (offered : List Bool) (cs : List Call)
     → recorded (events (made sends wants offered) cs)
-    ≡ length (with-fate is-acknowledged (accounts [] (events (made sends wants offered) cs))) + length (with-fate is-refused (accounts [] (events (made sends wants offered) cs)))
+    ≡ length (with-fate is-acknowledged (accounts [] (events (made sends wants offered) cs))) + length
+    (with-fate is-refused (accounts [] (events (made sends wants offered) cs)))
     + length (with-fate is-dropped (accounts [] (events (made sends wants offered) cs))) + length (pending-in [] (events (made sends wants offered) cs))
 made-counted sends wants offered cs = all-accounted [] (events (made sends wants offered) cs)
 
 -- the same with the pending ones that the session holds
 pub made-accounted : (sends wants : ℕ) (offered : List Bool) (cs : List Call)
     → recorded (events (made sends wants offered) cs)
-    ≡ length (with-fate is-acknowledged (accounts [] (events (made sends wants offered) cs))) + length (with-fate is-refused (accounts [] (events (made sends wants offered) cs)))
+    ≡ length (with-fate is-acknowledged (accounts [] (events (made sends wants offered) cs))) + length
+    (with-fate is-refused (accounts [] (events (made sends wants offered) cs)))
     + length (with-fate is-dropped (accounts [] (events (made sends wants offered) cs))) + length (held-deliveries (after (made sends wants offered) cs))
 made-accounted sends wants offered cs =
     let es = events (made sends wants offered) cs in
     all-accounted [] es
-    ∙ ap (λ (ds : List Delivery). length (with-fate is-acknowledged (accounts [] es)) + length (with-fate is-refused (accounts [] es)) + length (with-fate is-dropped (accounts [] es)) + length ds)
+    ∙ ap (λ (ds : List Delivery). length (with-fate is-acknowledged (accounts [] es)) + length (with-fate is-refused (accounts [] es)) + length
+    (with-fate is-dropped (accounts [] es)) + length ds)
     (made-pending sends wants offered cs)

@@ -49,8 +49,12 @@ module _ (s : Session) (sized : Sized s) (valid : is-valid s ≡ true) where
   valid-of Transactions = and-right (valid-subscriptions (s .subscriptions)) _ ids-valid
 
   pub fits-of : (k : Kind) → Fits id-max (count-of k) (store-of k s) (lens-of k s)
-  fits-of Subscriptions = valid-fits id-max (s .subscriptions .ids) (s .subscriptions .lens) (valid-of Subscriptions) subscriptions-max (sized .subscriptions .lens-long) (sized .subscriptions .ids-long)
-  fits-of Transactions = valid-fits id-max (s .transactions .ids) (s .transactions .lens) (valid-of Transactions) transactions-max (sized .transactions .lens-long) (sized .transactions .ids-long)
+  fits-of Subscriptions =
+      valid-fits id-max (s .subscriptions .ids) (s .subscriptions .lens) (valid-of Subscriptions) subscriptions-max (sized .subscriptions .lens-long)
+      (sized .subscriptions .ids-long)
+  fits-of Transactions =
+      valid-fits id-max (s .transactions .ids) (s .transactions .lens) (valid-of Transactions) transactions-max (sized .transactions .lens-long)
+      (sized .transactions .ids-long)
 
   pub count-ids : (k : Kind) → length (ids-of k s) ≡ count-of k
   count-ids Subscriptions = length-ids id-max (s .subscriptions .ids) (s .subscriptions .lens) ∙ sized .subscriptions .lens-long
@@ -66,7 +70,9 @@ module _ (s : Session) (sized : Sized s) (valid : is-valid s ≡ true) where
       (lengths-ids id-max subscriptions-max (s .subscriptions .ids) (s .subscriptions .lens) f)
   same-ids Transactions =
       let f = fits-of Transactions in
-      ap₂ (λ x y. with-transactions s (record { ids = x; lens = y })) (laid-ids id-max transactions-max (s .transactions .ids) (s .transactions .lens) f (valid-clean id-max (s .transactions .ids) (s .transactions .lens) (valid-of Transactions)))
+      ap₂ (λ x y. with-transactions s (record { ids = x; lens = y }))
+      (laid-ids id-max transactions-max (s .transactions .ids) (s .transactions .lens) f
+      (valid-clean id-max (s .transactions .ids) (s .transactions .lens) (valid-of Transactions)))
       (lengths-ids id-max transactions-max (s .transactions .ids) (s .transactions .lens) f)
 
   -- with another id in one place they are the session with that id put there
@@ -76,7 +82,8 @@ module _ (s : Session) (sized : Sized s) (valid : is-valid s ≡ true) where
       (valid-clean id-max (s .subscriptions .ids) (s .subscriptions .lens) (valid-of Subscriptions)) i h id l in
       ap₂ (λ x y. with-subscriptions s (record { ids = x; lens = y; modes = s .subscriptions .modes })) a b
   put-ids Transactions i id h l =
-      let (a, b) = put-laid id-max transactions-max (s .transactions .ids) (s .transactions .lens) (fits-of Transactions) (valid-clean id-max (s .transactions .ids) (s .transactions .lens) (valid-of Transactions)) i h id l in
+      let (a, b) = put-laid id-max transactions-max (s .transactions .ids) (s .transactions .lens) (fits-of Transactions)
+      (valid-clean id-max (s .transactions .ids) (s .transactions .lens) (valid-of Transactions)) i h id l in
       ap₂ (λ x y. with-transactions s (record { ids = x; lens = y })) a b
 
 -- ---- what a use of an id gives
@@ -88,7 +95,8 @@ stored-small Need n = omega arith
 stored-small Nothing n = omega arith
 
 -- an id that is stored fits its place
-pub stored-fits : (w : ℕ) (u : Use) (id : List ℕ) (is : List (List ℕ)) → settle (use-checks w u id is) [] ≡ accepted [] → length (take (stored u (length id)) id) ≤ w
+pub stored-fits : (w : ℕ) (u : Use) (id : List ℕ) (is : List (List ℕ)) → settle (use-checks w u id is) [] ≡ accepted []
+    → length (take (stored u (length id)) id) ≤ w
 stored-fits w u id is e =
     let l : length id ≤ w = ltb-false w (length id) (or-false-right (empty id) (ltb w (length id)) (all-pass (use-checks w u id is) [] [] e .0)) in
     omega (arith, length-take (stored u (length id)) id, stored-small u (length id))
@@ -105,10 +113,12 @@ module _ (i : ℕ) (id store : List ℕ) (m : ℕ) (l : m ≡ length id) where
 
 -- a session with an id put in a place of a kind
 module _ (s : Session) (i : ℕ) (id : List ℕ) (k : Kind) where
-  pub subscription-stored : (ids : SubscriptionStore) → k ≡ Subscriptions → ids ≡ put-subscription (s .subscriptions) i id → with-subscriptions s ids ≡ put-of k s i id
+  pub subscription-stored : (ids : SubscriptionStore) → k ≡ Subscriptions → ids ≡ put-subscription (s .subscriptions) i id
+      → with-subscriptions s ids ≡ put-of k s i id
   subscription-stored ids is e = rw (is, e)
 
-  pub transaction-stored : (ids : TransactionStore) → k ≡ Transactions → ids ≡ put-transaction (s .transactions) i id → with-transactions s ids ≡ put-of k s i id
+  pub transaction-stored : (ids : TransactionStore) → k ≡ Transactions → ids ≡ put-transaction (s .transactions) i id
+      → with-transactions s ids ≡ put-of k s i id
   transaction-stored ids is e = rw (is, e)
 
 -- the interval of a valid session is small

@@ -1,10 +1,9 @@
 -- The test of a record of deliveries, part by part, as the code has the parts. Assumes nothing.
-use mathlib.Core.Path.{_≡_, refl, sym, ap, ap₂, _∙_}
+use mathlib.Core.Path.{_≡_, sym, ap, ap₂, _∙_}
 use mathlib.Core.Bool.{Bool, true, false, _&&_, _||_, not}
-use mathlib.Core.List.{List, [], _∷_}
-use Prim.Native.Nat.{ℕ, suc, _+_, _-_, _*_, _≤_, _<_}
+use mathlib.Core.List.{List}
+use Prim.Native.Nat.{ℕ, _+_, _-_, _*_, _≤_, _<_}
 use native.Mathlib.Nat.{sub-zero}
-use native.Mathlib.Omega.{arith}
 use lib.Dec.{eqb}
 use lib.ListN.{length, take, drop, getD, drop-of-length-le, List·getD-eq-default}
 use Rattle.headers.specs.Rows.{every}
@@ -27,7 +26,8 @@ yes-first a b e = sym (ap (_&& b) e)
 
 -- a whole record: its numbers, its ids, its deliveries
 pub whole-valid : (s : Session) (n i d : Bool) → n ≡ valid-numbers s → i ≡ valid-ids s
-    → d ≡ valid-parts (s .deliveries .labels) (s .deliveries .lens) (s .deliveries .places) (s .subscriptions .modes) (s .subscriptions .lens) (s .deliveries .count)
+    → d ≡ valid-parts (s .deliveries .labels) (s .deliveries .lens) (s .deliveries .places) (s .subscriptions .modes) (s .subscriptions .lens)
+    (s .deliveries .count)
     → n && (i && (d && (eqb (s .phase) open-phase || eqb (s .deliveries .count) 0))) ≡ is-valid s
 unfolding is-valid valid-pending
 whole-valid s n i d a b c = ap₂ (λ x y. x && (y && (d && (eqb (s .phase) open-phase || eqb (s .deliveries .count) 0)))) a b
@@ -64,7 +64,8 @@ module _ (n : ℕ) (labels lens : List ℕ) where
 
   pub labels-parts : valid-labels n labels lens ≡ store-part && (some-part && (is-zero (part-from (n * 32) labels) && is-zero (part-from n lens)))
   labels-parts =
-      ap₂ (λ a b. valid-store 32 a b && (some-lengths b && (is-zero (drop (n * 32) labels) && is-zero (drop n lens)))) (sym (front-same (n * 32) labels)) (sym (front-same n lens))
+      ap₂ (λ a b. valid-store 32 a b && (some-lengths b && (is-zero (drop (n * 32) labels) && is-zero (drop n lens)))) (sym (front-same (n * 32) labels))
+      (sym (front-same n lens))
       ∙ ap₂ (λ a b. store-part && (some-part && (is-zero a && is-zero b))) (sym (part-drop (n * 32) labels)) (sym (part-drop n lens))
 
   pub labels-one : store-part ≡ false → false ≡ valid-labels n labels lens

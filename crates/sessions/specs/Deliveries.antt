@@ -1,6 +1,6 @@
 -- What a session keeps for deliveries (document 02, C-15): the pending deliveries as a list, oldest first, and the ack modes of its
 -- subscriptions; what is left of them when some are settled or dropped; what makes them valid. Assumes nothing.
-use mathlib.Core.Bool.{Bool, true, false, cond, _&&_, _||_, not}
+use mathlib.Core.Bool.{Bool, true, cond, _&&_, _||_, not}
 use mathlib.Core.Option.{Option, none, some}
 use mathlib.Core.List.{List, [], _∷_, _++_, map}
 use Prim.Native.Nat.{ℕ, _-_, _*_, _≤_}

@@ -15,7 +15,8 @@ use Rattle.sessions.specs.Deliveries.{deliveries-max, label-max, auto-mo
 use Rattle.sessions.specs.Deliveries.{valid-labels, valid-places}
 use Rattle.sessions.specs.Opening.{none-shared}
 use Rattle.sessions.specs.Headers.{is-some, from-server, opens, mode-asked, value-of, IdUse, id-use, changed-id}
-use Rattle.sessions.specs.Sessions.{subscriptions-max, transactions-max, id-max, fresh-phase, open-phase, closed-phase, ids-of, with-subscriptions, with-transactions}
+use Rattle.sessions.specs.Sessions.{subscriptions-max, transactions-max, id-max, fresh-phase, open-phase, closed-phase, ids-of}
+use Rattle.sessions.specs.Sessions.{with-subscriptions, with-transactions}
 use Rattle.sessions.specs.Sessions.{with-modes, with-deliveries, closed, heard, is-valid}
 use Rattle.sessions.specs.Answers.{acceptance-says, answer-says, delivery-says}
 use Rattle.sessions.specs.Calls.{left-by, shared-by, client-versions, client-heart-beats, opening, uses-of, id-effect, id-checks}

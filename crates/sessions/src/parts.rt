@@ -1,7 +1,7 @@
 // The parts of a session's record: what the server offers, what both sides agreed on, the subscriptions and the transactions.
 ghost use mathlib.Core.Path.{_≡_};
 ghost use Prim.Native.Nat.{_≤_, _<_};
-ghost use lib.ListN.{length, set};
+ghost use lib.ListN.{length};
 ghost use Rattle.sessions.specs.Sessions.{subscriptions-max, transactions-max, id-max, nothing-agreed, no-subscriptions, no-transactions};
 ghost use Rattle.sessions.specs.Sessions.{valid-offers, valid-agreed};
 ghost use Rattle.sessions.specs.Deliveries.{known-modes, idle-modes, valid-modes};

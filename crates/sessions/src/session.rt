@@ -19,7 +19,8 @@ ghost use Rattle.sessions.specs.Deliveries.{auto-mode, with-mode, droppe
 ghost use Rattle.sessions.specs.Held.{held-deliveries, nth, nothing-told, told-of, pending-answer};
 ghost use Rattle.sessions.specs.Places.{Settles};
 ghost use Rattle.sessions.specs.Notes.{AllNoted};
-ghost use Rattle.sessions.specs.Steps.{kept-by, closed-by, accepted-by, count-of, put-of, outcome-modes, outcome-deliveries, outcome-with, unrecorded-by, recorded-as, recording-at};
+ghost use Rattle.sessions.specs.Steps.{kept-by, closed-by, accepted-by, count-of, put-of, outcome-modes, outcome-deliveries, outcome-with};
+ghost use Rattle.sessions.specs.Steps.{unrecorded-by, recorded-as, recording-at};
 ghost use Rattle.sessions.specs.Steps.{SettlesUse, settled-number, use-named, GivesUses, GivesOpening, GivesEntries, GivesMode, GivesDropped};
 ghost use Rattle.sessions.specs.Steps.{GivesLabel, RecordsAt, MayRecord, Unchanged, Untouched};
 ghost use Rattle.sessions.specs.declared.command.Header.the-variants.{Id};

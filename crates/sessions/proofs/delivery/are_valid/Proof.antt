@@ -27,7 +27,8 @@ returns-2 c =
     let s = c .before .before .before .before .before .before .before .before .before in
     let a = s .args in
     let wide = c .before .before .before .wide in
-    no-first _ _ (sym (c .before .are-valid-labels .ensures ∙ ap (λ m. valid-labels m (now (a .labels)) (now (a .label-lens))) (wide .ensures .0)) ∙ not-true _ (c .if2 .taken))
+    no-first _ _ (sym (c .before .are-valid-labels .ensures ∙ ap (λ m. valid-labels m (now (a .labels)) (now (a .label-lens))) (wide .ensures .0))
+    ∙ not-true _ (c .if2 .taken))
     ∙ yes-first _ _ (le-leb (a .count) 64 (omega (arith, c .before .before .if1 .left, wide .ensures .0)))
 
 are-valid-places-requires : tie.Need-are-valid-places-requires
@@ -40,7 +41,8 @@ returns-3 c =
     let wide = c .before .before .before .before .wide in
     c .are-valid-places .ensures
     ∙ ap (λ m. valid-places m (now (a .places)) (now (a .lens)) (now (a .modes))) (wide .ensures .0)
-    ∙ yes-first _ _ (sym (c .before .before .are-valid-labels .ensures ∙ ap (λ m. valid-labels m (now (a .labels)) (now (a .label-lens))) (wide .ensures .0)) ∙ not-false _ (c .before .if2 .left))
+    ∙ yes-first _ _ (sym (c .before .before .are-valid-labels .ensures ∙ ap (λ m. valid-labels m (now (a .labels)) (now (a .label-lens))) (wide .ensures .0))
+    ∙ not-false _ (c .before .if2 .left))
     ∙ yes-first _ _ (le-leb (a .count) 64 (omega (arith, c .before .before .before .if1 .left, wide .ensures .0)))
 
 pub are-valid-spec : {M : Type 1} → statement M

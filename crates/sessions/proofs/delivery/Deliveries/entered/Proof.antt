@@ -40,7 +40,8 @@ add-self c = search needs
 returns : tie.Need-returns
 returns c =
     let s = c .before .before .before .before .before .before in
-    entered-at (s .args .t1) (sized s) (s .pre .0) (c .before .before .before .before .wide .result) (c .before .before .before .before .wide .ensures .0) (s .args .place) (now (s .args .label)) _ _ (s .pre .1) (s .pre .2)
+    entered-at (s .args .t1) (sized s) (s .pre .0) (c .before .before .before .before .wide .result) (c .before .before .before .before .wide .ensures .0)
+    (s .args .place) (now (s .args .label)) _ _ (s .pre .1) (s .pre .2)
     (c .before .put .ensures) (omega (arith, s .pre .2))
 
 pub entered-spec : {M : Type 1} → statement M

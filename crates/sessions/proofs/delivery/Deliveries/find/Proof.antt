@@ -25,7 +25,14 @@ part-find-start : tie.Need-part-find-start
 part-find-start c = search needs
 
 part-find-end : tie.Need-part-find-end
-part-find-end c = omega (arith, c .before .before .before .before .before .pre .few, c .before .before .before .wide .ensures .0, sized (c .before .before .before .before .before) .labels-long)
+part-find-end c =
+    omega (
+      arith,
+      c .before .before .before .before .before .pre .few,
+      c .before .before .before .wide .ensures .0,
+      sized
+          (c .before .before .before .before .before) .labels-long,
+    )
 
 sub-find-2 : tie.Need-sub-find-2
 sub-find-2 c = search needs
@@ -34,13 +41,28 @@ part-find-start-2 : tie.Need-part-find-start-2
 part-find-start-2 c = search needs
 
 part-find-end-2 : tie.Need-part-find-end-2
-part-find-end-2 c = omega (arith, c .before .before .before .before .before .before .before .pre .few, c .before .before .before .before .before .wide .ensures .0, sized (c .before .before .before .before .before .before .before) .lens-long)
+part-find-end-2 c =
+    omega (
+      arith,
+      c .before .before .before .before .before .before .before .pre .few,
+      c .before .before .before .before .before .wide .ensures .0,
+      sized
+          (c .before .before .before .before .before .before .before) .lens-long,
+    )
 
 find-requires : tie.Need-find-requires
-find-requires c κs = find-fits (c .before .before .before .before .before .before .before .before .args .self) (sized (c .before .before .before .before .before .before .before .before)) (c .before .before .before .before .before .before .before .before .pre) (c .before .before .before .before .before .before .wide .result) (c .before .before .before .before .before .before .wide .ensures .0)
+find-requires c κs =
+    find-fits (c .before .before .before .before .before .before .before .before .args .self)
+    (sized (c .before .before .before .before .before .before .before .before)) (c .before .before .before .before .before .before .before .before .pre)
+    (c .before .before .before .before .before .before .wide .result) (c .before .before .before .before .before .before .wide .ensures .0)
 
 returns : tie.Need-returns
-returns c = c .find .ensures ∙ find-pending (c .before .before .before .before .before .before .before .before .before .args .self) (sized (c .before .before .before .before .before .before .before .before .before)) (c .before .before .before .before .before .before .before .before .before .pre) (c .before .before .before .before .before .before .before .wide .result) (c .before .before .before .before .before .before .before .wide .ensures .0) (now (c .before .before .before .before .before .before .before .before .before .args .label))
+returns c =
+    c .find .ensures ∙ find-pending (c .before .before .before .before .before .before .before .before .before .args .self)
+    (sized (c .before .before .before .before .before .before .before .before .before))
+    (c .before .before .before .before .before .before .before .before .before .pre) (c .before .before .before .before .before .before .before .wide .result)
+    (c .before .before .before .before .before .before .before .wide .ensures .0)
+    (now (c .before .before .before .before .before .before .before .before .before .args .label))
 
 pub find-spec : {M : Type 1} → statement M
 find-spec =

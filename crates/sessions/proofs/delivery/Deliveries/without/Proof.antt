@@ -41,7 +41,14 @@ part-keep-rows-end-2 : tie.Need-part-keep-rows-end-2
 part-keep-rows-end-2 c =
     let s = c .before .before .before .before .before .before .before .before .before in
     let z = sized s in
-    omega (arith, c .before .before .before .before .before .before .before .before .wide .ensures .0, s .pre .few, z .labels-long, z .lens-long, z .places-long)
+    omega (
+      arith,
+      c .before .before .before .before .before .before .before .before .wide .ensures .0,
+      s .pre .few,
+      z .labels-long,
+      z .lens-long,
+      z .places-long,
+    )
 
 keep-rows-requires : tie.Need-keep-rows-requires
 keep-rows-requires c κs = search needs
@@ -59,7 +66,14 @@ part-keep-rows-end-3 : tie.Need-part-keep-rows-end-3
 part-keep-rows-end-3 c =
     let s = c .before .before .before .before .before .before .before .before .before .before .before .before .before .before in
     let z = sized s in
-    omega (arith, c .before .before .before .before .before .before .before .before .before .before .before .before .before .wide .ensures .0, s .pre .few, z .labels-long, z .lens-long, z .places-long)
+    omega (
+      arith,
+      c .before .before .before .before .before .before .before .before .before .before .before .before .before .wide .ensures .0,
+      s .pre .few,
+      z .labels-long,
+      z .lens-long,
+      z .places-long,
+    )
 
 sub-keep-rows-4 : tie.Need-sub-keep-rows-4
 sub-keep-rows-4 c = search needs
@@ -71,7 +85,14 @@ part-keep-rows-end-4 : tie.Need-part-keep-rows-end-4
 part-keep-rows-end-4 c =
     let s = c .before .before .before .before .before .before .before .before .before .before .before .before .before .before .before .before in
     let z = sized s in
-    omega (arith, c .before .before .before .before .before .before .before .before .before .before .before .before .before .before .before .wide .ensures .0, s .pre .few, z .labels-long, z .lens-long, z .places-long)
+    omega (
+      arith,
+      c .before .before .before .before .before .before .before .before .before .before .before .before .before .before .before .wide .ensures .0,
+      s .pre .few,
+      z .labels-long,
+      z .lens-long,
+      z .places-long,
+    )
 
 keep-rows-requires-2 : tie.Need-keep-rows-requires-2
 keep-rows-requires-2 c κs = search needs
@@ -87,9 +108,18 @@ part-keep-rows-start-5 c = search needs
 
 part-keep-rows-end-5 : tie.Need-part-keep-rows-end-5
 part-keep-rows-end-5 c =
-    let s = c .before .before .before .before .before .before .before .before .before .before .before .before .before .before .before .before .before .before .before .before .before in
+    let s = c .before .before .before .before .before .before .before .before .before .before .before .before .before .before .before .before
+    .before .before .before .before .before in
     let z = sized s in
-    omega (arith, c .before .before .before .before .before .before .before .before .before .before .before .before .before .before .before .before .before .before .before .before .wide .ensures .0, s .pre .few, z .labels-long, z .lens-long, z .places-long)
+    omega (
+      arith,
+      c .before .before .before .before .before .before .before .before .before .before .before .before .before .before .before
+          .before .before .before .before .before .wide .ensures .0,
+      s .pre .few,
+      z .labels-long,
+      z .lens-long,
+      z .places-long,
+    )
 
 sub-keep-rows-6 : tie.Need-sub-keep-rows-6
 sub-keep-rows-6 c = search needs
@@ -99,9 +129,18 @@ part-keep-rows-start-6 c = search needs
 
 part-keep-rows-end-6 : tie.Need-part-keep-rows-end-6
 part-keep-rows-end-6 c =
-    let s = c .before .before .before .before .before .before .before .before .before .before .before .before .before .before .before .before .before .before .before .before .before .before .before in
+    let s = c .before .before .before .before .before .before .before .before .before .before .before .before .before .before .before .before
+    .before .before .before .before .before .before .before in
     let z = sized s in
-    omega (arith, c .before .before .before .before .before .before .before .before .before .before .before .before .before .before .before .before .before .before .before .before .before .before .wide .ensures .0, s .pre .few, z .labels-long, z .lens-long, z .places-long)
+    omega (
+      arith,
+      c .before .before .before .before .before .before .before .before .before .before .before .before .before .before .before
+          .before .before .before .before .before .before .before .wide .ensures .0,
+      s .pre .few,
+      z .labels-long,
+      z .lens-long,
+      z .places-long,
+    )
 
 keep-rows-requires-3 : tie.Need-keep-rows-requires-3
 keep-rows-requires-3 c κs = search needs
@@ -111,8 +150,10 @@ cast-t49 c = search needs
 
 returns : tie.Need-returns
 returns c =
-    let s = c .before .before .before .before .before .before .before .before .before .before .before .before .before .before .before .before .before .before .before .before .before .before .before .before .before .before in
-    let wide = c .before .before .before .before .before .before .before .before .before .before .before .before .before .before .before .before .before .before .before .before .before .before .before .before .before .wide in
+    let s = c .before .before .before .before .before .before .before .before .before .before .before .before .before .before .before .before
+    .before .before .before .before .before .before .before .before .before .before in
+    let wide = c .before .before .before .before .before .before .before .before .before .before .before .before .before .before .before
+    .before .before .before .before .before .before .before .before .before .before .wide in
     without-at (s .args .self) (sized s) (s .pre) (wide .result) (wide .ensures .0) (s .args .range) _ _ _ _ _ (c .before .keep-rows3 .result) _
     (c .before .before .before .before .before .before .before .before .before .before .before .before .before .before .before .keep-rows .ensures)
     (c .before .before .before .before .before .before .before .before .keep-rows2 .ensures) (c .before .keep-rows3 .ensures) (λ h. omega arith)

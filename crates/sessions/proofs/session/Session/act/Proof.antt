@@ -42,7 +42,8 @@ returns-2 c =
     let all = s .pre .1 in
     entries-opening (s .args .self) (s .args .command) es (s .args .time) (c .«open» .result)
     (c .before .before .before .acceptance .result) (c .before .before .before .acceptance .ensures block all)
-    (sym (c .before .before .before .before .before .lacks-needed .ensures block all) ∙ c .before .before .before .before .if1 .left) (sym (c .before .before .opens .ensures) ∙ c .before .if2 .taken) (c .«open» .ensures)
+    (sym (c .before .before .before .before .before .lacks-needed .ensures block all) ∙ c .before .before .before .before .if1 .left)
+    (sym (c .before .before .opens .ensures) ∙ c .before .if2 .taken) (c .«open» .ensures)
 
 closed-requires : tie.Need-closed-requires
 closed-requires c κs = search needs
@@ -58,7 +59,8 @@ returns-3 c =
     let all = s .pre .1 in
     entries-disconnect (s .args .self) (s .args .command) es (s .args .time) (c .accepted .result)
     (c .before .before .before .before .before .acceptance .result) (c .before .before .before .before .before .acceptance .ensures block all)
-    (c .before .before .if3 .taken) (c .accepted .ensures ∙ ap (λ z. accepted-by z (c .before .before .before .before .before .acceptance .result) (s .args .time)) (c .before .closed .ensures))
+    (c .before .before .if3 .taken) (c .accepted .ensures
+    ∙ ap (λ z. accepted-by z (c .before .before .before .before .before .acceptance .result) (s .args .time)) (c .before .closed .ensures))
 
 use-ids-requires : tie.Need-use-ids-requires
 use-ids-requires c κs = c .before .before .before .before .before .before .before .pre
@@ -71,7 +73,8 @@ keep-mode-requires c κs =
     let all = s .pre .1 in (
       s .pre .0,
       all,
-      uses-untouched (s .args .self) (uses-of (s .args .self) (s .args .command) es) (c .before .before .before .before .before .acceptance .result) (s .args .time) (c .before .use-ids .result)
+      uses-untouched (s .args .self) (uses-of (s .args .self) (s .args .command) es) (c .before .before .before .before .before .acceptance .result)
+          (s .args .time) (c .before .use-ids .result)
           (c .before .use-ids .ensures),
     )
 
@@ -83,8 +86,11 @@ returns-4 c =
     let all = s .pre .1 in
     entries-naming (s .args .self) (s .args .command) es (s .args .time) (c .keep-mode .result)
     (c .before .before .before .before .before .before .acceptance .result) (c .before .before .before .before .before .before .acceptance .ensures block all)
-    (sym (c .before .before .before .before .before .before .before .before .lacks-needed .ensures block all) ∙ c .before .before .before .before .before .before .before .if1 .left) (sym (c .before .before .before .before .before .opens .ensures) ∙ c .before .before .before .before .if2 .left) (ne-eqb _ _ (c .before .before .before .if3 .left))
-    (delivery-mode (s .args .self) (s .args .command) es (c .before .before .before .before .before .before .acceptance .result) (s .args .time) (c .before .before .use-ids .result) (c .keep-mode .result)
+    (sym (c .before .before .before .before .before .before .before .before .lacks-needed .ensures block all)
+    ∙ c .before .before .before .before .before .before .before .if1 .left) (sym (c .before .before .before .before .before .opens .ensures)
+    ∙ c .before .before .before .before .if2 .left) (ne-eqb _ _ (c .before .before .before .if3 .left))
+    (delivery-mode (s .args .self) (s .args .command) es (c .before .before .before .before .before .before .acceptance .result) (s .args .time)
+    (c .before .before .use-ids .result) (c .keep-mode .result)
     (c .before .before .use-ids .ensures) (c .before .if4 .taken) (c .keep-mode .ensures))
 
 drop-deliveries-requires : tie.Need-drop-deliveries-requires
@@ -95,8 +101,11 @@ drop-deliveries-requires c κs =
     let all = s .pre .1 in (
       s .pre .0,
       all,
-      dropping-has (s .args .self) (s .args .command) es (sym (c .before .before .before .before .before .before .before .before .lacks-needed .ensures block all) ∙ c .before .before .before .before .before .before .before .if1 .left) (c .if5 .taken),
-      uses-untouched (s .args .self) (uses-of (s .args .self) (s .args .command) es) (c .before .before .before .before .before .before .acceptance .result) (s .args .time) (c .before .before .use-ids .result)
+      dropping-has (s .args .self) (s .args .command) es
+          (sym (c .before .before .before .before .before .before .before .before .lacks-needed .ensures block all)
+          ∙ c .before .before .before .before .before .before .before .if1 .left) (c .if5 .taken),
+      uses-untouched (s .args .self) (uses-of (s .args .self) (s .args .command) es) (c .before .before .before .before .before .before .acceptance .result)
+          (s .args .time) (c .before .before .use-ids .result)
           (c .before .before .use-ids .ensures),
     )
 
@@ -107,9 +116,13 @@ returns-5 c =
     let es = listed (entries block) in
     let all = s .pre .1 in
     entries-naming (s .args .self) (s .args .command) es (s .args .time) (c .drop-deliveries .result)
-    (c .before .before .before .before .before .before .before .acceptance .result) (c .before .before .before .before .before .before .before .acceptance .ensures block all)
-    (sym (c .before .before .before .before .before .before .before .before .before .lacks-needed .ensures block all) ∙ c .before .before .before .before .before .before .before .before .if1 .left) (sym (c .before .before .before .before .before .before .opens .ensures) ∙ c .before .before .before .before .before .if2 .left) (ne-eqb _ _ (c .before .before .before .before .if3 .left))
-    (delivery-dropped (s .args .self) (s .args .command) es (c .before .before .before .before .before .before .before .acceptance .result) (s .args .time) (c .before .before .before .use-ids .result) (c .drop-deliveries .result)
+    (c .before .before .before .before .before .before .before .acceptance .result)
+    (c .before .before .before .before .before .before .before .acceptance .ensures block all)
+    (sym (c .before .before .before .before .before .before .before .before .before .lacks-needed .ensures block all)
+    ∙ c .before .before .before .before .before .before .before .before .if1 .left) (sym (c .before .before .before .before .before .before .opens .ensures)
+    ∙ c .before .before .before .before .before .if2 .left) (ne-eqb _ _ (c .before .before .before .before .if3 .left))
+    (delivery-dropped (s .args .self) (s .args .command) es (c .before .before .before .before .before .before .before .acceptance .result) (s .args .time)
+    (c .before .before .before .use-ids .result) (c .drop-deliveries .result)
     (c .before .before .before .use-ids .ensures) (c .before .if5 .taken) (c .drop-deliveries .ensures))
 
 settles-requires : tie.Need-settles-requires
@@ -123,9 +136,12 @@ settle-delivery-requires c κs =
     let all = s .pre .1 in (
       s .pre .0,
       all,
-      settling-has (s .args .self) (s .args .command) es (sym (c .before .before .before .before .before .before .before .before .before .before .lacks-needed .ensures block all) ∙ c .before .before .before .before .before .before .before .before .before .if1 .left)
+      settling-has (s .args .self) (s .args .command) es
+          (sym (c .before .before .before .before .before .before .before .before .before .before .lacks-needed .ensures block all)
+          ∙ c .before .before .before .before .before .before .before .before .before .if1 .left)
           (sym (c .before .settles .ensures) ∙ c .if6 .taken),
-      uses-untouched (s .args .self) (uses-of (s .args .self) (s .args .command) es) (c .before .before .before .before .before .before .before .before .acceptance .result) (s .args .time)
+      uses-untouched (s .args .self) (uses-of (s .args .self) (s .args .command) es)
+          (c .before .before .before .before .before .before .before .before .acceptance .result) (s .args .time)
           (c .before .before .before .before .use-ids .result) (c .before .before .before .before .use-ids .ensures),
     )
 
@@ -136,10 +152,16 @@ returns-6 c =
     let es = listed (entries block) in
     let all = s .pre .1 in
     entries-naming (s .args .self) (s .args .command) es (s .args .time) (c .settle-delivery .result)
-    (c .before .before .before .before .before .before .before .before .before .acceptance .result) (c .before .before .before .before .before .before .before .before .before .acceptance .ensures block all)
-    (sym (c .before .before .before .before .before .before .before .before .before .before .before .lacks-needed .ensures block all) ∙ c .before .before .before .before .before .before .before .before .before .before .if1 .left) (sym (c .before .before .before .before .before .before .before .before .opens .ensures) ∙ c .before .before .before .before .before .before .before .if2 .left) (ne-eqb _ _ (c .before .before .before .before .before .before .if3 .left))
-    (delivery-label (s .args .self) (s .args .command) es (c .before .before .before .before .before .before .before .before .before .acceptance .result) (s .args .time) (c .before .before .before .before .before .use-ids .result) (c .settle-delivery .result)
-    (c .before .before .before .before .before .use-ids .ensures) (ne-eqb _ _ (c .before .before .before .before .if4 .left)) (ne-eqb _ _ (c .before .before .before .if5 .left))
+    (c .before .before .before .before .before .before .before .before .before .acceptance .result)
+    (c .before .before .before .before .before .before .before .before .before .acceptance .ensures block all)
+    (sym (c .before .before .before .before .before .before .before .before .before .before .before .lacks-needed .ensures block all)
+    ∙ c .before .before .before .before .before .before .before .before .before .before .if1 .left)
+    (sym (c .before .before .before .before .before .before .before .before .opens .ensures)
+    ∙ c .before .before .before .before .before .before .before .if2 .left) (ne-eqb _ _ (c .before .before .before .before .before .before .if3 .left))
+    (delivery-label (s .args .self) (s .args .command) es (c .before .before .before .before .before .before .before .before .before .acceptance .result)
+    (s .args .time) (c .before .before .before .before .before .use-ids .result) (c .settle-delivery .result)
+    (c .before .before .before .before .before .use-ids .ensures) (ne-eqb _ _ (c .before .before .before .before .if4 .left))
+    (ne-eqb _ _ (c .before .before .before .if5 .left))
     (sym (c .before .before .settles .ensures) ∙ c .before .if6 .taken) (c .settle-delivery .ensures))
 
 returns-7 : tie.Need-returns-7
@@ -149,9 +171,14 @@ returns-7 c =
     let es = listed (entries block) in
     let all = s .pre .1 in
     entries-naming (s .args .self) (s .args .command) es (s .args .time) (c .before .before .before .before .use-ids .result)
-    (c .before .before .before .before .before .before .before .before .acceptance .result) (c .before .before .before .before .before .before .before .before .acceptance .ensures block all)
-    (sym (c .before .before .before .before .before .before .before .before .before .before .lacks-needed .ensures block all) ∙ c .before .before .before .before .before .before .before .before .before .if1 .left) (sym (c .before .before .before .before .before .before .before .opens .ensures) ∙ c .before .before .before .before .before .before .if2 .left) (ne-eqb _ _ (c .before .before .before .before .before .if3 .left))
-    (delivery-none (s .args .self) (s .args .command) es (c .before .before .before .before .before .before .before .before .acceptance .result) (s .args .time) (c .before .before .before .before .use-ids .result) (c .before .before .before .before .use-ids .result)
+    (c .before .before .before .before .before .before .before .before .acceptance .result)
+    (c .before .before .before .before .before .before .before .before .acceptance .ensures block all)
+    (sym (c .before .before .before .before .before .before .before .before .before .before .lacks-needed .ensures block all)
+    ∙ c .before .before .before .before .before .before .before .before .before .if1 .left)
+    (sym (c .before .before .before .before .before .before .before .opens .ensures) ∙ c .before .before .before .before .before .before .if2 .left)
+    (ne-eqb _ _ (c .before .before .before .before .before .if3 .left))
+    (delivery-none (s .args .self) (s .args .command) es (c .before .before .before .before .before .before .before .before .acceptance .result) (s .args .time)
+    (c .before .before .before .before .use-ids .result) (c .before .before .before .before .use-ids .result)
     (c .before .before .before .before .use-ids .ensures) (ne-eqb _ _ (c .before .before .before .if4 .left)) (ne-eqb _ _ (c .before .before .if5 .left))
     (sym (c .before .settles .ensures) ∙ c .if6 .left) refl)
 

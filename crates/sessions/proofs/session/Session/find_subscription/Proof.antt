@@ -11,7 +11,12 @@ use Rattle.sessions.proofs.session.Session.find_subscription.Tie as tie
 -- a valid session, with the sizes of its arrays
 kept : (c : tie.Start) → is-valid (c .args .self) ≡ true → Kept (c .args .self)
 kept c v =
-    kept-of (c .args .self) (record { subscriptions = record { ids-long = search needs; lens-long = search needs; modes-long = search needs }; transactions = record { ids-long = search needs; lens-long = search needs } })
+    kept-of (c .args .self)
+    (record {
+      subscriptions = record { ids-long = search needs; lens-long = search needs; modes-long = search needs };
+      transactions = record
+          { ids-long = search needs; lens-long = search needs };
+    })
     (record { labels-long = search needs; lens-long = search needs; places-long = search needs }) v
 
 slice-aggregate-find : tie.Need-slice-aggregate-find
@@ -21,7 +26,9 @@ slice-aggregate-find-2 : tie.Need-slice-aggregate-find-2
 slice-aggregate-find-2 c = search needs
 
 find-requires : tie.Need-find-requires
-find-requires c κs = subscriptions-fit (c .before .before .before .before .before .args .self) (kept (c .before .before .before .before .before) (c .before .before .before .before .before .pre) .ids)
+find-requires c κs =
+    subscriptions-fit (c .before .before .before .before .before .args .self)
+    (kept (c .before .before .before .before .before) (c .before .before .before .before .before .pre) .ids)
 
 returns : tie.Need-returns
 returns c = c .find .ensures

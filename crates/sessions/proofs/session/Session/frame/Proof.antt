@@ -24,10 +24,12 @@ kept-requires c κs = search needs
 
 returns : tie.Need-returns
 returns c =
-    let s = c .before .before .before .before .before .before .before .before .before .before .before .before .before .before .before .before .before .before .before .before .before .before .before .before .before .before .before .before in
+    let s = c .before .before .before .before .before .before .before .before .before .before .before .before .before .before .before .before
+    .before .before .before .before .before .before .before .before .before .before .before .before in
     let a = s .args in
     let w = whole-valid (a .t1) _ _ _
-    (c .before .before .before .before .before .before .before .before .before .before .before .before .before .before .before .before .before .before .before .before .before .before .before .before .before .before .has-valid-numbers .ensures)
+    (c .before .before .before .before .before .before .before .before .before .before .before .before .before .before .before .before .before
+    .before .before .before .before .before .before .before .before .before .has-valid-numbers .ensures)
     (c .before .before .before .before .before .before .before .before .before .before .before .before .before .before .are-valid-ids .ensures)
     (c .before .before .are-valid .ensures) in
     frame-gives (a .t1) (a .command) (now (a .block)) (a .time) _
@@ -44,11 +46,14 @@ kept-requires-2 c κs = search needs
 
 returns-2 : tie.Need-returns-2
 returns-2 c =
-    let s = c .before .before .before .before .before .before .before .before .before .before .before .before .before .before .before .before .before .before .before .before .before .before .before .before .before .before .before .before .before .before .before .before in
+    let s = c .before .before .before .before .before .before .before .before .before .before .before .before .before .before .before .before
+    .before .before .before .before .before .before .before .before .before .before .before .before .before .before .before .before in
     let a = s .args in
     let w = whole-valid (a .t1) _ _ _
-    (c .before .before .before .before .before .before .before .before .before .before .before .before .before .before .before .before .before .before .before .before .before .before .before .before .before .before .before .before .before .before .has-valid-numbers .ensures)
-    (c .before .before .before .before .before .before .before .before .before .before .before .before .before .before .before .before .before .before .are-valid-ids .ensures)
+    (c .before .before .before .before .before .before .before .before .before .before .before .before .before .before .before .before .before
+    .before .before .before .before .before .before .before .before .before .before .before .before .before .has-valid-numbers .ensures)
+    (c .before .before .before .before .before .before .before .before .before .before .before .before .before .before .before .before .before
+    .before .are-valid-ids .ensures)
     (c .before .before .before .before .before .before .are-valid .ensures) in
     frame-gives (a .t1) (a .command) (now (a .block)) (a .time) _
     (gives-on _ _ (ap not (sym w) ∙ c .before .before .before .before .before .if1 .left)
@@ -64,44 +69,56 @@ refused-requires c κs = search needs
 
 returns-3 : tie.Need-returns-3
 returns-3 c =
-    let s = c .before .before .before .before .before .before .before .before .before .before .before .before .before .before .before .before .before .before .before .before .before .before .before .before .before .before .before .before .before .before .before .before .before .before in
+    let s = c .before .before .before .before .before .before .before .before .before .before .before .before .before .before .before .before
+    .before .before .before .before .before .before .before .before .before .before .before .before .before .before .before .before .before .before in
     let a = s .args in
     let w = whole-valid (a .t1) _ _ _
-    (c .before .before .before .before .before .before .before .before .before .before .before .before .before .before .before .before .before .before .before .before .before .before .before .before .before .before .before .before .before .before .before .before .has-valid-numbers .ensures)
-    (c .before .before .before .before .before .before .before .before .before .before .before .before .before .before .before .before .before .before .before .before .are-valid-ids .ensures)
+    (c .before .before .before .before .before .before .before .before .before .before .before .before .before .before .before .before .before
+    .before .before .before .before .before .before .before .before .before .before .before .before .before .before .before .has-valid-numbers .ensures)
+    (c .before .before .before .before .before .before .before .before .before .before .before .before .before .before .before .before .before
+    .before .before .before .are-valid-ids .ensures)
     (c .before .before .before .before .before .before .before .before .are-valid .ensures) in
     frame-gives (a .t1) (a .command) (now (a .block)) (a .time) _
     (gives-on _ _ (ap not (sym w) ∙ c .before .before .before .before .before .before .before .if1 .left)
     (gives-on _ _
-    (ap₂ (λ x y. x || not y) (sym (c .before .before .before .before .before .is-unknown .ensures)) (sym (c .before .before .before .before .before .before .note .ensures .well-formed))
+    (ap₂ (λ x y. x || not y) (sym (c .before .before .before .before .before .is-unknown .ensures))
+    (sym (c .before .before .before .before .before .before .note .ensures .well-formed))
     ∙ c .before .before .before .if2 .left)
     (phase-refuses _ _ _ _ _ (c .before .before .phase-refusal .ensures) (c .before .if3 .taken) (c .refused .ensures))))
 
 act-requires : tie.Need-act-requires
 act-requires c κs =
-    let s = c .before .before .before .before .before .before .before .before .before .before .before .before .before .before .before .before .before .before .before .before .before .before .before .before .before .before .before .before .before .before .before .before .before in
+    let s = c .before .before .before .before .before .before .before .before .before .before .before .before .before .before .before .before
+    .before .before .before .before .before .before .before .before .before .before .before .before .before .before .before .before .before in
     let a = s .args in
     let w = whole-valid (a .t1) _ _ _
-    (c .before .before .before .before .before .before .before .before .before .before .before .before .before .before .before .before .before .before .before .before .before .before .before .before .before .before .before .before .before .before .before .has-valid-numbers .ensures)
-    (c .before .before .before .before .before .before .before .before .before .before .before .before .before .before .before .before .before .before .before .are-valid-ids .ensures)
+    (c .before .before .before .before .before .before .before .before .before .before .before .before .before .before .before .before .before
+    .before .before .before .before .before .before .before .before .before .before .before .before .before .before .has-valid-numbers .ensures)
+    (c .before .before .before .before .before .before .before .before .before .before .before .before .before .before .before .before .before
+    .before .before .are-valid-ids .ensures)
     (c .before .before .before .before .before .before .before .are-valid .ensures) in
     let noted = c .before .before .before .before .before .note .ensures in (
       sym w ∙ not-false _ (c .before .before .before .before .before .before .if1 .left),
-      noted .noted (sym (noted .well-formed) ∙ not-false _ (or-false-right (c .before .before .before .before .is-unknown .result) _ (c .before .before .if2 .left))),
+      noted .noted (sym (noted .well-formed)
+          ∙ not-false _ (or-false-right (c .before .before .before .before .is-unknown .result) _ (c .before .before .if2 .left))),
     )
 
 returns-4 : tie.Need-returns-4
 returns-4 c =
-    let s = c .before .before .before .before .before .before .before .before .before .before .before .before .before .before .before .before .before .before .before .before .before .before .before .before .before .before .before .before .before .before .before .before .before .before in
+    let s = c .before .before .before .before .before .before .before .before .before .before .before .before .before .before .before .before
+    .before .before .before .before .before .before .before .before .before .before .before .before .before .before .before .before .before .before in
     let a = s .args in
     let w = whole-valid (a .t1) _ _ _
-    (c .before .before .before .before .before .before .before .before .before .before .before .before .before .before .before .before .before .before .before .before .before .before .before .before .before .before .before .before .before .before .before .before .has-valid-numbers .ensures)
-    (c .before .before .before .before .before .before .before .before .before .before .before .before .before .before .before .before .before .before .before .before .are-valid-ids .ensures)
+    (c .before .before .before .before .before .before .before .before .before .before .before .before .before .before .before .before .before
+    .before .before .before .before .before .before .before .before .before .before .before .before .before .before .before .has-valid-numbers .ensures)
+    (c .before .before .before .before .before .before .before .before .before .before .before .before .before .before .before .before .before
+    .before .before .before .are-valid-ids .ensures)
     (c .before .before .before .before .before .before .before .before .are-valid .ensures) in
     frame-gives (a .t1) (a .command) (now (a .block)) (a .time) _
     (gives-on _ _ (ap not (sym w) ∙ c .before .before .before .before .before .before .before .if1 .left)
     (gives-on _ _
-    (ap₂ (λ x y. x || not y) (sym (c .before .before .before .before .before .is-unknown .ensures)) (sym (c .before .before .before .before .before .before .note .ensures .well-formed))
+    (ap₂ (λ x y. x || not y) (sym (c .before .before .before .before .before .is-unknown .ensures))
+    (sym (c .before .before .before .before .before .before .note .ensures .well-formed))
     ∙ c .before .before .before .if2 .left)
     (phase-passes _ _ _ _ _ (c .before .before .phase-refusal .ensures) (c .before .if3 .left) (c .act .ensures))))
 

@@ -8,7 +8,12 @@ use Rattle.sessions.proofs.session.Session.settle.Tie as tie
 
 -- the sizes of its arrays
 sized : (c : tie.Start) → Sized (c .args .self)
-sized c = record { subscriptions = record { ids-long = search needs; lens-long = search needs; modes-long = search needs }; transactions = record { ids-long = search needs; lens-long = search needs } }
+sized c =
+    record {
+      subscriptions = record { ids-long = search needs; lens-long = search needs; modes-long = search needs };
+      transactions = record
+          { ids-long = search needs; lens-long = search needs };
+    }
 
 enum-told : tie.Need-enum-told
 enum-told c = search needs
@@ -20,7 +25,9 @@ slice-aggregate-settle-2 : tie.Need-slice-aggregate-settle-2
 slice-aggregate-settle-2 c = search needs
 
 settle-requires : tie.Need-settle-requires
-settle-requires c κs = fits-of (c .before .before .before .before .before .before .before .args .self) (sized (c .before .before .before .before .before .before .before)) (c .before .before .before .before .before .before .before .pre) Subscriptions
+settle-requires c κs =
+    fits-of (c .before .before .before .before .before .before .before .args .self) (sized (c .before .before .before .before .before .before .before))
+    (c .before .before .before .before .before .before .before .pre) Subscriptions
 
 enum-told-2 : tie.Need-enum-told-2
 enum-told-2 c = search needs
@@ -32,7 +39,9 @@ slice-aggregate-settle-4 : tie.Need-slice-aggregate-settle-4
 slice-aggregate-settle-4 c = search needs
 
 settle-requires-2 : tie.Need-settle-requires-2
-settle-requires-2 c κs = fits-of (c .before .before .before .before .before .before .before .args .self) (sized (c .before .before .before .before .before .before .before)) (c .before .before .before .before .before .before .before .pre) Transactions
+settle-requires-2 c κs =
+    fits-of (c .before .before .before .before .before .before .before .args .self) (sized (c .before .before .before .before .before .before .before))
+    (c .before .before .before .before .before .before .before .pre) Transactions
 
 returns : tie.Need-returns
 returns c = rw (c .before .before .before .before .before .enum-told .given .1) (c .settle .ensures)

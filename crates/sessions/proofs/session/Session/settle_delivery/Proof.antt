@@ -24,7 +24,9 @@ settle-label-requires c κs =
     (s .pre .0, s .pre .3)
 
 returns : tie.Need-returns
-returns c = subst (λ o. GivesLabel (c .before .before .before .before .args .self) o (c .before .before .before .before .args .named) (c .settle-label .result)) (sym (located-there (c .before .before .locate .ensures) (c .before .before .before .before .pre .2))) (c .settle-label .ensures)
+returns c =
+    subst (λ o. GivesLabel (c .before .before .before .before .args .self) o (c .before .before .before .before .args .named) (c .settle-label .result))
+    (sym (located-there (c .before .before .locate .ensures) (c .before .before .before .before .pre .2))) (c .settle-label .ensures)
 
 pub settle-delivery-spec : {M : Type 1} → statement M
 settle-delivery-spec =

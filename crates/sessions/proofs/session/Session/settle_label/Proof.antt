@@ -53,8 +53,11 @@ settled-requires : tie.Need-settled-requires
 settled-requires c κs =
     let s = c .before .before .before .before .before .before .before .before .before .before in
     let a = s .args in
-    let held = kept s (s .pre .0) in
-    (laid-of (a .self) held, label-found (a .self) held _ _ (says-at _ _ _ (c .before .before .before .before .find .ensures) (c .before .before .i .given .1)) .0)
+    let held = kept s (s .pre .0) in (
+      laid-of (a .self) held,
+      label-found (a .self) held _ _
+          (says-at _ _ _ (c .before .before .before .before .find .ensures) (c .before .before .i .given .1)) .0,
+    )
 
 with-deliveries-requires : tie.Need-with-deliveries-requires
 with-deliveries-requires c κs = search needs
@@ -73,8 +76,15 @@ returns-2 c =
     let l = now (a .label) in
     let told = c .before .before .before .before .before .before .before .before .before .enum-told .given in
     let same-yet : Unchanged (a .self) (a .named .session) = subst (λ x. untouched x (a .self) (a .named)) (told .1) (s .pre .1) in
-    label-settled (a .self) (some l) (a .named) (c .with-deliveries .result) (label-found (a .self) held l _ (says-at _ _ _ (c .before .before .before .before .before .before .find .ensures) (c .before .before .before .before .i .given .1)) .1) (told .0 .0) (told .1)
-    (c .with-deliveries .ensures ∙ ap (outcome-deliveries (a .named)) (c .before .settled .ensures l (says-at _ _ _ (c .before .before .before .before .before .before .find .ensures) (c .before .before .before .before .i .given .1))) ∙ outcome-settled (a .self) (a .named) same-yet _)
+    label-settled (a .self) (some l) (a .named) (c .with-deliveries .result)
+    (label-found (a .self) held l _
+    (says-at _ _ _ (c .before .before .before .before .before .before .find .ensures) (c .before .before .before .before .i .given .1)) .1) (told .0 .0)
+    (told .1)
+    (c .with-deliveries .ensures
+    ∙ ap (outcome-deliveries (a .named))
+    (c .before .settled .ensures l
+    (says-at _ _ _ (c .before .before .before .before .before .before .find .ensures) (c .before .before .before .before .i .given .1)))
+    ∙ outcome-settled (a .self) (a .named) same-yet _)
 
 returns-3 : tie.Need-returns-3
 returns-3 c =

@@ -58,7 +58,9 @@ returns-2 c =
     let s = c .before .before .before .before .before .before .before .before in
     let a = s .args in
     let held = kept s (s .pre .0) in
-    c .with-mode .ensures ∙ outcome-entered (a .self) (a .named) (s .pre .1) _ _ (free-is (a .self) held ∙ says-at _ _ _ (c .before .before .before .before .find-free .ensures) (c .before .before .k .given .1))
+    c .with-mode .ensures
+    ∙ outcome-entered (a .self) (a .named) (s .pre .1) _ _ (free-is (a .self) held
+    ∙ says-at _ _ _ (c .before .before .before .before .find-free .ensures) (c .before .before .k .given .1))
 
 returns-3 : tie.Need-returns-3
 returns-3 c =

@@ -70,12 +70,14 @@ with-id-requires : tie.Need-with-id-requires
 with-id-requires c κs =
     let s = c .before .before .before .before .before .before .before in
     naming-asked (s .args .self) (sized s) (s .pre .0) (s .args .naming) (now (s .args .block)) _
-    (c .before .before .locate .ensures) _ (rw (c .before .before .before .before .settled2 .given .1) at (s .pre .2)) _ (ap (c .before .before .locate .result .start +_) (c .before .stored-length .ensures))
+    (c .before .before .locate .ensures) _ (rw (c .before .before .before .before .settled2 .given .1) at (s .pre .2)) _
+    (ap (c .before .before .locate .result .start +_) (c .before .stored-length .ensures))
 
 returns : tie.Need-returns
 returns c =
     let s = c .before .before .before .before in
-    λ z. absurd (refused-none (s .args .self) (use-named (s .args .naming) (listed (entries (now (s .args .block))))) _ _ (c .before .settled .given .1) (s .pre .2) z)
+    λ z. absurd (refused-none (s .args .self) (use-named (s .args .naming) (listed (entries (now (s .args .block))))) _ _ (c .before .settled .given .1)
+    (s .pre .2) z)
 
 returns-2 : tie.Need-returns-2
 returns-2 c =
@@ -87,7 +89,8 @@ returns-3 : tie.Need-returns-3
 returns-3 c =
     let s = c .before .before .before .before .before .before .before .before in
     λ z. c .with-id .ensures ∙ naming-put (s .args .self) (sized s) (s .pre .0) (s .args .naming) (now (s .args .block)) _
-    (c .before .before .before .locate .ensures) _ (rw (c .before .before .before .before .before .settled2 .given .1) at (s .pre .2)) _ (ap (c .before .before .before .locate .result .start +_) (c .before .before .stored-length .ensures))
+    (c .before .before .before .locate .ensures) _ (rw (c .before .before .before .before .before .settled2 .given .1) at (s .pre .2)) _
+    (ap (c .before .before .before .locate .result .start +_) (c .before .before .stored-length .ensures))
 
 pub with-settled-spec : {M : Type 1} → statement M
 with-settled-spec =

@@ -67,8 +67,11 @@ dropped-requires : tie.Need-dropped-requires
 dropped-requires c κs =
     let s = c .before .before .before .before .before .before .before .before .before .before .before .before in
     let a = s .args in
-    let held = kept s (s .pre .0) in
-    (laid-of (a .self) held, place-inside (a .self) held (λ x. same x (now (a .id))) _ (says-at _ _ _ (c .before .before .before .before .find-subscription .ensures) (c .before .before .k .given .1)))
+    let held = kept s (s .pre .0) in (
+      laid-of (a .self) held,
+      place-inside (a .self) held (λ x. same x (now (a .id))) _
+          (says-at _ _ _ (c .before .before .before .before .find-subscription .ensures) (c .before .before .k .given .1)),
+    )
 
 with-deliveries-requires : tie.Need-with-deliveries-requires
 with-deliveries-requires c κs = search needs
@@ -82,7 +85,8 @@ returns-2 c =
     let a = s .args in
     let held = kept s (s .pre .0) in
     c .with-deliveries .ensures ∙ ap₂ outcome-deliveries (c .before .before .with-mode .ensures) (c .before .dropped .ensures)
-    ∙ outcome-freed (a .self) (a .named) (s .pre .1) (place-named (a .self) (some (now (a .id)))) _ (says-at _ _ _ (c .before .before .before .before .before .before .find-subscription .ensures) (c .before .before .before .before .k .given .1))
+    ∙ outcome-freed (a .self) (a .named) (s .pre .1) (place-named (a .self) (some (now (a .id)))) _
+    (says-at _ _ _ (c .before .before .before .before .before .before .find-subscription .ensures) (c .before .before .before .before .k .given .1))
 
 returns-3 : tie.Need-returns-3
 returns-3 c =
