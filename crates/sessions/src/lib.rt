@@ -1,6 +1,6 @@
 // Sessions: versions, heart-beats, the clock, and one client's session.
 mod store; // ids in a flat store
-pub mod delivery; // ack modes and is-pending deliveries
+pub mod delivery; // pending deliveries
 mod value; // header values: accept-version, heart-beat and ack
 mod clock; // time passed
 pub mod commands; // their numbers
