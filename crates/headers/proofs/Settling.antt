@@ -1,4 +1,5 @@
 -- Answers settled by checks in order: laws. Assumes nothing.
+--     all-pass, all-accepted  accepted exactly where every check passes
 --     refusal, acceptance     what a buffer call owes at its end, from the answer alone
 --     kept-..                 a record of which octets are taken as they are
 --     written-..               a record that is written says the lengths of its entry
@@ -13,14 +14,14 @@ use lib.ListN.{length, take, drop, length-append, take-append-drop, length-drop,
 use lib.Seq.{take-all}
 use lib.Dec.{eqb, leb, ltb, eqb·suc-zero}
 use borrow.Author.Tests.{leb-true, leb-false, le-leb, lt-leb, ltb-true, lt-ltb, le-ltb}
-use Rattle.headers.specs.Rows.{empty, every}
+use Rattle.headers.specs.Rows.{empty, every, All}
 use Rattle.headers.specs.Text.{divides, stops, is-utf8}
 use Rattle.headers.specs.Escapes.{decode, encode, escaped, writable}
 use Rattle.headers.specs.Numbers.{shortest}
 use Rattle.headers.specs.Block.{Entry, entry-record, Short, is-short, entries}
 use Rattle.headers.specs.Stretches.{not-back, kept, unescaped}
 use Rattle.headers.specs.Lines.{line-max, entry-of, decoded-entry, raw-line, written-line, can-stand, can-write}
-use Rattle.headers.specs.Answers.{Answer, accepted, refused, settle, left-in, written-record, lacks-room, decoded-answer, writable-answer, length-answer, encoded-answer, line-answer, decimal-answer}
+use Rattle.headers.specs.Answers.{Answer, accepted, refused, Check, settle, left-in, written-record, lacks-room, decoded-answer, writable-answer, length-answer, encoded-answer, line-answer, decimal-answer}
 use Rattle.headers.specs.declared.text.Style.{Style}
 use Rattle.headers.specs.declared.text.Field.{Field}
 use Rattle.headers.specs.declared.text.Field.the-variants.{Name, Value}
@@ -28,6 +29,33 @@ use Rattle.headers.proofs.Rows.{and-left, and-right, and-no, refuted, e
 use Rattle.headers.proofs.Coding.{kept-clear, decode-off, encode-long, encode-append}
 use Rattle.headers.proofs.Blocks.{length-record}
 use Rattle.headers.proofs.LaidOut.{entries-record}
+
+-- ---- checks in order
+
+-- a check passes
+abbrev pub Passes : Check → Type 0
+Passes c = c .fails ≡ false
+
+accepted-refused : (v : List ℕ) (k : ℕ) → accepted v ≡ refused k → ⊥
+accepted-refused v k e = let z : _≡_ {A = ℕ} 0 1 = cc in omega arith
+
+-- where the answer is accepted, every check passes
+pub all-pass : (cs : List Check) (v w : List ℕ) → settle cs v ≡ accepted w → All Passes cs
+all-pass [] v w e = tt
+all-pass (c ∷ cs) v w e =
+    by (c .fails) refl e (all-pass cs v w)
+  where
+    by : (t : Bool) → c .fails ≡ t → cond t (refused (c .number)) (settle cs v) ≡ accepted w → (settle cs v ≡ accepted w → All Passes cs)
+        → Passes c × All Passes cs
+    by true f h go = absurd (accepted-refused w (c .number) (sym h))
+    by false f h go = (f, go h)
+
+-- where every check passes, the answer is accepted
+pub all-accepted : (cs : List Check) (v : List ℕ) → All Passes cs → settle cs v ≡ accepted v
+all-accepted [] v p = refl
+all-accepted (c ∷ cs) v p = ap (λ t. cond t (refused (c .number)) (settle cs v)) (p .0) ∙ all-accepted cs v (p .1)
+
+-- ---- what a call leaves in a buffer
 
 -- refused: the buffer is as before
 pub refusal : (A : Answer) (k : ℕ) (R d : List ℕ) → A ≡ refused k → (refused k ≡ A) × (d ≡ left-in A R d)

@@ -1,5 +1,4 @@
--- Laws of checks in order: what an accepted answer says of each; what an accepted frame passed; what a call leaves. Assumes nothing.
---     all-pass, all-accepted                accepted exactly where every check passes
+-- Laws of checks in order: what an accepted frame passed; what a call leaves. Assumes nothing.
 --     left-case                             what holds of the session before, closed, and after an accepted call holds of what a call leaves
 --     frame-passed, changed-settles         what an accepted frame passed, and the id that it enters or frees
 --     deliver-passed                        what a delivery that was recorded passed
@@ -15,6 +14,7 @@ use Rattle.headers.specs.Rows.{All, any, empty, first-of}
 use Rattle.headers.specs.Block.{Entry, entries, listed}
 use Rattle.headers.specs.Answers.{Answer, accepted, refused, Check, settle}
 use Rattle.headers.proofs.Rows.{cond-case, or-false-left, or-false-right}
+use Rattle.headers.proofs.Settling.{Passes, all-pass, all-accepted}
 use Rattle.sessions.specs.Stores.{live, changes, bad-length, live-again, not-live, no-room, use-checks}
 use Rattle.frames.specs.Grammar.{number, SUBSCRIBE, UNSUBSCRIBE}
 use Rattle.sessions.specs.Headers.{IdUse, id-use, put-before, changed-id, subscription, value-of}
@@ -27,28 +27,6 @@ use Rattle.sessions.specs.Answers.{acceptance-says}
 use Rattle.sessions.specs.Calls.{left-by, uses-of, out-of-phase, lacks-needed, id-checks, delivery-checks, record-checks, phase-checks, header-checks}
 use Rattle.sessions.specs.Calls.{is-auto, place-named, deliver-checks, opening-checks, entry-checks, frame-checks, acceptance-of, frame-answer}
 use Rattle.sessions.specs.declared.session.Session.{Session}
-
--- a check passes
-abbrev pub Passes : Check → Type 0
-Passes c = c .fails ≡ false
-
-accepted-refused : (v : List ℕ) (k : ℕ) → accepted v ≡ refused k → ⊥
-accepted-refused v k e = let z : _≡_ {A = ℕ} 0 1 = cc in omega arith
-
--- where the answer is accepted, every check passes
-pub all-pass : (cs : List Check) (v w : List ℕ) → settle cs v ≡ accepted w → All Passes cs
-all-pass [] v w e = tt
-all-pass (c ∷ cs) v w e =
-    by (c .fails) refl e (all-pass cs v w)
-  where
-    by : (t : Bool) → c .fails ≡ t → cond t (refused (c .number)) (settle cs v) ≡ accepted w → (settle cs v ≡ accepted w → All Passes cs) → Passes c × All Passes cs
-    by true f h go = absurd (accepted-refused w (c .number) (sym h))
-    by false f h go = (f, go h)
-
--- where every check passes, the answer is accepted
-pub all-accepted : (cs : List Check) (v : List ℕ) → All Passes cs → settle cs v ≡ accepted v
-all-accepted [] v p = refl
-all-accepted (c ∷ cs) v p = ap (λ t. cond t (refused (c .number)) (settle cs v)) (p .0) ∙ all-accepted cs v (p .1)
 
 -- what holds of all of two lists, one after the other, holds of all of each
 all-parts : (cs ds : List Check) → All Passes (cs ++ ds) → All Passes cs × All Passes ds

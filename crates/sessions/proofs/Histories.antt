@@ -32,7 +32,8 @@ use Rattle.sessions.specs.declared.parts.SubscriptionStore.{Subscription
 use Rattle.sessions.specs.declared.parts.TransactionStore.{TransactionStore}
 use Rattle.sessions.specs.declared.session.Session.{Session}
 use Rattle.sessions.proofs.Rows.{or-either}
-use Rattle.sessions.proofs.Checks.{Passes, Passed, frame-passed, changed-settles, left-case}
+use Rattle.headers.proofs.Settling.{Passes}
+use Rattle.sessions.proofs.Checks.{Passed, frame-passed, changed-settles, left-case}
 use Rattle.sessions.proofs.Stores.{are-short, ids-laid, used-short, use-short, used-live, zeros-ids, none-live}
 use Rattle.sessions.proofs.Keeping.{SameStores, Held, held-short, held-distinct}
 use Rattle.sessions.proofs.Kept.{Kept, kept-next, kept-made}

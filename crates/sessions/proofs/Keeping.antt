@@ -44,7 +44,8 @@ use Rattle.sessions.specs.declared.command.Header.the-variants.{HeartBea
 use Rattle.sessions.specs.declared.command.Kind.{Kind}
 use Rattle.sessions.specs.declared.command.Kind.the-variants.{Subscriptions, Transactions}
 use Rattle.sessions.specs.declared.session.Session.{Session}
-use Rattle.sessions.proofs.Checks.{Passes, all-pass, Passed, frame-passed, changed-settles, left-case}
+use Rattle.headers.proofs.Settling.{Passes, all-pass}
+use Rattle.sessions.proofs.Checks.{Passed, frame-passed, changed-settles, left-case}
 use Rattle.sessions.proofs.Stores.{length-ids, valid-fits, are-short, ids-short, length-laid, laid-valid, valid-distinct, used-length}
 use Rattle.sessions.proofs.Stores.{used-short, used-distinct, use-short, zeros-valid}
 

@@ -11,7 +11,7 @@ use lib.ListN.{length, take, drop, getD, set, replicate, length-append, length-m
 use lib.Seq.{take-at, drop-at, length-take-le, getD-set-other}
 use borrow.Author.Tests.{leb-true, le-leb, not-true, eqb-false, ne-eqb}
 use Rattle.headers.specs.Rows.{every, any, empty, same, All}
-use Rattle.headers.proofs.Rows.{and-left, and-right, cond-case, every-replicate, empty-eqb, or-yes, or-false-left, or-false-right}
+use Rattle.headers.proofs.Rows.{and-left, and-right, cond-case, every-replicate, same-apart, empty-eqb, or-yes, or-false-left, or-false-right}
 use Rattle.stores.specs.Places.{is-zero}
 use Rattle.sessions.specs.Stores.{ids, laid, lengths, distinct, live, valid-store}
 use Rattle.sessions.specs.Sessions.{SizedDeliveries}
@@ -20,7 +20,6 @@ use Rattle.sessions.specs.Deliveries.{filled, labelled, deliveries-of, n
 use Rattle.sessions.specs.Deliveries.{known-modes, idle-modes, valid-labels, acknowledging, valid-places, valid-modes, valid-pending}
 use Rattle.sessions.specs.Places.{Fits}
 use Rattle.sessions.specs.declared.delivery.Deliveries.{Deliveries}
-use Rattle.sessions.proofs.Rows.{same-apart}
 use Rattle.stores.proofs.Filling.{zeros}
 use Rattle.sessions.proofs.Stores.{are-short, ids-laid, length-laid, laid-valid, ids-short, length-ids, lengths-ids}
 use Rattle.sessions.proofs.Stores.{valid-distinct, valid-clean, valid-short, valid-fits}

@@ -6,7 +6,7 @@ use mathlib.Core.List.{List, [], _∷_}
 use Prim.Native.Nat.{ℕ}
 use borrow.Author.Tests.{not-true}
 use Rattle.headers.specs.Rows.{empty, same}
-use Rattle.headers.proofs.Rows.{or-false-left, refuted, same-eq, same-self, not-empty}
+use Rattle.headers.proofs.Rows.{or-false-left, same-apart, not-empty}
 
 -- ---- choices of tests
 
@@ -45,9 +45,6 @@ nil-apart (a ∷ x) n = refl
 pub empty-apart : (z x : List ℕ) → x ≢ [] → empty z ≡ true → same z x ≡ false
 empty-apart [] x n e = nil-apart x n
 empty-apart (a ∷ z) x n e = absurd (true≢false (sym e))
-
-pub same-apart : (x y : List ℕ) → same x y ≡ false → same y x ≡ false
-same-apart x y h = refuted (same y x) (λ e. true≢false (sym (same-self x) ∙ ap (same x) (sym (same-eq y x e)) ∙ h))
 
 pub apart : (x y : List ℕ) (c : Bool) → empty x ≡ false → empty y || not (same x y || c) ≡ true → same y x ≡ false
 apart x [] c e h = nil-apart x (not-empty x e)

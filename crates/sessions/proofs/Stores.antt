@@ -27,7 +27,7 @@ use Rattle.sessions.specs.Stores.{ids, laid, lengths, short, clean, live
 use Rattle.sessions.specs.Places.{Fits, put-in}
 use Rattle.sessions.specs.Histories.{by-use}
 use Rattle.sessions.proofs.Rows.{or-later, or-else, or-swap, or-cond, cond-either, nil-apart, empty-apart, apart}
-use Rattle.sessions.proofs.Checks.{Passes, all-pass}
+use Rattle.headers.proofs.Settling.{Passes, all-pass}
 use Rattle.sessions.specs.declared.store.Use.{Use}
 use Rattle.sessions.specs.declared.store.Use.the-variants.{Nothing, Need, Enter, Free}
 

@@ -26,7 +26,7 @@ use Rattle.sessions.specs.declared.command.Kind.{Kind}
 use Rattle.sessions.specs.declared.command.Kind.the-variants.{Subscriptions, Transactions}
 use Rattle.sessions.specs.declared.session.Session.{Session}
 use Rattle.sessions.proofs.Stores.{length-ids, lengths-ids, laid-ids, put-laid, valid-fits, valid-clean}
-use Rattle.sessions.proofs.Checks.{all-pass}
+use Rattle.headers.proofs.Settling.{all-pass}
 
 -- the store of a kind, and its lengths
 abbrev pub store-of : Kind → Session → List ℕ

@@ -1,6 +1,6 @@
 -- A text in a place: its octets, and 0 after it. Assumes nothing.
 --     padded-long, padded-at, padded-take, filled-all   the octets of a place
---     zeros                                             a row of zeros
+--     zeros, zeros-zero                                 a row of zeros
 --     fill-more, fill-end                               a loop that fills a place from the front
 --     put-placed                                        what a store holds when one of its places is filled
 use mathlib.Core.Path.{_≡_, refl, sym, ap, ap₂, _∙_}
@@ -14,7 +14,7 @@ use lib.Seq.{drop-drop, take-all, take-take, length-take-le}
 use borrow.Author.Tests.{eqb-true}
 use borrow.Rule.Slice.PartMut.{putMid, midOf, mid-len}
 use Rattle.headers.proofs.Put.{copy-more}
-use Rattle.headers.proofs.Rows.{and-left, and-right}
+use Rattle.headers.proofs.Rows.{and-left, and-right, every-replicate}
 use Rattle.stores.specs.Places.{is-zero, padded, filled}
 
 pub padded-long : (w : ℕ) (x : List ℕ) → length x ≤ w → length (padded w x) ≡ w
@@ -42,6 +42,9 @@ padded-at (a ∷ x) n (suc i) = padded-at x n i
 pub zeros : (s : List ℕ) → is-zero s ≡ true → s ≡ replicate (length s) 0
 zeros [] h = refl
 zeros (x ∷ s) h = ap₂ (_∷_) (eqb-true x 0 (and-left (eqb x 0) (is-zero s) h)) (zeros s (and-right (eqb x 0) (is-zero s) h))
+
+pub zeros-zero : (n : ℕ) → is-zero (replicate n 0) ≡ true
+zeros-zero n = every-replicate (λ y. eqb y 0) n 0 refl
 
 -- a front of l octets with only 0 after it up to w
 pub padded-take : (w l : ℕ) (s : List ℕ) → l ≤ w → w ≤ length s → is-zero (drop l (take w s)) ≡ true → padded w (take l s) ≡ take w s

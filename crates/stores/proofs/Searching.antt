@@ -1,16 +1,17 @@
 -- Searches for the first element that passes a test, over any element. Assumes nothing.
 --     first-hit, first-miss, first-end    a search, one element on
 --     told-any                            whether it finds
---     found-at, first-at                  what it finds passes the test, and is what `replaced` replaces
+--     first-map, first-map-on             a search among what elements are mapped to
+--     found-at, first-at, found-here      what it finds passes the test, and is what `replaced` replaces
 use mathlib.Core.Path.{_≡_, refl, sym, ap, _∙_}
 use mathlib.Core.Bool.{Bool, true, false, cond, _||_}
 use mathlib.Core.Option.{Option, none, some}
-use mathlib.Core.List.{List, [], _∷_}
+use mathlib.Core.List.{List, [], _∷_, map}
 use Prim.Native.Nat.{ℕ, suc, _+_, _<_}
 use native.Mathlib.Numerals.{add-one}
 use native.Mathlib.Omega.{arith}
 use lib.ListN.{length, getD, set}
-use Rattle.headers.specs.Rows.{any}
+use Rattle.headers.specs.Rows.{any, All}
 use Rattle.headers.proofs.Rows.{cond-case}
 use Rattle.stores.specs.Searches.{first-from, replaced, search-says, is-at}
 use Rattle.stores.specs.declared.search.Search.{Search}
@@ -48,6 +49,22 @@ module _ {A : Type 0} (p : A → Bool) where
 
   pub told-any : (j : ℕ) (xs : List A) (r : Search) → search-says r ≡ first-from p j xs → any p xs ≡ is-at r
   told-any j xs r e = any-first j xs ∙ ap is-some (sym e) ∙ says-some r
+
+-- a search among what elements are mapped to
+pub first-map : {A B : Type 0} (p : A → Bool) (q : B → Bool) (f : A → B) → ((x : A) → p x ≡ q (f x)) → (k : ℕ) (xs : List A)
+    → first-from p k xs ≡ first-from q k (map f xs)
+unfolding first-from
+first-map p q f same k [] = refl
+first-map p q f same k (x ∷ xs) =
+    ap (λ t. cond t (some k) (first-from p (suc k) xs)) (same x) ∙ ap (cond (q (f x)) (some k)) (first-map p q f same (suc k) xs)
+
+-- where this holds of the elements that there are
+pub first-map-on : {A B : Type 0} (p : A → Bool) (q : B → Bool) (f : A → B) (P : A → Type 0) → ((x : A) → P x → p x ≡ q (f x))
+    → (k : ℕ) (xs : List A) → All P xs → first-from p k xs ≡ first-from q k (map f xs)
+unfolding first-from
+first-map-on p q f P same k [] all = refl
+first-map-on p q f P same k (x ∷ xs) all =
+    ap (λ t. cond t (some k) (first-from p (suc k) xs)) (same x (all .0)) ∙ ap (cond (q (f x)) (some k)) (first-map-on p q f P same (suc k) xs (all .1))
 
 -- the element found is the one that is replaced
 module _ {A : Type 0} (p : A → Bool) (y : A) where
@@ -87,3 +104,12 @@ first-at {A} p d j k (x ∷ xs) e = by (p x) refl e (first-at p d (suc j) k xs)
         → (i : ℕ) × (k ≡ j + i) × (i < suc (length xs)) × (p (getD (x ∷ xs) i d) ≡ true)
     by true q f go = let s : j ≡ k = cc in (0, omega arith, omega arith, q)
     by false q f go = let (i, a, b, c) = go f in (suc i, omega (arith, a), omega (arith, b), c)
+
+-- the place found holds one that passes, and is what is replaced
+pub found-here : {A : Type 0} (p : A → Bool) (y d : A) (k : ℕ) (xs : List A) → some k ≡ first-from p 0 xs
+    → (k < length xs) × (replaced p y xs ≡ set xs k y) × (p (getD xs k d) ≡ true)
+found-here p y d k xs e =
+    let (inside, is) = found-at p y k xs e in
+    let (i, at, l, passes) = first-at p d 0 k xs (sym e) in
+    let one : i ≡ k = omega (arith, at) in
+    (inside, is, ap (λ n. p (getD xs n d)) (sym one) ∙ passes)

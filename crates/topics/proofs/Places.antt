@@ -11,7 +11,7 @@ use native.Mathlib.Omega.{arith}
 use lib.ListN.{length, take, drop, getD, length-drop, length-take, take-append-drop}
 use lib.Seq.{drop-drop, take-suc}
 use lib.Dec.{eqb}
-use borrow.Author.Tests.{lt-ltb, eq-eqb, ne-eqb}
+use borrow.Author.Tests.{eq-eqb, ne-eqb}
 use Rattle.headers.specs.Rows.{is-octet, every, first-of}
 use Rattle.headers.specs.Numbers.{evaluate}
 use Rattle.headers.proofs.Rows.{every-left}
@@ -28,11 +28,6 @@ pub number-on : (w : ℕ) (xs : List ℕ) (at i : ℕ) → number-at w (drop at 
 number-on w xs at i = ap (λ z. evaluate 256 0 (take w z)) (drop-drop i at xs)
 
 -- ## Numbers in octets
-
--- octets that are read one by one are octets
-pub octets-known : (xs : List ℕ) → ((i : ℕ) → getD xs i 0 < 256) → every is-octet xs ≡ true
-octets-known [] h = refl
-octets-known (x ∷ xs) h = rw (lt-ltb x 256 (h 0)) (octets-known xs (λ i. h (suc i)))
 
 module _ (xs : List ℕ) (o : every is-octet xs ≡ true) where
   taken-octets : (i : ℕ) → every is-octet (take i xs) ≡ true

@@ -7,7 +7,7 @@ use native.Mathlib.Omega.{arith}
 use Rattle.headers.specs.Answers.{found-says}
 use Rattle.headers.specs.declared.block.Found.{Found}
 use Rattle.frames.specs.Writing.{Told}
-use Rattle.frames.proofs.Running.{octets-known}
+use Rattle.headers.proofs.Rows.{octets-known}
 use Rattle.frames.proofs.Writing.{told-of, declared-of}
 use Rattle.frames.proofs.encode.declared_length.Statement.{statement}
 use Rattle.frames.proofs.encode.declared_length.Tie as tie

@@ -7,7 +7,7 @@ use Rattle.frames.specs.Encoding.{Call}
 use Rattle.frames.specs.Answers.{encoded-says, is-counted}
 use Rattle.frames.specs.declared.encode.Encoded.{Encoded}
 use Rattle.frames.proofs.Settled.{says-of}
-use Rattle.frames.proofs.Running.{octets-known}
+use Rattle.headers.proofs.Rows.{octets-known}
 use Rattle.frames.proofs.Packed.{length-back, refusal-back, encode-small, index-small}
 use borrow.Author.Needs.{needs}
 use Rattle.frames.proofs.exports.stomp_encode_with.Statement.{statement}

@@ -7,7 +7,7 @@ use native.Mathlib.Omega.{arith}
 use lib.ListN.{length, take, drop, getD}
 use Rattle.headers.specs.declared.block.Lengths.{Lengths}
 use Rattle.headers.proofs.Blocks.{Placed, placed, told-entry, told-end, told-malformed}
-use Rattle.frames.proofs.Running.{octets-known}
+use Rattle.headers.proofs.Rows.{octets-known}
 use Rattle.sessions.specs.Notes.{number-of-name}
 use Rattle.sessions.specs.declared.notes.Notes.{Notes}
 use Rattle.sessions.proofs.Noting.{Walked, walk-begins, walk-passes, walk-first, walk-later, walk-ends, walk-fails}

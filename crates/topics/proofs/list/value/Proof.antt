@@ -8,7 +8,8 @@ use lib.ListN.{length, take}
 use lib.Seq.{take-all}
 use Rattle.headers.specs.Rows.{every, is-octet}
 use Rattle.headers.specs.Numbers.{evaluate}
-use Rattle.topics.proofs.Places.{octets-known, value-small, value-more}
+use Rattle.headers.proofs.Rows.{octets-known}
+use Rattle.topics.proofs.Places.{value-small, value-more}
 use Rattle.topics.proofs.list.value.Statement.{statement}
 use Rattle.topics.proofs.list.value.Tie as tie
 
