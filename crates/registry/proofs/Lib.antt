@@ -15,3 +15,4 @@ pub mod Changing
 pub mod Publishing
 pub mod Runs
 pub mod Calling
+pub mod Examples
