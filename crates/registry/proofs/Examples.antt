@@ -29,7 +29,8 @@ all-computed (e ∷ es) ok h = (
 )
 
 pub examples-hold : All Holds examples
-unfolding examples answer-to next is-valid runs-in run-in port-in registry-record run-record port-record good checks values effect published replaced evaluate numeral
+unfolding examples answer-to next is-valid runs-in run-in port-in registry-record run-record port-record good checks values effect
+    published replaced evaluate numeral
 examples-hold = all-computed examples refl refl
 
 -- ---- records
@@ -45,7 +46,8 @@ judged-hold = all-judged judged refl
 -- ---- a run that stays opened
 
 pub stayed-hold : All Stays-so stayed
-unfolding stayed answer-to next is-valid runs-in run-in port-in registry-record run-record port-record good checks values effect published replaced evaluate numeral octets-of-run
+unfolding stayed answer-to next is-valid runs-in run-in port-in registry-record run-record port-record good checks values effect
+    published replaced evaluate numeral octets-of-run
 stayed-hold = (
   record { stays = record { calls = (refl, refl); opening = refl; never-closed = refl }; compared = refl; answered = refl; octets = refl },
   (

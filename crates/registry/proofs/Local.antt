@@ -101,8 +101,8 @@ open-effect runs l (close-run x) p = by (same x l)
 open-effect runs l (publish x d t s) p = by (same x l) refl
   where
     by : (u : Bool) → same x l ≡ u
-        → is-some (cond u (some (record { label = x; slots = published (port d t s) (slots-of l runs) })) (found label-of l runs)) ≡ is-some
-        (found label-of l runs)
+        → is-some (cond u (some (record { label = x; slots = published (port d t s) (slots-of l runs) })) (found label-of l runs))
+        ≡ is-some (found label-of l runs)
     by true e =
         sym (sym (has-found label-of l runs) ∙ ap (λ z. is-open z runs) (sym (same-eq x l e)) ∙ not-false (is-open x runs) (p .1 .0))
     by false e = refl
@@ -137,8 +137,8 @@ found-published p d slots room = by (has destination-of (p .destination) slots) 
     y = p .destination
 
     by : (t : Bool) → has destination-of y slots ≡ t → not t && not (has-free slots) ≡ false
-        → found destination-of d (cond t (replaced (holds destination-of y) (some p) slots) (replaced is-free (some p) slots)) ≡ cond (same y d) (some p)
-        (found destination-of d slots)
+        → found destination-of d (cond t (replaced (holds destination-of y) (some p) slots) (replaced is-free (some p) slots))
+        ≡ cond (same y d) (some p) (found destination-of d slots)
     by true h k =
         cond-case (λ z. found destination-of d (replaced (holds destination-of y) (some p) slots) ≡ z) (same y d)
         (λ e. ap (λ z. found destination-of z (replaced (holds destination-of y) (some p) slots)) (sym (same-eq y d e)) ∙ again-here destination-of p slots h)
@@ -193,8 +193,8 @@ module _ (runs : List (Option Run)) (g : Good runs) (l d : List ℕ) where
   port-step c = ap (λ z. found destination-of d (slots-in z)) (found-step runs g l c) ∙ by (answer runs c) refl
     where
       by : (a : Answer) → answer runs c ≡ a
-          → found destination-of d (slots-in (left-by a (found label-of l runs) (run-by l (found label-of l runs) c))) ≡ left-by a (port-of l d runs)
-          (port-by l d (port-of l d runs) c)
+          → found destination-of d (slots-in (left-by a (found label-of l runs) (run-by l (found label-of l runs) c)))
+          ≡ left-by a (port-of l d runs) (port-by l d (port-of l d runs) c)
       by (accepted v) e = port-effect c (all-pass (checks runs c) (values runs c) v e)
       by (refused k) e = refl
 

@@ -261,13 +261,13 @@ run-first l (o ∷ runs) h =
     ∙ by o (run-first l runs (and-right (good-run o) (every good-run runs) h))
   where
     by : (o : Option Run) → first-of (λ x. holds label-of l (run-in x)) (map run-record runs) ≡ octets-for (found label-of l runs)
-        → cond (holds label-of l o) (some (run-record o)) (first-of (λ x. holds label-of l (run-in x)) (map run-record runs)) ≡ octets-for
-        (cond (holds label-of l o) o (found label-of l runs))
+        → cond (holds label-of l o) (some (run-record o)) (first-of (λ x. holds label-of l (run-in x)) (map run-record runs))
+        ≡ octets-for (cond (holds label-of l o) o (found label-of l runs))
     by none go = go
     by (some r) go = yes (same (r .label) l)
       where
-        yes : (t : Bool) → cond t (some (run-record (some r))) (first-of (λ x. holds label-of l (run-in x)) (map run-record runs)) ≡ octets-for
-            (cond t (some r) (found label-of l runs))
+        yes : (t : Bool) → cond t (some (run-record (some r))) (first-of (λ x. holds label-of l (run-in x)) (map run-record runs))
+            ≡ octets-for (cond t (some r) (found label-of l runs))
         yes true = refl
         yes false = go
 
