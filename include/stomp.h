@@ -1,8 +1,9 @@
 /* Mouhtali: STOMP 1.2 frames, parsed, also piece by piece, decoded, searched and encoded; patterns of
- * names, matched; plans for handing out queued messages, checked.
+ * names, matched; plans for handing out queued messages, checked; ports kept under the label of a run.
  *
- * stomp_match and stomp_check_plan are in libtopics.a, which `rt staticlib topics` writes, the other
- * functions are in libframes.a, which `rt staticlib frames` writes, both for x86-64. For C99, C11 and C++.
+ * stomp_match and stomp_check_plan are in libtopics.a, which `rt staticlib topics` writes, the calls
+ * stomp_registry_.. are in libregistry.a, which `rt staticlib registry` writes, the other functions are in
+ * libframes.a, which `rt staticlib frames` writes, all for x86-64. For C99, C11 and C++.
  * docs/MANUAL.md has the rules of the format and what to do about each number.
  *
  * A slice is passed as a pointer to its first octet and its length. An empty slice may have any
@@ -49,7 +50,13 @@ enum stomp_size {
     STOMP_MATCH_MAX_WORDS = 32,   /* words of a name or a pattern */
     STOMP_MATCH_MAX_OCTETS = 256, /* octets of a name or a pattern, points counted */
     STOMP_PLAN_MAX_PAIRS = 64,    /* pairs of a plan */
-    STOMP_PLAN_PAIR = 8           /* octets of a pair */
+    STOMP_PLAN_PAIR = 8,          /* octets of a pair */
+    STOMP_REGISTRY = 3524,        /* octets of a registry */
+    STOMP_REGISTRY_RUNS = 4,      /* runs that are open at a time */
+    STOMP_REGISTRY_PLACES = 8,    /* ports of a run */
+    STOMP_REGISTRY_MAX_RUN = 32,  /* octets of a run's label */
+    STOMP_REGISTRY_MAX_DESTINATION = 32, /* octets of a destination */
+    STOMP_REGISTRY_MAX_TEXT = 64  /* octets of a port's text */
 };
 
 /* What stomp_parse and stomp_feed found. */
@@ -141,6 +148,17 @@ enum stomp_plan_refusal {
                                         is malformed */
 };
 
+/* The numbers of the calls stomp_registry_..: 89 first, then 90, then the call's own in this order. */
+enum stomp_registry_refusal {
+    STOMP_REGISTRY_INVALID = 89,      /* the registry is not STOMP_REGISTRY octets long, or not valid */
+    STOMP_REGISTRY_SIZE = 90,         /* a text of the call is empty or too long */
+    STOMP_REGISTRY_NOT_OPEN = 91,     /* no run of that label is open */
+    STOMP_REGISTRY_HELD = 92,         /* another session's port is under the destination */
+    STOMP_REGISTRY_FULL = 93,         /* the destination is new, and all places of the run are taken */
+    STOMP_REGISTRY_ALREADY_OPEN = 94, /* a run of that label is open */
+    STOMP_REGISTRY_RUNS_TAKEN = 95    /* STOMP_REGISTRY_RUNS runs are open */
+};
+
 /* Parses the first item of the octets. Octets behind it change nothing. Writes nothing.
  *
  * The answer is 0 where they are incomplete, 1 + 4*length for a heart-beat,
@@ -224,6 +242,34 @@ uint64_t stomp_match(const uint8_t *name, size_t name_len, const uint8_t *patter
  * overlap. */
 uint64_t stomp_check_plan(const uint8_t *messages, size_t messages_len, const uint8_t *subscriptions,
                           size_t subscriptions_len, const uint8_t *plan, size_t plan_len);
+
+/* A registry of ports under the labels of runs. `registry` is STOMP_REGISTRY octets that the caller
+ * keeps: all 0 is an empty one, and it is handed back as the last call left it. A run has a label of 1 to
+ * STOMP_REGISTRY_MAX_RUN octets; each open run has STOMP_REGISTRY_PLACES places of its own. A call that
+ * refuses leaves the registry as it was. The slices of one call must not overlap.
+ *
+ * Opens a run, with no ports: 0, or the first of 89, 90, 94, 95 that fits. */
+uint64_t stomp_registry_open(uint8_t *registry, size_t registry_len, const uint8_t *run, size_t run_len);
+
+/* Closes a run and withdraws its ports: 0, or the first of 89, 90, 91 that fits. */
+uint64_t stomp_registry_close(uint8_t *registry, size_t registry_len, const uint8_t *run, size_t run_len);
+
+/* Publishes a port: a text of 1 to STOMP_REGISTRY_MAX_TEXT octets under a run and a destination of 1 to
+ * STOMP_REGISTRY_MAX_DESTINATION octets, for a session, which any number may name. Under a destination
+ * that the session holds already the text is replaced. 0, or the first of 89 to 93 that fits. */
+uint64_t stomp_registry_publish(uint8_t *registry, size_t registry_len, const uint8_t *run, size_t run_len,
+                                const uint8_t *destination, size_t destination_len, const uint8_t *text,
+                                size_t text_len, uint64_t session);
+
+/* Withdraws the ports that a session published, in every run: 0, or 89. */
+uint64_t stomp_registry_end(uint8_t *registry, size_t registry_len, uint64_t session);
+
+/* Asks for the port under a run and a destination. Writes nothing. The answer is 2^16*length + start,
+ * where the port's text is `length` octets of the registry from `start` on; 0 where the run is open and
+ * has none; or the first of 89, 90, 91 that fits. The text is there until the next call that changes the
+ * registry. */
+uint64_t stomp_registry_ask(const uint8_t *registry, size_t registry_len, const uint8_t *run, size_t run_len,
+                            const uint8_t *destination, size_t destination_len);
 
 /* Readers of what stomp_parse answered. */
 
@@ -385,6 +431,26 @@ static inline size_t stomp_plan_index(uint64_t answer)
 static inline uint32_t stomp_plan_message(uint64_t answer)
 {
     return stomp_plan_code(answer) == (unsigned)STOMP_PLAN_LEFT_OUT ? (uint32_t)(answer & 0xffffffff) : 0;
+}
+
+/* Readers of what the calls stomp_registry_.. answered; stomp_refused and stomp_code are not for these. */
+
+/* The number of the refusal; 0 where it was not refused. */
+static inline unsigned stomp_registry_code(uint64_t answer)
+{
+    return answer < 0x10000 ? (unsigned)answer : 0;
+}
+
+/* The length of the text that stomp_registry_ask found; 0 where there is none, or it was refused. */
+static inline size_t stomp_registry_length(uint64_t answer)
+{
+    return (size_t)(answer >> 16);
+}
+
+/* Where in the registry that text starts; 0 where there is none, or it was refused. */
+static inline size_t stomp_registry_start(uint64_t answer)
+{
+    return stomp_registry_length(answer) ? (size_t)(answer & 0xffff) : 0;
 }
 
 /* Readers of what stomp_find answered. */
