@@ -47,8 +47,8 @@ is-text-requires-2 c κs = search needs
 returns-3 : tie.Need-returns-3
 returns-3 c =
     let s = c .before .before in
-    port-rest (s .before .before .before .before .before .before .args .row .now) (s .before .before .before .if1 .left) (sym (s .before .is-text .ensures)
-    ∙ not-false _ (s .if2 .left)) (c .is-text2 .result) (c .is-text2 .ensures)
+    port-rest (s .before .before .before .before .before .before .args .row .now) (s .before .before .before .if1 .left)
+    (sym (s .before .is-text .ensures) ∙ not-false _ (s .if2 .left)) (c .is-text2 .result) (c .is-text2 .ensures)
 
 pub is-port-spec : {M : Type 1} → statement M
 is-port-spec =

@@ -74,8 +74,8 @@ mul-at c =
     let e = c .before .before .before .before in
     omega (
       arith,
-      run-inside (reg e) (valid e) (run e) (some-run e) (c .before .k .given .0 .0) (sym (ap search-says (c .before .k .given .1))
-          ∙ c .before .before .before .find .ensures),
+      run-inside (reg e) (valid e) (run e) (some-run e) (c .before .k .given .0 .0)
+          (sym (ap search-says (c .before .k .given .1)) ∙ c .before .before .before .find .ensures),
     )
 
 add-at : tie.Need-add-at
@@ -83,8 +83,8 @@ add-at c =
     let e = c .before .before .before .before in
     omega (
       arith,
-      run-inside (reg e) (valid e) (run e) (some-run e) (c .before .k .given .0 .0) (sym (ap search-says (c .before .k .given .1))
-          ∙ c .before .before .before .find .ensures),
+      run-inside (reg e) (valid e) (run e) (some-run e) (c .before .k .given .0 .0)
+          (sym (ap search-says (c .before .k .given .1)) ∙ c .before .before .before .find .ensures),
     )
 
 add-end : tie.Need-add-end
@@ -92,8 +92,8 @@ add-end c =
     let e = c .before .before .before .before in
     omega (
       arith,
-      run-inside (reg e) (valid e) (run e) (some-run e) (c .before .k .given .0 .0) (sym (ap search-says (c .before .k .given .1))
-          ∙ c .before .before .before .find .ensures),
+      run-inside (reg e) (valid e) (run e) (some-run e) (c .before .k .given .0 .0)
+          (sym (ap search-says (c .before .k .given .1)) ∙ c .before .before .before .find .ensures),
     )
 
 sub-port-in : tie.Need-sub-port-in
@@ -105,14 +105,14 @@ part-port-in-start c = search needs
 part-port-in-end : tie.Need-part-port-in-end
 part-port-in-end c =
     let e = c .before .before .before .before in
-    slots-room (reg e) (valid e) (run e) (some-run e) (c .before .k .given .0 .0) (sym (ap search-says (c .before .k .given .1))
-    ∙ c .before .before .before .find .ensures)
+    slots-room (reg e) (valid e) (run e) (some-run e) (c .before .k .given .0 .0)
+    (sym (ap search-says (c .before .k .given .1)) ∙ c .before .before .before .find .ensures)
 
 port-in-requires : tie.Need-port-in-requires
 port-in-requires c κs =
     let e = c .before .before .before .before .before in (
-      slots-part (reg e) (valid e) (run e) (some-run e) (c .before .before .k .given .0 .0) (sym (ap search-says (c .before .before .k .given .1))
-          ∙ c .before .before .before .before .find .ensures),
+      slots-part (reg e) (valid e) (run e) (some-run e) (c .before .before .k .given .0 .0)
+          (sym (ap search-says (c .before .before .k .given .1)) ∙ c .before .before .before .before .find .ensures),
       size-of 32 (destination e)
           (or-false-right (bad-size 32 (run e)) (bad-size 32 (destination e)) (sizes e)),
     )

@@ -69,8 +69,8 @@ mul-at c =
     let e = c .before .before .before .before .before in
     omega (
       arith,
-      run-inside (reg e) (valid e) (run e) (some-run e) (c .before .k .given .0 .0) (sym (ap search-says (c .before .k .given .1))
-          ∙ c .before .before .before .find .ensures),
+      run-inside (reg e) (valid e) (run e) (some-run e) (c .before .k .given .0 .0)
+          (sym (ap search-says (c .before .k .given .1)) ∙ c .before .before .before .find .ensures),
     )
 
 add-end : tie.Need-add-end
@@ -78,8 +78,8 @@ add-end c =
     let e = c .before .before .before .before .before in
     omega (
       arith,
-      run-inside (reg e) (valid e) (run e) (some-run e) (c .before .k .given .0 .0) (sym (ap search-says (c .before .k .given .1))
-          ∙ c .before .before .before .find .ensures),
+      run-inside (reg e) (valid e) (run e) (some-run e) (c .before .k .given .0 .0)
+          (sym (ap search-says (c .before .k .given .1)) ∙ c .before .before .before .find .ensures),
     )
 
 sub-fill : tie.Need-sub-fill

@@ -29,9 +29,9 @@ same-length-2 c = search needs
 returns-2 : tie.Need-returns-2
 returns-2 c =
     let s = c .before .before .before .before .before .before .before .before in
-    end-there (s .args .session) (omega arith) (s .args .reg .now) (sym (c .before .before .before .before .before .is-valid .ensures)
-    ∙ not-false _ (c .before .before .before .before .if1 .left)) (c .before .before .withdraw-from-all .last .0)
-    (c .before .before .withdraw-from-all .ensures)
+    end-there (s .args .session) (omega arith) (s .args .reg .now)
+    (sym (c .before .before .before .before .before .is-valid .ensures) ∙ not-false _ (c .before .before .before .before .if1 .left))
+    (c .before .before .withdraw-from-all .last .0) (c .before .before .withdraw-from-all .ensures)
 
 pub end-session-spec : {M : Type 1} → statement M
 end-session-spec =

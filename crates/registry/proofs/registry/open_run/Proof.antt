@@ -101,8 +101,8 @@ mul-at c =
     let f = c .before .before .before .before .before .before in let e = f .before .before .before .before in
     omega (
       arith,
-      place-inside (reg e) (valid e) (run e) (size e) (new f) (c .before .k .given .0 .0) (sym (ap search-says (c .before .k .given .1))
-          ∙ c .before .before .before .find2 .ensures),
+      place-inside (reg e) (valid e) (run e) (size e) (new f) (c .before .k .given .0 .0)
+          (sym (ap search-says (c .before .k .given .1)) ∙ c .before .before .before .find2 .ensures),
     )
 
 add-end : tie.Need-add-end
@@ -110,8 +110,8 @@ add-end c =
     let f = c .before .before .before .before .before .before in let e = f .before .before .before .before in
     omega (
       arith,
-      place-inside (reg e) (valid e) (run e) (size e) (new f) (c .before .k .given .0 .0) (sym (ap search-says (c .before .k .given .1))
-          ∙ c .before .before .before .find2 .ensures),
+      place-inside (reg e) (valid e) (run e) (size e) (new f) (c .before .k .given .0 .0)
+          (sym (ap search-says (c .before .k .given .1)) ∙ c .before .before .before .find2 .ensures),
     )
 
 sub-put-text : tie.Need-sub-put-text
@@ -124,15 +124,15 @@ part-put-text-end : tie.Need-part-put-text-end
 part-put-text-end c =
     let f = c .before .before .before .before .before .before in let e = f .before .before .before .before in
     label-room (reg e) (valid e) (run e) (size e) (c .before .k .given .0 .0)
-    (place-inside (reg e) (valid e) (run e) (size e) (new f) (c .before .k .given .0 .0) (sym (ap search-says (c .before .k .given .1))
-    ∙ c .before .before .before .find2 .ensures))
+    (place-inside (reg e) (valid e) (run e) (size e) (new f) (c .before .k .given .0 .0)
+    (sym (ap search-says (c .before .k .given .1)) ∙ c .before .before .before .find2 .ensures))
 
 put-text-requires : tie.Need-put-text-requires
 put-text-requires c κs =
     let f = c .before .before .before .before .before .before .before in let e = f .before .before .before .before in
     label-fits (reg e) (valid e) (run e) (size e) (c .before .before .k .given .0 .0)
-    (place-inside (reg e) (valid e) (run e) (size e) (new f) (c .before .before .k .given .0 .0) (sym (ap search-says (c .before .before .k .given .1))
-    ∙ c .before .before .before .before .find2 .ensures))
+    (place-inside (reg e) (valid e) (run e) (size e) (new f) (c .before .before .k .given .0 .0)
+    (sym (ap search-says (c .before .before .k .given .1)) ∙ c .before .before .before .before .find2 .ensures))
 
 same-length-4 : tie.Need-same-length-4
 same-length-4 c = search needs

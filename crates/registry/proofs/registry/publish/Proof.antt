@@ -71,8 +71,9 @@ same-length-2 c = search needs
 returns-2 : tie.Need-returns-2
 returns-2 c =
     let s = c .before .before .before .before .before .before .before .before .before .before .before in
-    publish-bad (s .args .reg .now) (sym (c .before .before .before .before .before .is-valid .ensures)
-    ∙ not-false _ (c .before .before .before .before .if1 .left)) (s .args .run .now) (s .args .destination .now) (s .args .text .now) (s .args .session)
+    publish-bad (s .args .reg .now)
+    (sym (c .before .before .before .before .before .is-valid .ensures) ∙ not-false _ (c .before .before .before .before .if1 .left)) (s .args .run .now)
+    (s .args .destination .now) (s .args .text .now) (s .args .session)
     (sym (ap₂ (_||_) (c .before .before .before .is-bad .ensures) (ap₂ (_||_) (c .before .before .is-bad2 .ensures) (c .before .is-bad3 .ensures)))
     ∙ c .if2 .taken)
 
@@ -90,8 +91,8 @@ mul-at c =
     let e = c .before .before .before .before .before in
     omega (
       arith,
-      run-inside (reg e) (valid e) (run e) (some-run e) (c .before .k .given .0 .0) (sym (ap search-says (c .before .k .given .1))
-          ∙ c .before .before .before .find .ensures),
+      run-inside (reg e) (valid e) (run e) (some-run e) (c .before .k .given .0 .0)
+          (sym (ap search-says (c .before .k .given .1)) ∙ c .before .before .before .find .ensures),
     )
 
 add-at : tie.Need-add-at
@@ -99,8 +100,8 @@ add-at c =
     let e = c .before .before .before .before .before in
     omega (
       arith,
-      run-inside (reg e) (valid e) (run e) (some-run e) (c .before .k .given .0 .0) (sym (ap search-says (c .before .k .given .1))
-          ∙ c .before .before .before .find .ensures),
+      run-inside (reg e) (valid e) (run e) (some-run e) (c .before .k .given .0 .0)
+          (sym (ap search-says (c .before .k .given .1)) ∙ c .before .before .before .find .ensures),
     )
 
 add-end : tie.Need-add-end
@@ -108,8 +109,8 @@ add-end c =
     let e = c .before .before .before .before .before in
     omega (
       arith,
-      run-inside (reg e) (valid e) (run e) (some-run e) (c .before .k .given .0 .0) (sym (ap search-says (c .before .k .given .1))
-          ∙ c .before .before .before .find .ensures),
+      run-inside (reg e) (valid e) (run e) (some-run e) (c .before .k .given .0 .0)
+          (sym (ap search-says (c .before .k .given .1)) ∙ c .before .before .before .find .ensures),
     )
 
 sub-publish-in : tie.Need-sub-publish-in
@@ -121,14 +122,14 @@ part-publish-in-start c = search needs
 part-publish-in-end : tie.Need-part-publish-in-end
 part-publish-in-end c =
     let e = c .before .before .before .before .before in
-    slots-room (reg e) (valid e) (run e) (some-run e) (c .before .k .given .0 .0) (sym (ap search-says (c .before .k .given .1))
-    ∙ c .before .before .before .find .ensures)
+    slots-room (reg e) (valid e) (run e) (some-run e) (c .before .k .given .0 .0)
+    (sym (ap search-says (c .before .k .given .1)) ∙ c .before .before .before .find .ensures)
 
 publish-in-requires : tie.Need-publish-in-requires
 publish-in-requires c κs =
     let e = c .before .before .before .before .before .before in (
-      slots-part (reg e) (valid e) (run e) (some-run e) (c .before .before .k .given .0 .0) (sym (ap search-says (c .before .before .k .given .1))
-          ∙ c .before .before .before .before .find .ensures),
+      slots-part (reg e) (valid e) (run e) (some-run e) (c .before .before .k .given .0 .0)
+          (sym (ap search-says (c .before .before .k .given .1)) ∙ c .before .before .before .before .find .ensures),
       size-of 32 (destination e)
           (or-false-left (bad-size 32 (destination e)) (bad-size 64 (text e)) (texts e)),
       size-of 64 (text e)

@@ -28,14 +28,14 @@ is-of-requires c κs = search needs
 returns : tie.Need-returns
 returns c =
     let s = c .before .before .before .before in
-    sym (ap (when-held (s .args .k)) (sym (ap (row-of (s .args .session)) (row-part (s .args .k) (s .args .rows .now))) ∙ sym (c .before .is-of .ensures)
-    ∙ c .if1 .taken))
+    sym (ap (when-held (s .args .k))
+    (sym (ap (row-of (s .args .session)) (row-part (s .args .k) (s .args .rows .now))) ∙ sym (c .before .is-of .ensures) ∙ c .if1 .taken))
 
 returns-2 : tie.Need-returns-2
 returns-2 c =
     let s = c .before .before .before .before in
-    sym (ap (when-held (s .args .k)) (sym (ap (row-of (s .args .session)) (row-part (s .args .k) (s .args .rows .now))) ∙ sym (c .before .is-of .ensures)
-    ∙ c .if1 .left))
+    sym (ap (when-held (s .args .k))
+    (sym (ap (row-of (s .args .session)) (row-part (s .args .k) (s .args .rows .now))) ∙ sym (c .before .is-of .ensures) ∙ c .if1 .left))
 
 pub held-slot-spec : {M : Type 1} → statement M
 held-slot-spec =

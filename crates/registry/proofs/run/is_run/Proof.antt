@@ -49,8 +49,8 @@ returns-3 : tie.Need-returns-3
 returns-3 c =
     let s = c .before .before .before .before .before .before .before .before .before in
     run-no-ports (s .args .run .now) (s .pre) (c .before .before .before .before .before .before .if1 .left)
-    (sym (c .before .before .before .before .is-text .ensures) ∙ not-false _ (c .before .before .before .if2 .left)) (sym (c .before .are-ports .ensures)
-    ∙ not-true _ (c .if3 .taken))
+    (sym (c .before .before .before .before .is-text .ensures) ∙ not-false _ (c .before .before .before .if2 .left))
+    (sym (c .before .are-ports .ensures) ∙ not-true _ (c .if3 .taken))
 
 sub-is-distinct : tie.Need-sub-is-distinct
 sub-is-distinct c = search needs

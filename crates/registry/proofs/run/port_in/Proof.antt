@@ -59,8 +59,8 @@ wide-requires c κs = search needs
 returns : tie.Need-returns
 returns c =
     let s = c .before .before .before .before .before in
-    no-port (s .args .rows .now) (s .pre .0) (s .args .destination .now) (s .pre .1 .some-octet) 0 (sym (ap search-says (c .enum-told .given .1))
-    ∙ c .before .before .find .ensures)
+    no-port (s .args .rows .now) (s .pre .0) (s .args .destination .now) (s .pre .1 .some-octet) 0
+    (sym (ap search-says (c .enum-told .given .1)) ∙ c .before .before .find .ensures)
 
 returns-2 : tie.Need-returns-2
 returns-2 c =
