@@ -11,8 +11,8 @@ use Prim.Native.Nat.{ℕ, suc, _≤_}
 use native.Mathlib.Omega.{arith}
 use lib.ListN.{length}
 use lib.Dec.{eqb, eqb·suc-suc}
-use borrow.Author.Tests.{eq-eqb, ne-eqb}
-use Rattle.headers.proofs.Rows.{cond-case, or-false-left, or-false-right, same-eq, same-self}
+use borrow.Author.Tests.{ne-eqb}
+use Rattle.headers.proofs.Rows.{cond-case, or-false-left, or-false-right, same-eq}
 use Rattle.headers.specs.Rows.{same}
 use Rattle.stores.specs.Searches.{replaced}
 use Rattle.registry.specs.Slots.{is-free, holds, has-free, has, distinct}

@@ -11,7 +11,7 @@ use lib.ListN.{length, take, drop, getD, length-append, length-drop, drop-of-len
 use lib.Seq.{take-all, length-take-le}
 use lib.Dec.{eqb}
 use borrow.Rule.Slice.PartMut.{putMid, midOf}
-use borrow.Author.Tests.{eq-eqb, ne-eqb, lt-ltb}
+use borrow.Author.Tests.{eq-eqb, ne-eqb}
 use Rattle.headers.specs.Rows.{every}
 use Rattle.headers.proofs.Rows.{octets-known}
 use Rattle.stores.specs.Places.{is-zero}

@@ -3,13 +3,13 @@
 use mathlib.Core.Path.{_≡_}
 use mathlib.Core.Bool.{true}
 use mathlib.Core.Option.{Option, none, some}
-use mathlib.Core.List.{List, [], _∷_, _++_, map}
+use mathlib.Core.List.{List, [], _∷_, map}
 use Prim.Native.Nat.{ℕ}
 use Prim.Native.String.{String}
 use lib.ListN.{replicate, set}
 use Rattle.headers.specs.Rows.{octets-of}
 use Rattle.headers.specs.Answers.{Answer, accepted, refused}
-use Rattle.registry.specs.Registry.{Port, Run, new-run}
+use Rattle.registry.specs.Registry.{Port, Run}
 use Rattle.registry.specs.Calls.{Call, open-run, close-run, publish, ask, end-session}
 use Rattle.registry.specs.Records.{run-record, registry-record, empty-record, answer-to, octets-of-run}
 use Rattle.registry.specs.Histories.{are-calls, after, Event, events, concerning, answers-for, at-opening, Stays}
