@@ -9,7 +9,7 @@ use mathlib.Core.List.{List, [], _∷_, _++_, map, append-assoc}
 use Prim.Native.Nat.{ℕ, _+_, _-_, _*_, _/_, _%_, _≤_, _<_}
 use native.Mathlib.Omega.{arith}
 use lib.ListN.{length, take, drop, getD, set, replicate, length-take, length-drop, length-replicate, take-append-drop}
-use lib.Seq.{take-all, take-at, take-take, take-add, drop-drop}
+use lib.Seq.{take-all, take-at, take-take, take-add, drop-drop, length-take-le}
 use lib.Dec.{eqb}
 use borrow.Author.Tests.{ne-eqb, lt-ltb, le-ltb}
 use borrow.Rule.Slice.PartMut.{putMid, midOf, put-same}
@@ -21,17 +21,17 @@ use Rattle.stores.specs.Searches.{first-from, replaced, search-says, is-at}
 use Rattle.stores.specs.declared.search.Search.{Search}
 use Rattle.stores.proofs.Searching.{told-any, first-map, first-map-on, found-here}
 use Rattle.stores.proofs.Walking.{drop-take}
-use Rattle.registry.specs.Slots.{is-free, holds, has-free, found}
+use Rattle.registry.specs.Slots.{is-free, holds, has-free, found, place}
 use Rattle.registry.specs.Registry.{Port, Run, destination-of, label-of, is-open, slots-in, slots-of, label-max, destination-max, text-max, sessions-max, bad-size, good-port, good-run, good-slots, new-run, published, unless-of, withdrawn, run-without, ended}
 use Rattle.registry.specs.Calls.{Call, open-run, close-run, publish, ask, end-session, text-of, checks, values, effect, left-by}
 use Rattle.stores.specs.Compaction.{joined}
-use Rattle.registry.specs.Records.{parts, text-field, port-size, port-record, run-record, registry-record, port-in, run-in, runs-in, is-valid, answer-to, next}
+use Rattle.registry.specs.Records.{parts, text-field, port-size, port-record, run-record, registry-record, port-in, run-in, runs-in, is-valid, answer-to, next, text-start}
 use Rattle.registry.specs.Tests.{is-named, Rows, row-of, row-without}
-use Rattle.registry.specs.Answers.{done-says, asked-says, Bounded, asked-number, asked-read}
+use Rattle.registry.specs.Answers.{done-says, asked-says, Bounded, StartsAt, packed-ask, asked-number, asked-read}
 use Rattle.registry.specs.Steps.{Slots, slots-at, slot-checks, GivesPublished, GivesPort, Text, rows-without, run-octets-without, Movable, moved-by}
 use Rattle.registry.specs.declared.registry.Done.{Done}
 use Rattle.registry.specs.declared.registry.Asked.{Asked}
-use Rattle.registry.proofs.Slots.{found-name}
+use Rattle.registry.proofs.Slots.{found-name, place-first}
 use Rattle.registry.proofs.Keeping.{answer, Good, GoodSlots, record-slots, good-run-slots, every-found}
 use Rattle.registry.proofs.Records.{Long, sized, field-long, field-drop, good-port-record, slots-back, slots-parts, run-label, run-slots, runs-long, record-parts, record-long, valid-good, valid-record}
 use Rattle.registry.proofs.Testing.{named-holds, free-holds, thing-run, shape-run, named-run}
@@ -250,7 +250,7 @@ module _ (xs : List ℕ) (v : is-valid xs ≡ true) where
         rows-octets = simp (length-take, length-drop) (omega (arith, run-inside, valid-long))
 
         pub ask-movable : (q : Asked) → GivesPort d (take 848 (drop from xs)) q → Movable q from
-        ask-movable (Asked.Port p) (is, inside, some-text) = omega (arith, inside, rows-octets, run-inside)
+        ask-movable (Asked.Port p) (is, inside, some-text, at) = omega (arith, inside, rows-octets, run-inside)
         ask-movable Asked.Nothing g = tt
         ask-movable (Asked.Refused n) g = tt
 
@@ -259,7 +259,7 @@ module _ (xs : List ℕ) (v : is-valid xs ≡ true) where
           where
             by : (q : Asked) → GivesPort d (take 848 (drop from xs)) q
                 → asked-says xs (moved-by q from) ≡ accepted (text-of (found destination-of d (slots-at (take 848 (drop from xs)))))
-            by (Asked.Port p) (is, inside, some-text) =
+            by (Asked.Port p) (is, inside, some-text, at) =
                 let short : p .len ≤ 848 - p .start = omega (arith, inside, rows-octets) in
                 ap accepted
                 (ap (take (p .len)) (sym (drop-drop (p .start) from xs)) ∙ sym (take-take (p .len) (848 - p .start) (drop (p .start) (drop from xs)) short)
@@ -267,11 +267,25 @@ module _ (xs : List ℕ) (v : is-valid xs ≡ true) where
             by Asked.Nothing g = ap accepted g
             by (Asked.Refused n) g = absurd (g tt)
 
+        pub ask-starts : (q : Asked) → GivesPort d (take 848 (drop from xs)) q → (r : Asked) → r ≡ moved-by q from → StartsAt xs (text-start xs l d) r
+        unfolding text-start
+        ask-starts q g r is = subst (StartsAt xs (text-start xs l d)) (sym is) (by q g)
+          where
+            by : (q : Asked) → GivesPort d (take 848 (drop from xs)) q → StartsAt xs (text-start xs l d) (moved-by q from)
+            by (Asked.Port p) (is, inside, some-text, at) =
+                let (r, e) = run-there in (
+                  ap₂ (λ a b. a * 881 + 33 + b) (place-first label-of l k runs (there ∙ search-label l some-octet))
+                      (at ∙ ap (λ z. place destination-of d z * 106 + 34) (slots-of-run r e)),
+                  omega (arith, inside, rows-octets, run-inside, valid-long),
+                )
+            by Asked.Nothing g = tt
+            by (Asked.Refused n) g = absurd (g tt)
+
         pub ask-bounded : (q : Asked) → GivesPort d (take 848 (drop from xs)) q → (r : Asked) → r ≡ moved-by q from → Bounded r
         ask-bounded q g r is = subst Bounded (sym is) (by q g)
           where
             by : (q : Asked) → GivesPort d (take 848 (drop from xs)) q → Bounded (moved-by q from)
-            by (Asked.Port p) (is, inside, some-text) = (some-text, omega (arith, inside, rows-octets, run-inside))
+            by (Asked.Port p) (is, inside, some-text, at) = (some-text, omega (arith, inside, rows-octets, run-inside))
             by Asked.Nothing g = tt
             by (Asked.Refused n) g = absurd (g tt)
 
@@ -449,8 +463,12 @@ module _ (xs : List ℕ) (v : is-valid xs ≡ true) (l : List ℕ) (some-octet :
     pub movable-part : Movable q start
     movable-part = ask-movable xs v l some-octet k there d sizes q gives
 
-    pub ask-part : (r : Asked) → r ≡ moved-by q start → (asked-says xs r ≡ answer-to xs (ask l d)) × Bounded r
-    ask-part r is = (ask-there xs v l some-octet k there d sizes q gives r is, ask-bounded xs v l some-octet k there d sizes q gives r is)
+    pub ask-part : (r : Asked) → r ≡ moved-by q start → (asked-says xs r ≡ answer-to xs (ask l d)) × StartsAt xs (text-start xs l d) r × Bounded r
+    ask-part r is = (
+      ask-there xs v l some-octet k there d sizes q gives r is,
+      ask-starts xs v l some-octet k there d sizes q gives r is,
+      ask-bounded xs v l some-octet k there d sizes q gives r is,
+    )
 
 -- a label fits into the field of a free row
 module _ (xs : List ℕ) (v : is-valid xs ≡ true) (l : List ℕ) (size : bad-size label-max l ≡ false) (k : ℕ) (less : k < 4) where
@@ -475,3 +493,13 @@ asked-back xs (Asked.Port p) (some-text, inside) =
     ∙ ap₂ (λ a b. accepted (take a (drop b xs))) len start
 asked-back xs Asked.Nothing b = refl
 asked-back xs (Asked.Refused n) (some-number, small) = rw (lt-ltb n 65536 (omega arith), ne-eqb n 0 (λ e. omega arith))
+
+pub asked-packed : (xs : List ℕ) (start : ℕ) (q : Asked) → Bounded q → StartsAt xs start q → asked-number q ≡ packed-ask (asked-says xs q) start
+asked-packed xs start (Asked.Port p) (some-text, inside) (at, room) =
+    by (take (p .len) (drop (p .start) xs)) (length-take-le (p .len) (drop (p .start) xs) (simp length-drop (omega (arith, room))))
+  where
+    by : (text : List ℕ) → length text ≡ p .len → p .len * 65536 + p .start ≡ packed-ask (accepted text) start
+    by [] long = absurd (omega (arith, long, some-text))
+    by (x ∷ text) long = ap₂ (λ a b. a * 65536 + b) (sym long) at
+asked-packed xs start Asked.Nothing b s = refl
+asked-packed xs start (Asked.Refused n) b s = refl

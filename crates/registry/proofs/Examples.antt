@@ -1,5 +1,5 @@
 -- The examples hold: each is computed. Assumes nothing.
---     examples-hold, judged-hold, stayed-hold     every row of each table
+--     examples-hold, judged-hold, numbered-hold, stayed-hold     every row of each table
 use mathlib.Core.Path.{_≡_, refl, ap}
 use mathlib.Core.Bool.{true}
 use mathlib.Core.List.{List, [], _∷_, map}
@@ -10,10 +10,11 @@ use Rattle.headers.specs.Answers.{refused}
 use Rattle.headers.proofs.Rows.{and-left, and-right}
 use Rattle.stores.specs.Searches.{replaced}
 use Rattle.registry.specs.Registry.{good, published}
-use Rattle.registry.specs.Calls.{end-session, checks, values, effect}
-use Rattle.registry.specs.Records.{port-record, run-record, registry-record, port-in, run-in, runs-in, is-valid, empty-record, answer-to, next, octets-of-run}
+use Rattle.registry.specs.Calls.{ask, end-session, checks, values, effect}
+use Rattle.registry.specs.Records.{port-record, run-record, registry-record, port-in, run-in, runs-in, is-valid, empty-record, answer-to, next, text-start, octets-of-run}
+use Rattle.registry.specs.Answers.{packed-ask}
 use Rattle.registry.specs.Histories.{are-calls, events}
-use Rattle.registry.specs.Examples.{Example, examples, calls-of, Holds, Judged, judged, Judges, stayed, Stays-so}
+use Rattle.registry.specs.Examples.{Example, examples, calls-of, Holds, Judged, judged, Judges, Numbered, numbered, Numbers, alike, stayed, Stays-so}
 
 -- ---- histories
 
@@ -42,6 +43,18 @@ all-judged (j ∷ js) h = (ap (λ answers. getD answers 0 (refused 0)) h, all-ju
 pub judged-hold : All Judges judged
 unfolding judged answer-to is-valid runs-in run-in port-in registry-record run-record port-record good checks values evaluate numeral
 judged-hold = all-judged judged refl
+
+-- ---- the number for asking
+
+all-numbered : (rows : List Numbered)
+    → map (λ a. packed-ask (answer-to alike (ask (a .run) (a .destination))) (text-start alike (a .run) (a .destination))) rows
+    ≡ map (λ a. a .number) rows → All Numbers rows
+all-numbered [] h = tt
+all-numbered (a ∷ rest) h = (ap (λ numbers. getD numbers 0 0) h, all-numbered rest (ap (drop 1) h))
+
+pub numbered-hold : All Numbers numbered
+unfolding numbered answer-to text-start is-valid runs-in run-in port-in registry-record run-record port-record good checks values evaluate numeral
+numbered-hold = all-numbered numbered refl
 
 -- ---- a run that stays opened
 

@@ -21,7 +21,7 @@ use Rattle.headers.proofs.Numerals.{length-numeral, value-numeral}
 use Rattle.stores.specs.Searches.{first-from, replaced, search-says}
 use Rattle.stores.specs.declared.search.Search.{Search}
 use Rattle.stores.proofs.Searching.{told-any, first-map, first-map-on, found-here}
-use Rattle.registry.specs.Slots.{is-free, holds, has, has-free, found}
+use Rattle.registry.specs.Slots.{is-free, holds, has, has-free, found, place}
 use Rattle.registry.specs.Registry.{Port, destination-of, sessions-max, good-port, published}
 use Rattle.registry.specs.Calls.{text-of}
 use Rattle.stores.specs.Compaction.{joined}
@@ -31,7 +31,7 @@ use Rattle.registry.specs.Steps.{Slots, slots-at, GivesSlot, GivesPublis
 use Rattle.registry.specs.declared.run.Slot.{Slot}
 use Rattle.registry.specs.declared.run.Slot.the-variants.{At, Refused}
 use Rattle.registry.specs.declared.registry.Done.{Done}
-use Rattle.registry.proofs.Slots.{is-some, none-some, has-found, found-none}
+use Rattle.registry.proofs.Slots.{is-some, none-some, has-found, found-none, place-first}
 use Rattle.registry.proofs.Keeping.{GoodSlots, slots-record, every-found}
 use Rattle.registry.proofs.Records.{Long, field-long, field-drop, joined-long, GoodPort, good-port-record, slots-long, slots-parts}
 use Rattle.registry.proofs.Testing.{named-holds, free-holds, thing-port, shape-port, named-port}
@@ -197,6 +197,7 @@ module _ (rows : List ℕ) (h : Slots rows) where
       -- its port
       pub port-at : (n : ℕ) → n ≡ getD rows (k * 106 + 33) 0
           → (take n (drop (k * 106 + 33 + 1) rows) ≡ text-of (found destination-of d slots)) × (k * 106 + 33 + 1 + n ≤ length rows) × (0 < n)
+          × (k * 106 + 33 + 1 ≡ place destination-of d slots * 106 + 34)
       port-at n read =
           let (p, e) = slot-holds in
           let g : GoodPort p = port-good p e in
@@ -204,12 +205,13 @@ module _ (rows : List ℕ) (h : Slots rows) where
           sym (take-append-drop 106 (drop (k * 106) rows)) ∙ ap (_++ drop 106 (drop (k * 106) rows)) (row-k k slot-inside ∙ ap port-record e) in
           let text = text-from p g (drop 106 (drop (k * 106) rows)) in
           let len : n ≡ length (p .text) = read ∙ sym (getD-drop (k * 106) rows 33 0) ∙ ap (λ z. getD z 33 0) from ∙ text .0 in
-          let place : k * 106 + 34 ≡ k * 106 + 33 + 1 = omega arith in (
-            ap₂ (λ m z. take m (drop z rows)) len (sym place) ∙ ap (take (length (p .text))) (sym (drop-drop 34 (k * 106) rows))
+          let one : k * 106 + 34 ≡ k * 106 + 33 + 1 = omega arith in (
+            ap₂ (λ m z. take m (drop z rows)) len (sym one) ∙ ap (take (length (p .text))) (sym (drop-drop 34 (k * 106) rows))
                 ∙ ap (λ z. take (length (p .text)) (drop 34 z)) from ∙ text .1
                 ∙ sym (ap text-of (found-there p e)),
             omega (arith, len, g .text-sized .short, slots-octets, slot-inside),
             omega (arith, len, g .text-sized .some-octet),
+            sym one ∙ ap (λ z. z * 106 + 34) (place-first destination-of d k slots there-slots),
           )
 
     -- it is in none

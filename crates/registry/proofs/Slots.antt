@@ -7,13 +7,14 @@ use mathlib.Core.Path.{_≡_, refl, sym, _∙_, ap, ap₂}
 use mathlib.Core.Bool.{Bool, true, false, cond, _&&_, _||_, not, true≢false}
 use mathlib.Core.Option.{Option, none, some}
 use mathlib.Core.List.{List, [], _∷_, map}
-use Prim.Native.Nat.{ℕ, suc}
+use Prim.Native.Nat.{ℕ, suc, _+_}
+use native.Mathlib.Omega.{arith}
 use lib.ListN.{length}
 use borrow.Author.Tests.{not-true}
 use Rattle.headers.specs.Rows.{every, any, same}
 use Rattle.headers.proofs.Rows.{cond-case, and-left, and-right, or-false-left, or-false-right, same-eq, same-self, same-apart}
-use Rattle.stores.specs.Searches.{replaced}
-use Rattle.registry.specs.Slots.{is-free, holds, has-free, has, found, distinct}
+use Rattle.stores.specs.Searches.{first-from, replaced}
+use Rattle.registry.specs.Slots.{is-free, holds, has-free, has, found, place, distinct}
 
 abbrev pub is-some : {A : Type 0} → Option A → Bool
 is-some none = false
@@ -68,6 +69,20 @@ module _ {A : Type 0} (name : A → List ℕ) where
       by : (t : Bool) → same (name b) x ≡ t → cond t (some b) (found name x slots) ≡ some a → (found name x slots ≡ some a → name a ≡ x) → name a ≡ x
       by true e k go = let n : b ≡ a = cc in ap name (sym n) ∙ same-eq (name b) x e
       by false e k go = go k
+
+  -- the first that holds it is at its place
+  place-from : (x : List ℕ) (j k : ℕ) (slots : List (Option A)) → some k ≡ first-from (holds name x) j slots → k ≡ j + place name x slots
+  unfolding first-from
+  place-from x j k [] e = absurd (none-some k (sym e))
+  place-from x j k (s ∷ slots) e = by (holds name x s) e (place-from x (suc j) k slots)
+    where
+      by : (t : Bool) → some k ≡ cond t (some j) (first-from (holds name x) (suc j) slots)
+          → (some k ≡ first-from (holds name x) (suc j) slots → k ≡ suc j + place name x slots) → k ≡ j + cond t 0 (suc (place name x slots))
+      by true h go = let q : k ≡ j = cc in omega (arith, q)
+      by false h go = omega (arith, go h)
+
+  pub place-first : (x : List ℕ) (k : ℕ) (slots : List (Option A)) → some k ≡ first-from (holds name x) 0 slots → k ≡ place name x slots
+  place-first x k slots e = omega (arith, place-from x 0 k slots e)
 
   -- a slot holds by one name alone
   pub holds-one : (s : Option A) (x y : List ℕ) → holds name x s ≡ true → same x y ≡ false → holds name y s ≡ false

@@ -1,9 +1,10 @@
 -- What the answers of the registry's calls say, case by case, and the numbers that C gets. Assumes nothing.
 use mathlib.Core.Bool.{cond}
-use mathlib.Core.List.{List, []}
+use mathlib.Core.Path.{_≡_}
+use mathlib.Core.List.{List, [], _∷_}
 use Prim.Native.Nat.{ℕ, _+_, _*_, _/_, _%_, _≤_, _<_}
 use lib.Dec.{eqb, ltb}
-use lib.ListN.{take, drop}
+use lib.ListN.{length, take, drop}
 use Rattle.headers.specs.Answers.{Answer, accepted, refused}
 use Rattle.registry.specs.declared.registry.Done.{Done}
 use Rattle.registry.specs.declared.registry.Asked.{Asked}
@@ -26,6 +27,12 @@ Bounded (Asked.Port p) = (0 < p .len) × (p .start + p .len ≤ 3524)
 Bounded Asked.Nothing = Unit {0}
 Bounded (Asked.Refused n) = (0 < n) × (n < 256)
 
+-- a port's text begins at that place of the record, and is all in it
+abbrev pub StartsAt : List ℕ → ℕ → Asked → Type 0
+StartsAt reg start (Asked.Port p) = (p .start ≡ start) × (p .start + p .len ≤ length reg)
+StartsAt reg start Asked.Nothing = Unit {0}
+StartsAt reg start (Asked.Refused n) = Unit {0}
+
 -- ---- the numbers that C gets: 0 where accepted or where there is no port, the number of a refusal, or 65,536 times the length of
 -- the port's text and where it starts in the record
 
@@ -33,6 +40,13 @@ abbrev pub answer-number : Answer → ℕ
 answer-number (accepted values) = 0
 answer-number (refused n) = n
 
+-- the answer to asking, with where the text begins
+abbrev pub packed-ask : Answer → ℕ → ℕ
+packed-ask (accepted []) start = 0
+packed-ask (accepted (x ∷ text)) start = length (x ∷ text) * 65536 + start
+packed-ask (refused n) start = n
+
+-- the same as the code has it
 abbrev pub asked-number : Asked → ℕ
 asked-number (Asked.Port p) = p .len * 65536 + p .start
 asked-number Asked.Nothing = 0

@@ -1,5 +1,5 @@
--- Histories of an empty registry, call by call with each answer; records that are valid and that are not; and runs that stay opened, with
--- what the rule on them compares. That all rows hold is proofs/Examples.antt. Assumes nothing.
+-- Histories of an empty registry, call by call with each answer; records that are valid and that are not; the number that C gets for asking;
+-- and runs that stay opened, with what the rule on them compares. That all rows hold is proofs/Examples.antt. Assumes nothing.
 use mathlib.Core.Path.{_≡_}
 use mathlib.Core.Bool.{true}
 use mathlib.Core.Option.{Option, none, some}
@@ -11,7 +11,8 @@ use Rattle.headers.specs.Rows.{octets-of}
 use Rattle.headers.specs.Answers.{Answer, accepted, refused}
 use Rattle.registry.specs.Registry.{Port, Run}
 use Rattle.registry.specs.Calls.{Call, open-run, close-run, publish, ask, end-session}
-use Rattle.registry.specs.Records.{run-record, registry-record, empty-record, answer-to, octets-of-run}
+use Rattle.registry.specs.Records.{run-record, registry-record, empty-record, answer-to, text-start, octets-of-run}
+use Rattle.registry.specs.Answers.{packed-ask}
 use Rattle.registry.specs.Histories.{are-calls, after, Event, events, concerning, answers-for, at-opening, Stays}
 
 -- ---- histories
@@ -231,6 +232,34 @@ judged =
     invalid "an octet after a text" (set (two plain none) 70 1) ∷
     invalid "a session in a free slot" (set (two plain none) 350 1) ∷
     invalid "an octet in a free run" (set (two plain none) 3523 1) ∷
+    []
+
+-- ---- the number for asking
+
+pub record Numbered : Type 0 where
+  pub run : List ℕ
+  pub destination : List ℕ
+  pub number : ℕ
+
+-- two runs with the same text under one destination, in the first and in the second slot
+abbrev pub alike : List ℕ
+alike = two plain (run-of (octets-of "s") none (port "ice" "a:1" 1))
+
+abbrev pub Numbers : Numbered → Type 0
+Numbers a = packed-ask (answer-to alike (ask (a .run) (a .destination))) (text-start alike (a .run) (a .destination)) ≡ a .number
+
+abbrev numbered-by : String → String → ℕ → Numbered
+numbered-by l d n = record { run = octets-of l; destination = octets-of d; number = n }
+
+-- three octets at 67, at 173 and at 1,054; none; not open; a bad size
+unfoldable pub numbered : List Numbered
+numbered =
+    numbered-by "r" "ice" 196675 ∷
+    numbered-by "r" "sea" 196781 ∷
+    numbered-by "s" "ice" 197662 ∷
+    numbered-by "s" "sea" 0 ∷
+    numbered-by "q" "ice" 91 ∷
+    numbered-by "r" "" 90 ∷
     []
 
 -- ---- a run that stays opened

@@ -6,7 +6,7 @@
 use mathlib.Core.Bool.{Bool, cond, _&&_, not}
 use mathlib.Core.Option.{Option, none, some}
 use mathlib.Core.List.{List, [], _∷_, _++_, map}
-use Prim.Native.Nat.{ℕ, zero, suc}
+use Prim.Native.Nat.{ℕ, zero, suc, _+_, _*_}
 use lib.ListN.{length, take, drop, replicate, getD}
 use lib.Dec.{eqb}
 use Rattle.headers.specs.Rows.{first-of, same}
@@ -14,8 +14,8 @@ use Rattle.headers.specs.Numbers.{evaluate, numeral}
 use Rattle.headers.specs.Answers.{Answer, settle}
 use Rattle.stores.specs.Places.{padded}
 use Rattle.stores.specs.Compaction.{joined}
-use Rattle.registry.specs.Slots.{holds}
-use Rattle.registry.specs.Registry.{Port, Run, label-of, runs-max, ports-max, label-max, destination-max, text-max, good}
+use Rattle.registry.specs.Slots.{holds, place}
+use Rattle.registry.specs.Registry.{Port, Run, destination-of, label-of, slots-of, runs-max, ports-max, label-max, destination-max, text-max, good}
 use Rattle.registry.specs.Calls.{Call, checks, values, effect, left-by}
 
 -- a row cut into n parts of w octets
@@ -81,6 +81,11 @@ answer-to xs c = settle (record { fails = not (is-valid xs); number = 89 } ∷ c
 
 unfoldable pub next : List ℕ → Call → List ℕ
 next xs c = left-by (answer-to xs c) xs (registry-record (effect (runs-in xs) c))
+
+-- where in the record the text of the port under a run and a destination begins: after the runs, the label and the ports before it, its own
+-- destination (33 octets) and the text's length
+unfoldable pub text-start : List ℕ → List ℕ → List ℕ → ℕ
+text-start xs l d = place label-of l (runs-in xs) * run-size + 33 + (place destination-of d (slots-of l (runs-in xs)) * port-size + 34)
 
 -- the octets of the run of that label, if it is open
 unfoldable pub octets-of-run : List ℕ → List ℕ → Option (List ℕ)

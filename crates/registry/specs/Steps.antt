@@ -6,7 +6,7 @@ use mathlib.Core.List.{List, [], _∷_, _++_, map}
 use Prim.Native.Nat.{ℕ, _+_, _*_, _≤_, _<_}
 use lib.ListN.{length, take, drop, set}
 use Rattle.headers.specs.Answers.{accepted, refused, Check, settle}
-use Rattle.registry.specs.Slots.{has, has-free, found}
+use Rattle.registry.specs.Slots.{has, has-free, found, place}
 use Rattle.registry.specs.Registry.{Port, destination-of, ports-max, good-slots, published}
 use Rattle.registry.specs.Calls.{of-other, text-of, left-by}
 use Rattle.stores.specs.Compaction.{joined}
@@ -59,6 +59,7 @@ pub record Text (w : ℕ) (x : List ℕ) : Type 0 where
 abbrev pub GivesPort : List ℕ → List ℕ → Asked → Type 0
 GivesPort d rows (Asked.Port p) =
     (take (p .len) (drop (p .start) rows) ≡ text-of (found destination-of d (slots-at rows))) × (p .start + p .len ≤ length rows) × (0 < p .len)
+    × (p .start ≡ place destination-of d (slots-at rows) * port-size + 34)
 GivesPort d rows Asked.Nothing = [] ≡ text-of (found destination-of d (slots-at rows))
 GivesPort d rows (Asked.Refused n) = Unit {0} → ⊥
 

@@ -1,8 +1,8 @@
 // Calls for C: numbers and byte slices, and an answer in one number.
 ghost use mathlib.Core.Path.{_≡_};
 ghost use Rattle.registry.specs.Calls.{open-run, close-run, publish, ask, end-session};
-ghost use Rattle.registry.specs.Records.{answer-to, next};
-ghost use Rattle.registry.specs.Answers.{done-says, answer-number, Bounded, asked-number, asked-read};
+ghost use Rattle.registry.specs.Records.{answer-to, next, text-start};
+ghost use Rattle.registry.specs.Answers.{done-says, answer-number, Bounded, packed-ask, asked-number, asked-read};
 use crate::registry::Asked;
 use crate::registry::Done;
 
@@ -74,10 +74,14 @@ pub extern "C" fn stomp_registry_end(reg: &mut [u8], session: u64) -> u64
     done_number(crate::registry::end_session(reg, session))
 }
 
-// The answer to asking, in one number, which reads back.
+// The answer to asking, in one number: where the text is, which reads back.
 #[no_mangle]
 pub extern "C" fn stomp_registry_ask(reg: &[u8], run: &[u8], destination: &[u8]) -> u64
-    ensures { λ r. ⌜ asked-read (now (reg .entry)) r ≡ answer-to (now (reg .entry)) (ask (now (run .entry)) (now (destination .entry))) ⌝ }
+    ensures { λ r. ⌜
+        (r ≡ packed-ask (answer-to (now (reg .entry)) (ask (now (run .entry)) (now (destination .entry))))
+        (text-start (now (reg .entry)) (now (run .entry)) (now (destination .entry))))
+        × (asked-read (now (reg .entry)) r ≡ answer-to (now (reg .entry)) (ask (now (run .entry)) (now (destination .entry))))
+        ⌝ }
 {
     pack_asked(crate::registry::ask(reg, run, destination))
 }

@@ -6,9 +6,9 @@ ghost use Rattle.headers.specs.Rows.{every};
 ghost use Rattle.registry.specs.Registry.{bad-size, runs-max};
 ghost use Rattle.registry.specs.Calls.{open-run, close-run, publish, ask, end-session};
 ghost use Rattle.stores.specs.Compaction.{joined};
-ghost use Rattle.registry.specs.Records.{parts, run-size, is-valid, answer-to, next};
+ghost use Rattle.registry.specs.Records.{parts, run-size, is-valid, answer-to, next, text-start};
 ghost use Rattle.registry.specs.Tests.{is-run};
-ghost use Rattle.registry.specs.Answers.{done-says, asked-says, Bounded};
+ghost use Rattle.registry.specs.Answers.{done-says, asked-says, StartsAt, Bounded};
 ghost use Rattle.registry.specs.Steps.{run-octets-without, Movable, moved-by};
 use headers::Span;
 use stores::Search;
@@ -156,7 +156,9 @@ fn moved(found: Asked, from: usize) -> Asked
 // The port under a destination of a run.
 pub fn ask(reg: &[u8], run: &[u8], destination: &[u8]) -> Asked
     ensures { λ r. ⌜
-        (asked-says (now (reg .entry)) r ≡ answer-to (now (reg .entry)) (ask (now (run .entry)) (now (destination .entry)))) × Bounded r
+        (asked-says (now (reg .entry)) r ≡ answer-to (now (reg .entry)) (ask (now (run .entry)) (now (destination .entry))))
+        × StartsAt (now (reg .entry)) (text-start (now (reg .entry)) (now (run .entry)) (now (destination .entry))) r
+        × Bounded r
         ⌝ }
 {
     if !is_valid(reg) {

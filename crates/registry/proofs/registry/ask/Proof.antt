@@ -43,6 +43,7 @@ returns : tie.Need-returns
 returns c = (
   invalid (c .before .before .before .before .before .args .reg .now) (sym (c .before .is-valid .ensures) ∙ not-true _ (c .if1 .taken))
       (ask (c .before .before .before .before .before .args .run .now) (c .before .before .before .before .before .args .destination .now)) .0,
+  tt,
   (omega arith, omega arith),
 )
 
@@ -57,6 +58,7 @@ returns-2 c =
     let s = c .before .before .before .before .before .before .before .before in (
       ask-bad (s .args .reg .now) (sym (c .before .before .before .before .is-valid .ensures) ∙ not-false _ (c .before .before .before .if1 .left))
           (s .args .run .now) (s .args .destination .now) (sym (ap₂ (_||_) (c .before .before .is-bad .ensures) (c .before .is-bad2 .ensures)) ∙ c .if2 .taken),
+      tt,
       (omega arith, omega arith),
     )
 
@@ -130,6 +132,7 @@ returns-3 c =
       ask-none (reg e) (valid e) (run e) (destination e) (sizes e)
           (is-open-at (reg e) (valid e) (run e) (some-run e) (c .before .before .find .result) (c .before .before .find .ensures)
           ∙ ap is-at (c .enum-told .given .1)),
+      tt,
       (omega arith, omega arith),
     )
 
