@@ -9,6 +9,7 @@ mod matching;
 mod opening;
 mod planning;
 mod records;
+mod registering;
 mod replays;
 mod sessions;
 mod writing;

@@ -3,8 +3,8 @@
 use crate::comparison::quietly;
 use crate::random::Random;
 use crate::{
-    compare, compare_encode, compare_feed, compare_match, compare_plan, compare_replay,
-    compare_rewrite, compare_session,
+    compare, compare_encode, compare_feed, compare_match, compare_plan, compare_registry,
+    compare_replay, compare_rewrite, compare_session,
 };
 use std::io;
 use std::path::Path;
@@ -21,7 +21,7 @@ struct Comparison {
 }
 
 /// The comparisons; the batches take about as long as each other.
-const COMPARISONS: [Comparison; 8] = [
+const COMPARISONS: [Comparison; 9] = [
     Comparison {
         mode: "compare",
         program: "list",
@@ -77,6 +77,13 @@ const COMPARISONS: [Comparison; 8] = [
         what: "calls",
         batch: 20_000,
         run: quietly::<compare_plan::Tally>,
+    },
+    Comparison {
+        mode: "compare-registry",
+        program: "registry_calls",
+        what: "calls",
+        batch: 50_000,
+        run: quietly::<compare_registry::Tally>,
     },
 ];
 

@@ -7,6 +7,7 @@ pub mod feeding;
 pub mod matching;
 pub mod planning;
 mod records;
+pub mod registering;
 
 use self::deliveries::holding;
 use self::records::{invalid, making, valid};

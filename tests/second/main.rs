@@ -1,6 +1,6 @@
 //! An independent second program: it parses, decodes and encodes STOMP frames, keeps a client's session,
-//! matches patterns and checks plans by documents 01 and 02, and compares what it finds with what other
-//! programs write. README.md has the modes.
+//! matches patterns, checks plans and keeps a registry of ports by documents 01 and 02, and compares what it
+//! finds with what other programs write. README.md has the modes.
 
 mod block;
 mod calls;
@@ -12,6 +12,7 @@ mod compare_feed;
 mod compare_for;
 mod compare_match;
 mod compare_plan;
+mod compare_registry;
 mod compare_replay;
 mod compare_rewrite;
 mod compare_session;
@@ -30,6 +31,8 @@ mod plan_calls;
 mod program;
 mod random;
 mod reader;
+mod registry;
+mod registry_calls;
 mod replay;
 mod rewrite;
 mod session;
@@ -61,6 +64,7 @@ second session
 second feed
 second match
 second plan
+second registry
 second compare PROGRAM COUNT SEED
 second compare-rewrite PROGRAM COUNT SEED
 second compare-encode PROGRAM COUNT SEED
@@ -69,6 +73,7 @@ second compare-session PROGRAM COUNT SEED
 second compare-feed PROGRAM COUNT SEED
 second compare-match PROGRAM COUNT SEED
 second compare-plan PROGRAM COUNT SEED
+second compare-registry PROGRAM COUNT SEED
 second compare-for SECONDS SEED PROGRAMS
 second make DIR
 second make-encode FILE
@@ -77,6 +82,7 @@ second make-session FILE
 second make-feed FILE
 second make-match FILE
 second make-plan FILE
+second make-registry FILE
 second vectors DIR";
 
 fn main() -> ExitCode {
@@ -95,6 +101,7 @@ fn main() -> ExitCode {
         ["feed"] => feed(),
         ["match"] => match_patterns(),
         ["plan"] => check_plans(),
+        ["registry"] => registry(),
         ["compare-for", seconds, seed, programs] => compare_for(seconds, seed, programs),
         [mode, program, count, seed] => match comparison(mode) {
             Some(compare) => compare_by(compare, program, count, seed),
@@ -107,6 +114,7 @@ fn main() -> ExitCode {
         ["make-feed", file] => fs::write(file, fixed::feeding::calls()).map(|()| true),
         ["make-match", file] => fs::write(file, fixed::matching::calls()).map(|()| true),
         ["make-plan", file] => fs::write(file, fixed::planning::calls()).map(|()| true),
+        ["make-registry", file] => fs::write(file, fixed::registering::calls()).map(|()| true),
         ["vectors", folder] => vectors::write_listings(Path::new(folder)).map(|()| true),
         _ => Err(io::Error::other(USAGE)),
     };
@@ -223,6 +231,20 @@ fn check_plans() -> io::Result<bool> {
     Ok(true)
 }
 
+/// Reads calls of a registry from standard input and writes the replies.
+fn registry() -> io::Result<bool> {
+    let mut input = Vec::new();
+    io::stdin().read_to_end(&mut input)?;
+    let calls =
+        registry_calls::read(&input).ok_or(io::Error::other("registry: a call is cut off"))?;
+    let mut output = io::stdout().lock();
+    for reply in registry_calls::replies(&calls) {
+        output.write_all(&reply.octets())?;
+    }
+    output.flush()?;
+    Ok(true)
+}
+
 type Comparison = fn(&str, usize, u64) -> io::Result<bool>;
 
 fn comparison(mode: &str) -> Option<Comparison> {
@@ -235,6 +257,7 @@ fn comparison(mode: &str) -> Option<Comparison> {
         "compare-feed" => comparison::compare::<compare_feed::Tally>,
         "compare-match" => comparison::compare::<compare_match::Tally>,
         "compare-plan" => comparison::compare::<compare_plan::Tally>,
+        "compare-registry" => comparison::compare::<compare_registry::Tally>,
         _ => return None,
     })
 }
