@@ -36,4 +36,14 @@ uint64_t baseline_find(const uint8_t *block, size_t block_length, const uint8_t 
 /* Goes over name and pattern once for their words, then fills a row of answers. */
 uint64_t baseline_match(const uint8_t *name, size_t name_length, const uint8_t *pattern, size_t pattern_length);
 
+/* The calls of a registry, with memcmp. */
+uint64_t baseline_registry_open(uint8_t *registry, size_t registry_length, const uint8_t *run, size_t run_length);
+uint64_t baseline_registry_close(uint8_t *registry, size_t registry_length, const uint8_t *run, size_t run_length);
+uint64_t baseline_registry_publish(uint8_t *registry, size_t registry_length, const uint8_t *run,
+                                   size_t run_length, const uint8_t *destination, size_t destination_length,
+                                   const uint8_t *text, size_t text_length, uint64_t session);
+uint64_t baseline_registry_end(uint8_t *registry, size_t registry_length, uint64_t session);
+uint64_t baseline_registry_ask(const uint8_t *registry, size_t registry_length, const uint8_t *run,
+                               size_t run_length, const uint8_t *destination, size_t destination_length);
+
 #endif

@@ -9,6 +9,9 @@
 pub const MAX_BLOCK: usize = 16544;
 pub const MAX_FRAME: usize = 49228;
 
+/// Octets of a registry.
+pub const REGISTRY: usize = 3524;
+
 pub const COMMAND_ABORT: u32 = 1;
 pub const COMMAND_ACK: u32 = 2;
 pub const COMMAND_BEGIN: u32 = 3;
@@ -55,6 +58,15 @@ pub const PLAN_LEFT_OUT: u32 = 100; // no pair is bad, and no pair has a message
 pub const PLAN_TOO_MANY_PAIRS: u32 = 101; // more than 64 whole pairs
 pub const PLAN_MALFORMED: u32 = 102; // no whole records, a number twice, or a malformed text
 
+/// The numbers of a registry's calls: 89 first, then 90, then the call's own in this order.
+pub const REGISTRY_INVALID: u32 = 89; // the registry is not valid
+pub const REGISTRY_SIZE: u32 = 90; // a text of the call is empty or too long
+pub const REGISTRY_NOT_OPEN: u32 = 91; // no run of that label is open
+pub const REGISTRY_HELD: u32 = 92; // another session's port is under the destination
+pub const REGISTRY_FULL: u32 = 93; // the destination is new, and all places of the run are taken
+pub const REGISTRY_ALREADY_OPEN: u32 = 94; // a run of that label is open
+pub const REGISTRY_RUNS_TAKEN: u32 = 95; // four runs are open
+
 mod library {
     extern "C" {
         pub fn stomp_parse(octets: *const u8, len: usize) -> u64;
@@ -83,6 +95,38 @@ mod library {
             subscriptions_len: usize,
             plan: *const u8,
             plan_len: usize,
+        ) -> u64;
+        pub fn stomp_registry_open(
+            registry: *mut u8,
+            registry_len: usize,
+            run: *const u8,
+            run_len: usize,
+        ) -> u64;
+        pub fn stomp_registry_close(
+            registry: *mut u8,
+            registry_len: usize,
+            run: *const u8,
+            run_len: usize,
+        ) -> u64;
+        pub fn stomp_registry_publish(
+            registry: *mut u8,
+            registry_len: usize,
+            run: *const u8,
+            run_len: usize,
+            destination: *const u8,
+            destination_len: usize,
+            text: *const u8,
+            text_len: usize,
+            session: u64,
+        ) -> u64;
+        pub fn stomp_registry_end(registry: *mut u8, registry_len: usize, session: u64) -> u64;
+        pub fn stomp_registry_ask(
+            registry: *const u8,
+            registry_len: usize,
+            run: *const u8,
+            run_len: usize,
+            destination: *const u8,
+            destination_len: usize,
         ) -> u64;
         pub fn stomp_encode_with(
             options: u32,
@@ -277,4 +321,101 @@ pub fn add(block: &mut Vec<u8>, name: &[u8], value: &[u8]) {
     block.extend(two_octets(value.len()));
     block.extend(name);
     block.extend(value);
+}
+
+/// Ports under the labels of runs, in a record. A call that is refused leaves it as it was.
+pub struct Registry {
+    pub octets: [u8; REGISTRY],
+}
+
+/// 0 where a call was done, else its number.
+fn done(answer: u64) -> Result<(), Refusal> {
+    match answer as u32 {
+        0 => Ok(()),
+        code => Err(Refusal { code, place: 0 }),
+    }
+}
+
+impl Registry {
+    /// An empty one.
+    pub fn new() -> Registry {
+        let octets = [0; REGISTRY];
+        Registry { octets }
+    }
+
+    /// Opens a run, with no ports.
+    pub fn open(&mut self, run: &[u8]) -> Result<(), Refusal> {
+        let octets = &mut self.octets;
+        done(unsafe {
+            library::stomp_registry_open(octets.as_mut_ptr(), octets.len(), run.as_ptr(), run.len())
+        })
+    }
+
+    /// Closes a run and withdraws its ports.
+    pub fn close(&mut self, run: &[u8]) -> Result<(), Refusal> {
+        let octets = &mut self.octets;
+        done(unsafe {
+            library::stomp_registry_close(
+                octets.as_mut_ptr(),
+                octets.len(),
+                run.as_ptr(),
+                run.len(),
+            )
+        })
+    }
+
+    /// Publishes a port for a session; the text is replaced where the session holds the destination.
+    pub fn publish(
+        &mut self,
+        run: &[u8],
+        destination: &[u8],
+        text: &[u8],
+        session: u64,
+    ) -> Result<(), Refusal> {
+        let octets = &mut self.octets;
+        done(unsafe {
+            library::stomp_registry_publish(
+                octets.as_mut_ptr(),
+                octets.len(),
+                run.as_ptr(),
+                run.len(),
+                destination.as_ptr(),
+                destination.len(),
+                text.as_ptr(),
+                text.len(),
+                session,
+            )
+        })
+    }
+
+    /// Withdraws the ports that a session published, in every run.
+    pub fn end(&mut self, session: u64) -> Result<(), Refusal> {
+        let octets = &mut self.octets;
+        done(unsafe { library::stomp_registry_end(octets.as_mut_ptr(), octets.len(), session) })
+    }
+
+    /// The text of the port under a run and a destination.
+    pub fn ask(&self, run: &[u8], destination: &[u8]) -> Result<Option<&[u8]>, Refusal> {
+        let answer = unsafe {
+            library::stomp_registry_ask(
+                self.octets.as_ptr(),
+                self.octets.len(),
+                run.as_ptr(),
+                run.len(),
+                destination.as_ptr(),
+                destination.len(),
+            )
+        };
+        let start = bits(answer, 0, 16);
+        match bits(answer, 16, 48) {
+            0 => done(answer).map(|()| None),
+            length => Ok(Some(&self.octets[start..start + length])),
+        }
+    }
+}
+
+impl Default for Registry {
+    fn default() -> Registry {
+        Registry::new()
+    }
 }

@@ -1,12 +1,12 @@
-/* One input is one call. Its first octet says which (lowest two bits), on which side of our slices
- * the page lies that cannot be touched (third bit), and what the buffers hold before (all of it).
+/* One input is one call, or a row of them. Its first octet says which (lowest two bits), on which side of
+ * our slices the page lies that cannot be touched (third bit), and what the buffers hold before (all of it).
  * The rest is cut into the arguments, numbers high octet first:
  *
  *   0 parse    octets; with the fourth bit they are fed in pieces, see feed.c
  *   1 decode   room 2, frame; with the fourth bit match: pattern length 2, pattern, name; with the fifth
  *              bit too a plan, and with the sixth as records, see plan.c
  *   2 encode   options 4, command 4, room 2, body length 2, body, block
- *   3 find     name length 2, name, block
+ *   3 find     name length 2, name, block; with the fifth bit calls of a registry, see registry.c
  *
  * A number that is missing is 0, and a slice is not longer than what is left. With the fourth bit
  * the block is not there as it is, but as a text of which whole records are made: octet 255 ends an
@@ -25,6 +25,7 @@
 
 enum { PARSE, DECODE, ENCODE, FIND, MATCH };
 enum { PAGE_BEHIND = 4, AS_TEXT = 8, IN_PIECES = 8, MATCHED = 8, PLANNED = 16, AS_RECORDS = 32 };
+enum { REGISTERED = 16 };
 enum { HEAD = 6 };
 enum { NAME_END = 254, ENTRY_END = 255 };
 
@@ -38,7 +39,7 @@ struct call {
 
 /* Our slices lie in rooms of their own, each between two pages that cannot be touched: at its end or
  * at its start. On the other side are GUARD octets, which must stay as they are. */
-static uint8_t *rooms[SLICES];
+static uint8_t *rooms[ROOMS];
 
 /* What guards and buffers hold before a call: these octets from some place on. */
 static uint8_t fill[256 + GUARD + ROOM];
@@ -62,7 +63,7 @@ int LLVMFuzzerInitialize(int *argc, char ***argv)
     (void)argv;
     for (size_t i = 0; i < sizeof fill; i++)
         fill[i] = (uint8_t)(i * 167 + (i >> 8) * 59);
-    for (size_t i = 0; i < SLICES; i++) {
+    for (size_t i = 0; i < ROOMS; i++) {
         uint8_t *start = mmap(NULL, ROOM + 2 * page, PROT_NONE, MAP_PRIVATE | MAP_ANONYMOUS, -1, 0);
         if (start == MAP_FAILED || mprotect(start + page, ROOM, PROT_READ | PROT_WRITE) != 0) {
             fprintf(stderr, "fuzz: no memory\n");
@@ -296,6 +297,10 @@ int LLVMFuzzerTestOneInput(const uint8_t *octets, size_t length)
     }
     if (c.which == DECODE && (choice & MATCHED) && (choice & PLANNED)) {
         fuzz_plan(r.octets, r.length, (choice & AS_RECORDS) != 0);
+        return 0;
+    }
+    if (c.which == FIND && (choice & REGISTERED)) {
+        fuzz_registry(r.octets, r.length);
         return 0;
     }
     if (c.which == DECODE && (choice & MATCHED))

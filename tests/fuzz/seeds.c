@@ -2,7 +2,7 @@
  * ways. For each item one input that parses; for each frame also ones that decode it, encode what it
  * holds, with the option and without, and find its first two names and one that it does not have. They
  * are read with the baseline. A block is there as it is and as the text that fuzz.c makes it of. Then entries
- * that are not UTF-8, and some names and patterns to match, and plans. */
+ * that are not UTF-8, some names and patterns to match, plans, and calls of a registry. */
 #include <stdio.h>
 #include <stdlib.h>
 #include <string.h>
@@ -12,7 +12,7 @@
 
 enum { HEAD = 6, STREAM = 1 << 18, LONGEST_INPUT = 66000 };
 enum { PARSE, DECODE, ENCODE, FIND, PAGE_BEHIND = 4, AS_TEXT = 8, IN_PIECES = 8, MATCHED = 8 };
-enum { PLANNED = 16, AS_RECORDS = 32 };
+enum { PLANNED = 16, AS_RECORDS = 32, REGISTERED = 16 };
 enum { NAME_END = 254, ENTRY_END = 255 };
 
 static const char *directory;
@@ -213,6 +213,126 @@ static void write_plans(void)
     write_plan(messages, "8\177a", pairs, sizeof pairs - 2);
 }
 
+/* Calls of a registry, as registry.c has them: 0 open, 1 close, 2 publish, 3 ask, 4 end, 5 change. */
+static void put_text(const char *text)
+{
+    put_number(strlen(text), 1);
+    put(text, strlen(text));
+}
+
+static void open_run(const char *run)
+{
+    put_number(0, 1);
+    put_text(run);
+}
+
+static void publish(const char *run, const char *destination, const char *text, unsigned session)
+{
+    put_number(2, 1);
+    put_text(run);
+    put_text(destination);
+    put_text(text);
+    put_number(session, 1);
+}
+
+static void ask(const char *run, const char *destination)
+{
+    put_number(3, 1);
+    put_text(run);
+    put_text(destination);
+}
+
+/* So many times 'a', with the highest bit. */
+static void put_long(size_t length)
+{
+    put_number(128 + length, 1);
+    put_number('a', 1);
+}
+
+/* Yesterday's run is still open when today's is asked for its port. */
+static void write_wrong_port(void)
+{
+    begin(FIND | REGISTERED);
+    open_run("ocean-0611");
+    publish("ocean-0611", "ocean", "node7:40111", 1);
+    open_run("ocean-0612");
+    ask("ocean-0612", "ocean");
+    publish("ocean-0612", "ocean", "node9:40200", 255);
+    ask("ocean-0612", "ocean");
+    put("\4\377", 2);
+    ask("ocean-0612", "ocean");
+    put("\1\12ocean-0611", 12);
+    ask("ocean-0611", "ocean");
+    finish();
+}
+
+/* All places taken and one more, of ports and of runs. */
+static void write_full(void)
+{
+    char name[2] = "1";
+    begin(FIND | REGISTERED);
+    for (name[0] = '1'; name[0] < '6'; name[0]++)
+        open_run(name);
+    open_run("1");
+    for (name[0] = '1'; name[0] <= '9'; name[0]++)
+        publish("1", name, "p", (unsigned)name[0]);
+    publish("1", "1", "q", 0);
+    publish("6", "1", "q", 0);
+    put("\4" "2", 2);
+    publish("1", "9", "p", 9);
+    finish();
+}
+
+/* The longest texts, or one octet more in one of them; then an octet changed, at some place, and a session's
+ * end. */
+static void write_long(size_t run, size_t destination, size_t text, size_t at, unsigned octet)
+{
+    begin(FIND | REGISTERED);
+    put_number(0, 1);
+    put_long(STOMP_REGISTRY_MAX_RUN);
+    put_number(2, 1);
+    put_long(run);
+    put_long(destination);
+    put_long(text);
+    put_number(7, 1);
+    put_number(5, 1);
+    put_number(at, 2);
+    put_number(octet, at < STOMP_REGISTRY ? 1 : 0);
+    put("\4\7", 2);
+    finish();
+}
+
+/* Two runs, in the first two ports; then the octet that makes their labels, or their destinations, equal, and a
+ * question. */
+static void write_equal(size_t at, unsigned octet)
+{
+    begin(FIND | REGISTERED);
+    open_run("a");
+    open_run("b");
+    publish("a", "a", "p", 1);
+    publish("a", "b", "p", 1);
+    put_number(5, 1);
+    put_number(at, 2);
+    put_number(octet, 1);
+    ask("a", "a");
+    finish();
+}
+
+static void write_registries(void)
+{
+    static const size_t places[] = {0, 1, 33, 66, 131, 139, 880, 881, STOMP_REGISTRY - 1, STOMP_REGISTRY};
+    write_wrong_port();
+    write_full();
+    write_equal(1, 'b');
+    write_equal(34, 'b');
+    for (size_t more = 0; more < 4; more++)
+        write_long(32 + (more == 1), 32 + (more == 2), 64 + (more == 3), 139, 0);
+    for (size_t i = 0; i < sizeof places / sizeof *places; i++) {
+        write_long(32, 32, 64, places[i], 0);
+        write_long(32, 32, 64, places[i], 'b');
+    }
+}
+
 int main(int argc, char **argv)
 {
     static uint8_t stream[STREAM];
@@ -242,6 +362,7 @@ int main(int argc, char **argv)
     write_broken();
     write_matches();
     write_plans();
+    write_registries();
     printf("%lu seeds\n", count);
     return 0;
 }

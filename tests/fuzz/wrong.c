@@ -13,6 +13,13 @@ uint64_t right_encode(uint32_t command, const uint8_t *block, size_t block_len, 
 uint64_t right_match(const uint8_t *name, size_t name_len, const uint8_t *pattern, size_t pattern_len);
 uint64_t right_check_plan(const uint8_t *messages, size_t messages_len, const uint8_t *subscriptions,
                           size_t subscriptions_len, const uint8_t *plan, size_t plan_len);
+uint64_t right_registry_open(uint8_t *registry, size_t registry_len, const uint8_t *run, size_t run_len);
+uint64_t right_registry_publish(uint8_t *registry, size_t registry_len, const uint8_t *run, size_t run_len,
+                                const uint8_t *destination, size_t destination_len, const uint8_t *text,
+                                size_t text_len, uint64_t session);
+uint64_t right_registry_end(uint8_t *registry, size_t registry_len, uint64_t session);
+uint64_t right_registry_ask(const uint8_t *registry, size_t registry_len, const uint8_t *run, size_t run_len,
+                            const uint8_t *destination, size_t destination_len);
 
 /* 1: reads the octet behind its slice; 21: tells an octet that no character has after a backslash as a wrong
  * escape. */
@@ -121,4 +128,42 @@ uint64_t stomp_check_plan(const uint8_t *messages, size_t messages_len, const ui
     if (WRONG == 20 && code > 0 && code < STOMP_PLAN_LEFT_OUT)
         return answer + 1;
     return answer;
+}
+
+/* 23: changes the record where it refuses. */
+uint64_t stomp_registry_open(uint8_t *registry, size_t registry_len, const uint8_t *run, size_t run_len)
+{
+    uint64_t answer = right_registry_open(registry, registry_len, run, run_len);
+    if (WRONG == 23 && answer == STOMP_REGISTRY_ALREADY_OPEN)
+        registry[1]++;
+    return answer;
+}
+
+/* 24: lets a session replace another one's port. */
+uint64_t stomp_registry_publish(uint8_t *registry, size_t registry_len, const uint8_t *run, size_t run_len,
+                                const uint8_t *destination, size_t destination_len, const uint8_t *text,
+                                size_t text_len, uint64_t session)
+{
+    uint64_t answer = right_registry_publish(registry, registry_len, run, run_len, destination, destination_len,
+                                             text, text_len, session);
+    for (uint64_t other = 0; WRONG == 24 && answer == STOMP_REGISTRY_HELD && other < 256; other++)
+        answer = right_registry_publish(registry, registry_len, run, run_len, destination, destination_len, text,
+                                        text_len, other);
+    return answer;
+}
+
+/* 25: leaves the ports of session 0 and of those over 255. */
+uint64_t stomp_registry_end(uint8_t *registry, size_t registry_len, uint64_t session)
+{
+    if (WRONG == 25 && (session == 0 || session > 255))
+        session = 256;
+    return right_registry_end(registry, registry_len, session);
+}
+
+/* 26: says of a run that is not open that it has no port. */
+uint64_t stomp_registry_ask(const uint8_t *registry, size_t registry_len, const uint8_t *run, size_t run_len,
+                            const uint8_t *destination, size_t destination_len)
+{
+    uint64_t answer = right_registry_ask(registry, registry_len, run, run_len, destination, destination_len);
+    return WRONG == 26 && answer == STOMP_REGISTRY_NOT_OPEN ? 0 : answer;
 }
