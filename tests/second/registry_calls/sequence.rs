@@ -107,7 +107,7 @@ pub fn sequence(random: &mut Random, count: usize) -> Vec<Step> {
 }
 
 /// One call. Half of those that name a run name one that is open.
-fn any_call(random: &mut Random, octets: &[u8]) -> Call {
+pub fn any_call(random: &mut Random, octets: &[u8]) -> Call {
     let run = run(random, octets);
     match random.below(24) {
         0..=4 => Call::Open {
