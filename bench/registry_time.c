@@ -191,34 +191,49 @@ static double time_of(size_t who, const uint8_t registry[STOMP_REGISTRY], const 
     return 1e9 * time / RECORDS;
 }
 
-/* The best of the rounds; both take turns. */
-static void measure(const struct names *n, enum kind kind, double best[BOTH])
+static int compare(const void *a, const void *b)
 {
+    double x = *(const double *)a, y = *(const double *)b;
+    return (x > y) - (x < y);
+}
+
+static double median(double of_rounds[ROUNDS])
+{
+    qsort(of_rounds, ROUNDS, sizeof *of_rounds, compare);
+    return of_rounds[ROUNDS / 2];
+}
+
+/* The median times of the rounds, in which both take turns, and the median of the ratios: the machine may be
+ * quicker in one round than in another. */
+static double measure(const struct names *n, enum kind kind, double medians[BOTH])
+{
+    static double times[BOTH][ROUNDS], ratios[ROUNDS];
     uint8_t registry[STOMP_REGISTRY];
     struct call c = call_of(n, kind, STOMP_REGISTRY_RUNS - 1, STOMP_REGISTRY_PLACES - 1);
     fill(registry, n, kind);
     for (size_t round = 0; round < ROUNDS; round++) {
         for (size_t turn = 0; turn < BOTH; turn++) {
             size_t who = (round + turn) % BOTH;
-            double time = time_of(who, registry, &c);
-            if (round == 0 || time < best[who])
-                best[who] = time;
+            times[who][round] = time_of(who, registry, &c);
         }
+        ratios[round] = times[BASELINE][round] / times[OURS][round];
     }
+    for (size_t who = 0; who < BOTH; who++)
+        medians[who] = median(times[who]);
+    return median(ratios);
 }
 
 /* Prints a case: whether it is as --check asks, if that is given; says so where not. */
 static bool show(const struct names *n, enum kind kind, bool check)
 {
-    double best[BOTH];
-    measure(n, kind, best);
-    double ratio = best[BASELINE] / best[OURS];
-    printf("%-14s %7zu %5zu %9.0f %9.0f %9.2f\n", kinds[kind], n->name_length, n->text_length, best[OURS],
-           best[BASELINE], ratio);
-    if (!check || (best[OURS] < most_time && ratio >= least_ratio))
+    double time[BOTH];
+    double ratio = measure(n, kind, time);
+    printf("%-14s %7zu %5zu %9.0f %9.0f %9.2f\n", kinds[kind], n->name_length, n->text_length, time[OURS],
+           time[BASELINE], ratio);
+    if (!check || (time[OURS] < most_time && ratio >= least_ratio))
         return true;
     fprintf(stderr, "bench: registry, %s: %.0f ns, ratio %.2f; asked are under %.0f and %.1f\n", kinds[kind],
-            best[OURS], ratio, most_time, least_ratio);
+            time[OURS], ratio, most_time, least_ratio);
     return false;
 }
 
