@@ -11,6 +11,7 @@ pub mod Walking
 pub mod Texts
 pub mod Ports
 pub mod Testing
+pub mod Apart
 pub mod Changing
 pub mod Publishing
 pub mod Runs

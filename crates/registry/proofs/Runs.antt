@@ -17,11 +17,12 @@ use Rattle.headers.proofs.Rows.{octets-known}
 use Rattle.stores.specs.Places.{is-zero}
 use Rattle.registry.specs.Registry.{ports-max, runs-max}
 use Rattle.registry.specs.Records.{parts, port-size, run-size, is-valid}
-use Rattle.registry.specs.Tests.{are-distinct, is-field, is-port, is-run, is-registry, row-without}
+use Rattle.registry.specs.Tests.{are-distinct, are-apart, is-field, is-port, is-run, is-registry, row-without}
 use Rattle.registry.specs.Steps.{rows-without, run-octets-without}
 use Rattle.registry.proofs.Records.{Long, joined-long}
 use Rattle.registry.proofs.Ports.{without-long}
 use Rattle.registry.proofs.Testing.{parts-long, registry-valid}
+use Rattle.registry.proofs.Apart.{ports-apart, runs-apart}
 
 -- ---- the test of a row
 
@@ -35,6 +36,9 @@ module _ (xs : List ℕ) (long : length xs ≡ run-size) where
   -- the rows, as the code takes them
   rows-part : take 848 rows ≡ rows
   rows-part = take-all 848 rows (omega (arith, length-drop 33 xs))
+
+  part-long : length (take 848 rows) ≡ 848
+  part-long = length-take-le 848 rows (omega (arith, length-drop 33 xs))
 
   pub run-free : getD xs 0 0 ≡ 0 → (t : Bool) → t ≡ is-zero xs → t ≡ is-run xs
   unfolding is-run
@@ -55,9 +59,10 @@ module _ (xs : List ℕ) (long : length xs ≡ run-size) where
           ∙ ap (_&& are-distinct (parts port-size ports-max rows)) (ap (λ z. every is-port (parts port-size ports-max z)) (sym rows-part) ∙ e))
 
       pub run-rest : every is-port (parts port-size ports-max (take 848 rows)) ≡ true → (t : Bool)
-          → t ≡ are-distinct (parts port-size ports-max (take 848 rows)) → t ≡ is-run xs
+          → t ≡ are-apart (parts port-size ports-max (take 848 rows)) → t ≡ is-run xs
       run-rest e t is =
-          is ∙ ap (λ z. are-distinct (parts port-size ports-max z)) rows-part
+          is ∙ ports-apart (parts port-size ports-max (take 848 rows)) (parts-long port-size 8 (take 848 rows) part-long) e
+          ∙ ap (λ z. are-distinct (parts port-size ports-max z)) rows-part
           ∙ sym (parts-of ∙ ap (_&& rest) label
           ∙ ap (_&& are-distinct (parts port-size ports-max rows)) (ap (λ z. every is-port (parts port-size ports-max z)) (sym rows-part) ∙ e))
 
@@ -78,8 +83,10 @@ module _ (xs : List ℕ) (octets : (i : ℕ) → getD xs i 0 < 256) where
     pub registry-no-runs : every is-run all-runs ≡ false → false ≡ is-valid xs
     registry-no-runs e = sym (valid-as ∙ ap₂ (λ a b. a && (b && are-distinct all-runs)) (eq-eqb (length xs) 3524 long) e)
 
-    pub registry-rest : every is-run all-runs ≡ true → (t : Bool) → t ≡ are-distinct all-runs → t ≡ is-valid xs
-    registry-rest e t is = is ∙ sym (valid-as ∙ ap₂ (λ a b. a && (b && are-distinct all-runs)) (eq-eqb (length xs) 3524 long) e)
+    pub registry-rest : every is-run all-runs ≡ true → (t : Bool) → t ≡ are-apart all-runs → t ≡ is-valid xs
+    registry-rest e t is =
+        is ∙ runs-apart all-runs (parts-long run-size 4 xs long) e
+        ∙ sym (valid-as ∙ ap₂ (λ a b. a && (b && are-distinct all-runs)) (eq-eqb (length xs) 3524 long) e)
 
 -- ---- a session's ports withdrawn from a row
 

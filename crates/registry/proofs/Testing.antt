@@ -28,7 +28,7 @@ use Rattle.registry.specs.Tests.{is-named, are-distinct, is-field, is-po
 use Rattle.registry.proofs.Keeping.{Good, GoodSlots}
 use Rattle.registry.proofs.Records.{Long, Sized, field-long, field-used, GoodPort, good-port-record, run-label, run-slots, record-parts, record-long, valid-good, valid-record, slots-parts, slots-long, slots-back, runs-long, runs-back}
 
-every-take : (f : ℕ → Bool) (n : ℕ) (xs : List ℕ) → every f xs ≡ true → every f (take n xs) ≡ true
+pub every-take : (f : ℕ → Bool) (n : ℕ) (xs : List ℕ) → every f xs ≡ true → every f (take n xs) ≡ true
 every-take f n xs h = every-left f (take n xs) (drop n xs) (ap (every f) (take-append-drop n xs) ∙ h)
 
 -- ---- texts
@@ -76,11 +76,11 @@ is-field-text w x s =
     (ap₂ (_&&_) (lt-ltb (length x) (length (text-field w x)) (omega (arith, padded-long w x (s .short), s .short))) rest)
 
 -- the text of a row is that of the field that it begins with
-text-front : (n : ℕ) (xs : List ℕ) → getD xs 0 0 ≤ n → text-in (take (suc n) xs) ≡ text-in xs
+pub text-front : (n : ℕ) (xs : List ℕ) → getD xs 0 0 ≤ n → text-in (take (suc n) xs) ≡ text-in xs
 text-front n [] h = refl
 text-front n (l ∷ xs) h = take-take l n xs h
 
-first-front : (n : ℕ) (xs : List ℕ) → getD (take (suc n) xs) 0 0 ≡ getD xs 0 0
+pub first-front : (n : ℕ) (xs : List ℕ) → getD (take (suc n) xs) 0 0 ≡ getD xs 0 0
 first-front n [] = refl
 first-front n (l ∷ xs) = refl
 
@@ -182,7 +182,7 @@ text-some (l ∷ []) h u e = omega arith
 text-some (zero ∷ x ∷ row) h u e = true≢false u
 text-some (suc l ∷ x ∷ row) h u e = let z : _≡_ {A = ℕ} 0 1 = cc in omega arith
 
-free-text : (row : List ℕ) → is-unused row ≡ true → text-in row ≡ []
+pub free-text : (row : List ℕ) → is-unused row ≡ true → text-in row ≡ []
 free-text row u = ap (λ n. take n (drop 1 row)) (eqb-true (getD row 0 0) 0 u)
 
 -- a view of rows as slots: what a row that is not free holds is named by the text that it begins with

@@ -1,7 +1,7 @@
 -- Steps of a walk over rows of one size. Assumes nothing.
 --     parts-first, parts-at, parts-end, parts-later     what is left of the rows
 --     rows-later                           is rows
---     distinct-free, distinct-next          a test for distinct rows, one row on
+--     apart-free, apart-next, listed-next   a test for distinct rows, one row on
 --     each-next, each-end                   a test of every row
 use mathlib.Core.Path.{_≡_, sym, ap, ap₂, _∙_}
 use mathlib.Core.Bool.{Bool, _&&_, _||_, not}
@@ -10,12 +10,12 @@ use Prim.Native.Nat.{ℕ, suc, _+_, _-_, _*_, _≤_, _<_}
 use native.Mathlib.Nat.{add-mul, sub-zero}
 use native.Mathlib.Omega.{arith}
 use lib.ListN.{length, take, drop, getD, length-drop, length-take}
-use lib.Seq.{drop-drop, getD-drop, getD-take}
+use lib.Seq.{drop-drop, take-take, getD-drop, getD-take}
 use borrow.Author.Tests.{eq-eqb, ne-eqb}
-use Rattle.headers.specs.Rows.{any, every}
+use Rattle.headers.specs.Rows.{any, every, same}
 use Rattle.stores.proofs.Walking.{Before, next-place, room, part-from, part-drop}
-use Rattle.registry.specs.Records.{parts, text-in}
-use Rattle.registry.specs.Tests.{is-named, Rows, are-distinct}
+use Rattle.registry.specs.Records.{parts}
+use Rattle.registry.specs.Tests.{Rows, begins-with, are-apart}
 
 -- the row from a to e, as the code takes it
 abbrev pub row-at : ℕ → ℕ → List ℕ → List ℕ
@@ -67,21 +67,38 @@ module _ {w n k at : ℕ} {xs : List ℕ} (r : Rows w n xs) (b : Before w n k at
         let at-first : at + 0 ≡ at = omega arith in
         getD-take (at + w - at) (drop at xs) 0 0 wide ∙ getD-drop at xs 0 0 ∙ ap (λ i. getD xs i 0) at-first
 
-    -- a free row
-    pub distinct-free : getD xs at 0 ≡ 0 → are-distinct (parts w (n - k) (drop at xs)) ≡ are-distinct later
-    unfolding are-distinct
-    distinct-free e = ap are-distinct parts-at ∙ rw (eq-eqb (getD (row-at at (at + w) xs) 0 0) 0 (row-first ∙ e))
+    -- the field that the row begins with, as the code takes it
+    pub row-front : 33 ≤ w → row-at at (at + 33) xs ≡ take 33 (row-at at (at + w) xs)
+    row-front h =
+        let wide : at + w - at ≡ w = omega arith in
+        let short : at + 33 - at ≡ 33 = omega arith in
+        ap (λ m. take m (drop at xs)) short ∙ sym (ap (λ m. take 33 (take m (drop at xs))) wide ∙ take-take 33 w (drop at xs) h)
 
-    -- a row whose text was looked for after it
-    pub distinct-next : (getD xs at 0 ≡ 0 → ⊥) → (found : Bool)
-        → found ≡ any (is-named (text-in (row-at at (at + w) xs))) (parts w (n - (k + 1)) (part-from (at + w) xs))
-        → are-distinct (parts w (n - k) (drop at xs)) ≡ not found && are-distinct later
-    unfolding are-distinct
-    distinct-next e found is =
-        ap are-distinct parts-at
-        ∙ ap (λ t. (t || not (any (is-named (text-in (row-at at (at + w) xs))) later)) && are-distinct later)
+    pub field-long : 33 ≤ w → length (row-at at (at + 33) xs) ≡ 33
+    field-long h = simp (length-take, length-drop) (omega (arith, row-room))
+
+    -- a free row
+    pub apart-free : getD xs at 0 ≡ 0 → are-apart (parts w (n - k) (drop at xs)) ≡ are-apart later
+    unfolding are-apart
+    apart-free e = ap are-apart parts-at ∙ rw (eq-eqb (getD (row-at at (at + w) xs) 0 0) 0 (row-first ∙ e))
+
+    -- a row whose field was looked for after it
+    pub apart-next : 33 ≤ w → (getD xs at 0 ≡ 0 → ⊥) → (found : Bool)
+        → found ≡ any (begins-with (row-at at (at + 33) xs)) (parts w (n - (k + 1)) (part-from (at + w) xs))
+        → are-apart (parts w (n - k) (drop at xs)) ≡ not found && are-apart later
+    unfolding are-apart
+    apart-next h e found is =
+        ap are-apart parts-at
+        ∙ ap (λ t. (t || not (any (begins-with (take 33 (row-at at (at + w) xs))) later)) && are-apart later)
         (ne-eqb (getD (row-at at (at + w) xs) 0 0) 0 (λ z. e (sym row-first ∙ z)))
-        ∙ ap (λ t. not t && are-distinct later) (sym (is ∙ ap (any (is-named (text-in (row-at at (at + w) xs)))) parts-later))
+        ∙ ap (λ t. not t && are-apart later) (sym (is ∙ ap₂ (λ f z. any (begins-with f) z) (row-front h) parts-later))
+
+    -- a row that was looked at for a field
+    pub listed-next : 33 ≤ w → (field : List ℕ) (t : Bool) → t ≡ same (row-at at (at + 33) xs) field
+        → any (begins-with field) (parts w (n - k) (drop at xs)) ≡ t || any (begins-with field) later
+    listed-next h field t is =
+        ap (any (begins-with field)) parts-at
+        ∙ ap (_|| any (begins-with field) later) (sym (is ∙ ap (λ z. same z field) (row-front h)))
 
     -- a row that was tested
     pub each-next : (q : List ℕ → Bool) (t : Bool) → t ≡ q (row-at at (at + w) xs) → every q (parts w (n - k) (drop at xs)) ≡ t && every q later

@@ -31,6 +31,14 @@ unfoldable pub are-distinct : List (List ℕ) → Bool
 are-distinct [] = true
 are-distinct (row ∷ rows) = (is-unused row || not (any (is-named (text-in row)) rows)) && are-distinct rows
 
+-- no field of a text, the 33 octets that a row begins with, twice: the code compares these. Where the texts are laid out it says the same.
+abbrev pub begins-with : List ℕ → List ℕ → Bool
+begins-with field row = same (take 33 row) field
+
+unfoldable pub are-apart : List (List ℕ) → Bool
+are-apart [] = true
+are-apart (row ∷ rows) = (is-unused row || not (any (begins-with (take 33 row)) rows)) && are-apart rows
+
 -- a text laid out in a field: at least one octet, and 0 after it
 unfoldable pub is-field : List ℕ → Bool
 is-field f = not (is-unused f) && (ltb (getD f 0 0) (length f) && is-zero (drop (getD f 0 0 + 1) f))

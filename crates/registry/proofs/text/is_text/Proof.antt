@@ -2,7 +2,7 @@
 use borrow.Author.Needs.{needs}
 use native.Mathlib.Omega.{arith}
 use lib.ListN.{List·getD-eq-default}
-use Rattle.registry.proofs.Texts.{field-none, field-free, field-over, field-rest}
+use Rattle.registry.proofs.Texts.{field-none, field-free, field-over, field-rest, part-short}
 use Rattle.registry.proofs.text.is_text.Statement.{statement}
 use Rattle.registry.proofs.text.is_text.Tie as tie
 
@@ -23,26 +23,28 @@ returns-3 c =
     let s = c .before .before in
     field-over (s .before .before .before .before .args .field .now) (s .wide .result) (s .wide .ensures .0) (c .before .if2 .left) (c .if3 .taken)
 
-add-from : tie.Need-add-from
-add-from c = search needs
+sub-is-zero-from : tie.Need-sub-is-zero-from
+sub-is-zero-from c = search needs
 
-sub-is-zero : tie.Need-sub-is-zero
-sub-is-zero c = search needs
+part-is-zero-from-start : tie.Need-part-is-zero-from-start
+part-is-zero-from-start c = search needs
 
-part-is-zero-start : tie.Need-part-is-zero-start
-part-is-zero-start c = search needs
+part-is-zero-from-end : tie.Need-part-is-zero-from-end
+part-is-zero-from-end c = search needs
 
-part-is-zero-end : tie.Need-part-is-zero-end
-part-is-zero-end c = search needs
+shared-slice-read-is-zero-from : tie.Need-shared-slice-read-is-zero-from
+shared-slice-read-is-zero-from c = search needs
 
-is-zero-requires : tie.Need-is-zero-requires
-is-zero-requires c κs = search needs
+is-zero-from-requires : tie.Need-is-zero-from-requires
+is-zero-from-requires c κs =
+    let s = c .before .before .before .before .before .before .before .before in
+    part-short (s .args .field .now) (s .pre) (c .before .before .if3 .left)
 
 returns-4 : tie.Need-returns-4
 returns-4 c =
-    let s = c .before .before .before .before in
-    field-rest (s .before .before .before .before .args .field .now) (s .wide .result) (s .wide .ensures .0) (c .before .before .before .if2 .left)
-    (c .before .before .if3 .left) (c .is-zero .result) (c .is-zero .ensures)
+    let s = c .before .before .before .before .before in
+    field-rest (s .before .before .before .before .args .field .now) (s .wide .result) (s .wide .ensures .0) (c .before .before .before .before .if2 .left)
+    (c .before .before .before .if3 .left) (c .is-zero-from .result) (c .is-zero-from .ensures)
 
 pub is-text-spec : {M : Type 1} → statement M
 is-text-spec =
@@ -53,9 +55,9 @@ is-text-spec =
     wide-requires
     returns-2
     returns-3
-    add-from
-    sub-is-zero
-    part-is-zero-start
-    part-is-zero-end
-    is-zero-requires
+    sub-is-zero-from
+    part-is-zero-from-start
+    part-is-zero-from-end
+    shared-slice-read-is-zero-from
+    is-zero-from-requires
     returns-4)
