@@ -2,19 +2,26 @@
 ghost use mathlib.Core.Path.{_≡_};
 ghost use Prim.Native.Nat.{_+_, _<_};
 ghost use lib.ListN.{length, drop};
-ghost use Rattle.headers.specs.Block.{two-at};
-ghost use Rattle.headers.specs.Answers.{find-answer, found-says, is-block, entry-answer, entry-says};
+ghost use Rattle.headers.specs.Block.{two-at, entries};
+ghost use Rattle.headers.specs.Answers.{find-answer, found-says, count-from, counted-says, is-block, entry-answer, entry-says};
 
-// A value's place in a block.
-pub struct Span {
+// The first value of a name: its place in the block, and how many later entries have the name.
+pub struct FirstValue {
     pub start: usize,
     pub len: usize,
+    pub later: usize,
 }
 
-// What looking a name up gives: its first value's place, that no entry has it, or that the block is malformed (22).
+// What looking a name up gives: its first value, that no entry has it, or that the block is malformed (22).
 pub enum Found {
-    Value(Span),
+    Value(FirstValue),
     Absent,
+    Malformed,
+}
+
+// How many entries have a name, or that the block is malformed.
+enum Counted {
+    Number(usize),
     Malformed,
 }
 
@@ -97,7 +104,33 @@ pub fn is_valid(block: &[u8]) -> bool
     is_block_from(block, 0)
 }
 
-// The first value of a name. The whole block is checked, in one pass.
+// How many entries of a name there are from place at on.
+fn count_from(block: &[u8], name: &[u8], at: usize) -> Counted
+    ensures { λ r. ⌜ counted-says r ≡ count-from (now (name .entry)) at (entries (drop at (now (block .entry)))) ⌝ }
+{
+    let mut count = 0usize;
+    let mut i = at;
+    loop {
+        match entry_at(block, i) {
+            EntryAt::Entry(l) => {
+                let from = i + 6;
+                let start = from + l.name;
+                i = start + l.value;
+                if crate::octets::equal(&block[from..start], name) {
+                    count += 1;
+                }
+            }
+            EntryAt::End => {
+                return Counted::Number(count);
+            }
+            EntryAt::Malformed => {
+                return Counted::Malformed;
+            }
+        }
+    }
+}
+
+// The first value of a name, and how many later entries have it. The whole block is checked, in one pass.
 pub fn find(block: &[u8], name: &[u8]) -> Found
     ensures { λ r. ⌜ found-says r ≡ find-answer (now (block .entry)) (now (name .entry)) ⌝ }
 {
@@ -109,13 +142,18 @@ pub fn find(block: &[u8], name: &[u8]) -> Found
                 let start = from + l.name;
                 i = start + l.value;
                 if crate::octets::equal(&block[from..start], name) {
-                    if is_block_from(block, i) {
-                        return Found::Value(Span {
-                            start,
-                            len: l.value,
-                        });
+                    match count_from(block, name, i) {
+                        Counted::Number(later) => {
+                            return Found::Value(FirstValue {
+                                start,
+                                len: l.value,
+                                later,
+                            });
+                        }
+                        Counted::Malformed => {
+                            return Found::Malformed;
+                        }
                     }
-                    return Found::Malformed;
                 }
             }
             EntryAt::End => {

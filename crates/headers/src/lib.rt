@@ -9,9 +9,9 @@ pub mod record; // one entry record, from raw text
 pub mod line; // one raw header line, from an entry
 
 pub use block::EntryAt;
+pub use block::FirstValue;
 pub use block::Found;
 pub use block::Lengths;
-pub use block::Span;
 pub use block::entry_at;
 pub use block::find;
 pub use block::is_valid;

@@ -1,18 +1,18 @@
 -- find meets its contract: what the block answers is what it answers from place i on, and the entries before i have other names.
 use borrow.Author.Needs.{needs}
 use mathlib.Core.Path.{_≡_, refl, sym, _∙_, ap}
-use mathlib.Core.Bool.{Bool, true, false, cond}
 use Prim.Native.Nat.{ℕ, _+_, _-_, _≤_}
 use native.Mathlib.Omega.{arith}
 use mathlib.Core.Option.{Option, none, some}
-use mathlib.Core.List.{List, [], _∷_}
+use mathlib.Core.List.{List, []}
 use lib.ListN.{length, take, drop}
 use Rattle.headers.specs.Rows.{same}
 use Rattle.headers.specs.Block.{Entry, entries, spans}
-use Rattle.headers.specs.Answers.{accepted, refused, find-answer, find-from}
+use Rattle.headers.specs.Answers.{find-answer, find-from, counted-says}
+use Rattle.headers.specs.declared.block.Counted.{Counted}
 use Rattle.headers.specs.declared.block.Lengths.{Lengths}
 use Rattle.headers.proofs.Blocks.{Placed, placed, told-entry, told-end, told-malformed}
-use Rattle.headers.proofs.Finding.{find-passes, find-stops}
+use Rattle.headers.proofs.Finding.{found-with, find-passes, find-stops}
 use Rattle.headers.proofs.block.find.Statement.{statement}
 use Rattle.headers.proofs.block.find.Tie as tie
 
@@ -69,8 +69,8 @@ part-equal-end c = omega (arith, here (c .before .before .before) .inside)
 equal-requires : tie.Need-equal-requires Inv-loop μ-loop
 equal-requires c κs = search needs
 
-is-block-from-requires : tie.Need-is-block-from-requires Inv-loop μ-loop
-is-block-from-requires c κs = search needs
+count-from-requires : tie.Need-count-from-requires Inv-loop μ-loop
+count-from-requires c κs = search needs
 
 -- what equal compares is the entry's name
 abbrev turn : tie.After-equal Inv-loop μ-loop → tie.After-l Inv-loop μ-loop
@@ -82,21 +82,27 @@ compared c =
     let n : place-at l + 6 + lengths-at l .name - (place-at l + 6) ≡ lengths-at l .name = omega arith in
     sym (c .equal .ensures ∙ ap (λ k. same (take k (drop (place-at l + 6) (block-at l))) (name-at l)) n)
 
--- where it is the name looked for, the answer is its value if the rest is a block
-decided : (c : tie.After-is-block-from Inv-loop μ-loop) (t : Bool) → c .is-block-from .result ≡ t
-    → find-answer (block-at (turn (c .before .before))) (name-at (turn (c .before .before)))
-    ≡ cond t (accepted ((place-at (turn (c .before .before)) + 6 + lengths-at (turn (c .before .before)) .name) ∷ lengths-at (turn (c .before .before)) .value ∷ [])) (refused 22)
-decided c t h =
+-- where it is the name looked for, the answer is its value and how many follow, if the rest is a block
+decided : (c : tie.After-count-from Inv-loop μ-loop) (r : Counted) → c .count-from .result ≡ r
+    → let l = turn (c .before .before) in
+    found-with (place-at l + 6 + lengths-at l .name) (lengths-at l .value) (counted-says r) ≡ find-answer (block-at l) (name-at l)
+decided c r h =
     let l = turn (c .before .before) in
-    l .before .before .before .loop .inv .1
+    sym (l .before .before .before .loop .inv .1
     ∙ find-stops (block-at l) (name-at l) (place-at l) (lengths-at l) (here l) (compared (c .before .before) ∙ c .before .if1 .taken)
-    ∙ ap (λ b. cond b (accepted ((place-at l + 6 + lengths-at l .name) ∷ lengths-at l .value ∷ [])) (refused 22)) (sym (c .is-block-from .ensures) ∙ h)
+    ∙ ap (found-with (place-at l + 6 + lengths-at l .name) (lengths-at l .value)) (sym (c .count-from .ensures) ∙ ap counted-says h))
+
+enum-known-later : tie.Need-enum-known-later Inv-loop μ-loop
+enum-known-later c = search needs
 
 returns : tie.Need-returns Inv-loop μ-loop
-returns c = sym (decided (c .before) true (c .if2 .taken))
+returns c = decided (c .before .before .before) (Counted.Number (c .before .later .given .0 .0)) (c .before .later .given .1)
+
+enum-told : tie.Need-enum-told Inv-loop μ-loop
+enum-told c = search needs
 
 returns-2 : tie.Need-returns-2 Inv-loop μ-loop
-returns-2 c = sym (decided (c .before) false (c .if2 .left))
+returns-2 c = decided (c .before .before) Counted.Malformed (c .enum-told .given .1)
 
 loop-less : tie.Need-loop-less Inv-loop μ-loop
 loop-less c = omega (arith, here (turn (c .before)) .inside)
@@ -114,18 +120,18 @@ ended : (c : tie.After-entry-at Inv-loop μ-loop) (o : Option (List Entry)) → 
     → find-from (c .before .before .before .before .args .name .now) (c .before .loop .i) o ≡ find-answer (c .before .before .before .before .args .block .now) (c .before .before .before .before .args .name .now)
 ended c o h = sym (c .before .loop .inv .1 ∙ ap (find-from (c .before .before .before .before .args .name .now) (c .before .loop .i)) h)
 
-enum-told : tie.Need-enum-told Inv-loop μ-loop
-enum-told c = search needs
-
-returns-3 : tie.Need-returns-3 Inv-loop μ-loop
-unfolding spans
-returns-3 c = ended (c .before .before) (some []) (told-end _ _ (c .before .before .entry-at .ensures) (c .enum-told .given .1))
-
 enum-told-2 : tie.Need-enum-told-2 Inv-loop μ-loop
 enum-told-2 c = search needs
 
+returns-3 : tie.Need-returns-3 Inv-loop μ-loop
+unfolding spans
+returns-3 c = ended (c .before .before) (some []) (told-end _ _ (c .before .before .entry-at .ensures) (c .enum-told2 .given .1))
+
+enum-told-3 : tie.Need-enum-told-3 Inv-loop μ-loop
+enum-told-3 c = search needs
+
 returns-4 : tie.Need-returns-4 Inv-loop μ-loop
-returns-4 c = ended (c .before .before) none (told-malformed _ _ (c .before .before .entry-at .ensures) (c .enum-told2 .given .1))
+returns-4 c = ended (c .before .before) none (told-malformed _ _ (c .before .before .entry-at .ensures) (c .enum-told3 .given .1))
 
 pub find-spec : {M : Type 1} → statement M
 find-spec =
@@ -143,12 +149,14 @@ find-spec =
     part-equal-start
     part-equal-end
     equal-requires
-    is-block-from-requires
+    count-from-requires
+    enum-known-later
     returns
+    enum-told
     returns-2
     loop-less
     loop-again
-    enum-told
-    returns-3
     enum-told-2
+    returns-3
+    enum-told-3
     returns-4)
