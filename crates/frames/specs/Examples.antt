@@ -20,25 +20,28 @@ use Rattle.frames.specs.Encoding.{Call, encode-answer, encode-image}
 
 -- An example: its label, octets, and what parsing them replies. Where the documents say it, also the header block that
 -- they decode to and its length; the images that the frame is encoded to again, not counted (false) or counted (true, C-16), and
--- their lengths; a header's name and its value in the block.
+-- their lengths; a header's name, its value in the block and how many later entries have the name (C-19).
 pub record Example : Type 0 where
   pub label : String
   pub input : List ℕ
   pub reply : Reply
   pub block : Option (ℕ × List ℕ)
   pub images : List (Bool × ℕ × List ℕ)
-  pub looked-up : Option (List ℕ × List ℕ)
+  pub looked-up : Option (List ℕ × List ℕ × ℕ)
 
 -- an example of parsing alone; with a header's value too
 abbrev parses : String → List ℕ → Reply → Example
 parses label input reply = record { label = label; input = input; reply = reply; block = none; images = []; looked-up = none }
 
-abbrev with-octets : String → List ℕ → Example → Example
-with-octets name value e =
-    record { label = e .label; input = e .input; reply = e .reply; block = e .block; images = e .images; looked-up = some (octets-of name, value) }
+abbrev with-octets : String → List ℕ → ℕ → Example → Example
+with-octets name value later e =
+    record { label = e .label; input = e .input; reply = e .reply; block = e .block; images = e .images; looked-up = some (octets-of name, value, later) }
 
 abbrev finding : String → String → Example → Example
-finding name value e = with-octets name (octets-of value) e
+finding name value e = with-octets name (octets-of value) 0 e
+
+abbrev overwritten : String → String → ℕ → Example → Example
+overwritten name value later e = with-octets name (octets-of value) later e
 
 unfoldable pub examples : List Example
 examples =
@@ -64,7 +67,7 @@ examples =
     parses "P10" (octets-of "SEND\ncontent-length:1\n\n\0\0") (Complete 2 25 12 1 23 1) ∷
     parses "P11" (octets-of "SEND\ncontent-length:32769") (Invalid 6 24) ∷
     parses "P12" (octets-of "ACK\ncontent-length:1") (Invalid 6 19) ∷
-    finding "run" "b" (parses "P13" (octets-of "MESSAGE\nrun:b\nrun:a\n\n\0") (Complete 2 22 9 2 21 0)) ∷
+    overwritten "run" "b" 1 (parses "P13" (octets-of "MESSAGE\nrun:b\nrun:a\n\n\0") (Complete 2 22 9 2 21 0)) ∷
     parses "C-11, empty name" (octets-of "ACK\n:") (Invalid 3 4) ∷
     parses "C-11, second colon" (octets-of "ACK\na:b:") (Invalid 8 7) ∷
     parses "C-11, second colon in a content-length" (octets-of "SEND\ncontent-length:1:") (Invalid 8 21) ∷
@@ -79,9 +82,9 @@ examples =
     parses "C-12, a second colon in STOMP" (octets-of "STOMP\npasscode:a:") (Invalid 8 16) ∷
     parses "C-12, empty name in CONNECT" (octets-of "CONNECT\n:") (Invalid 3 8) ∷
     parses "C-12, colon after a content-length" (octets-of "CONNECT\ncontent-length:0:") (Invalid 6 24) ∷
-    with-octets "id" (195 ∷ 169 ∷ []) (parses "C-17, two octets" (octets-of "ACK\nid:" ++ (195 ∷ 169 ∷ octets-of "\n\n\0")) (Complete 2 12 2 1 11 0)) ∷
-    with-octets "id" (226 ∷ 130 ∷ 172 ∷ []) (parses "C-17, three octets" (octets-of "ACK\nid:" ++ (226 ∷ 130 ∷ 172 ∷ octets-of "\n\n\0")) (Complete 2 13 2 1 12 0)) ∷
-    with-octets "id" (240 ∷ 159 ∷ 140 ∷ 138 ∷ [])
+    with-octets "id" (195 ∷ 169 ∷ []) 0 (parses "C-17, two octets" (octets-of "ACK\nid:" ++ (195 ∷ 169 ∷ octets-of "\n\n\0")) (Complete 2 12 2 1 11 0)) ∷
+    with-octets "id" (226 ∷ 130 ∷ 172 ∷ []) 0 (parses "C-17, three octets" (octets-of "ACK\nid:" ++ (226 ∷ 130 ∷ 172 ∷ octets-of "\n\n\0")) (Complete 2 13 2 1 12 0)) ∷
+    with-octets "id" (240 ∷ 159 ∷ 140 ∷ 138 ∷ []) 0
     (parses "C-17, four octets" (octets-of "ACK\nid:" ++ (240 ∷ 159 ∷ 140 ∷ 138 ∷ octets-of "\n\n\0")) (Complete 2 14 2 1 13 0)) ∷
     parses "C-17, a character that is not whole" (octets-of "ACK\nid:" ++ (226 ∷ 130 ∷ [])) Incomplete ∷
     parses "C-17, a cut character" (octets-of "ACK\nid:" ++ (195 ∷ octets-of "\n")) (Invalid 11 8) ∷
@@ -121,9 +124,9 @@ EncodesAgain input Incomplete block (counted, n, xs) = ⊥
 EncodesAgain input (Invalid number offset) block (counted, n, xs) = ⊥
 
 -- looking the name up in the block gives the start and length of the value there
-abbrev pub Finds : List ℕ → List ℕ × List ℕ → Type 0
-Finds block (name, value) =
-    (start : ℕ) × (len : ℕ) × (find-answer block name ≡ accepted (start ∷ len ∷ [])) × (take len (drop start block) ≡ value)
+abbrev pub Finds : List ℕ → List ℕ × List ℕ × ℕ → Type 0
+Finds block (name, value, later) =
+    (start : ℕ) × (len : ℕ) × (find-answer block name ≡ accepted (start ∷ len ∷ later ∷ [])) × (take len (drop start block) ≡ value)
 
 -- Parsing the input gives the reply, the reply is exact, and of the input's parse tree holds what the example says further. Where the
 -- input is no item, tree is none.

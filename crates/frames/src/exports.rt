@@ -8,6 +8,7 @@ ghost use Rattle.frames.specs.Exactness.{Exact};
 ghost use Rattle.headers.specs.Answers.{find-answer};
 ghost use Rattle.frames.specs.Answers.{parsed-says, packed, unpacked, SmallFrame, packed-decode, unpacked-decode};
 ghost use Rattle.frames.specs.Answers.{packed-encode, unpacked-encode, is-counted, packed-find, unpacked-find};
+ghost use Rattle.frames.specs.Answers.{place-alone, later-alone, packed-later, unpacked-later};
 ghost use Rattle.frames.specs.Decoding.{Decodes};
 ghost use Rattle.frames.specs.Encoding.{Encodes};
 use crate::decode::Decoded;
@@ -65,13 +66,28 @@ pub extern "C" fn stomp_parse(octets: &[u8]) -> u64
 pub extern "C" fn stomp_find(block: &[u8], name: &[u8]) -> u64
     ensures { λ r. ⌜
         (r ≡ packed-find (find-answer (now (block .entry)) (now (name .entry))))
-        × (unpacked-find (now (block .entry)) (now (name .entry)) r ≡ find-answer (now (block .entry)) (now (name .entry)))
+        × (unpacked-find (now (block .entry)) (now (name .entry)) r ≡ place-alone (find-answer (now (block .entry)) (now (name .entry))))
         ⌝ }
 {
     match headers::find(block, name) {
         Found::Value(p) => p.start as u64,
         Found::Absent => 0,
         Found::Malformed => 1,
+    }
+}
+
+// How many later entries of a name follow the first, in one number, which reads back.
+#[no_mangle]
+pub extern "C" fn stomp_later(block: &[u8], name: &[u8]) -> u64
+    ensures { λ r. ⌜
+        (r ≡ packed-later (later-alone (find-answer (now (block .entry)) (now (name .entry)))))
+        × (unpacked-later r ≡ later-alone (find-answer (now (block .entry)) (now (name .entry))))
+        ⌝ }
+{
+    match headers::find(block, name) {
+        Found::Value(p) => p.later as u64,
+        Found::Absent => 0,
+        Found::Malformed => 9223372036854775830,
     }
 }
 

@@ -3,18 +3,18 @@ use mathlib.Core.Path.{_≡_, refl, sym, _∙_, ap}
 use Prim.Native.Nat.{ℕ}
 use Rattle.headers.specs.Answers.{find-answer, found-says}
 use Rattle.headers.specs.declared.block.Found.{Found}
-use Rattle.frames.specs.Answers.{packed-find, unpacked-find}
+use Rattle.frames.specs.Answers.{packed-find, unpacked-find, place-alone}
 use Rattle.frames.proofs.Packed.{find-back}
 use borrow.Author.Needs.{needs}
 use Rattle.frames.proofs.exports.stomp_find.Statement.{statement}
 use Rattle.frames.proofs.exports.stomp_find.Tie as tie
 
 gives : (c : tie.After-find) (f : Found) (n : ℕ) → c .find .result ≡ f → n ≡ packed-find (found-says f)
-    → let a = c .before .before .before .args in let r = find-answer (a .block .now) (a .name .now) in (n ≡ packed-find r) × (unpacked-find (a .block .now) (a .name .now) n ≡ r)
+    → let a = c .before .before .before .args in let r = find-answer (a .block .now) (a .name .now) in (n ≡ packed-find r) × (unpacked-find (a .block .now) (a .name .now) n ≡ place-alone r)
 gives c f n e q =
     let a = c .before .before .before .args in
     let h = ap found-says (sym e) ∙ c .find .ensures in
-    (q ∙ ap packed-find h, ap (unpacked-find (a .block .now) (a .name .now)) q ∙ find-back (a .block .now) (a .name .now) f h ∙ h)
+    (q ∙ ap packed-find h, ap (unpacked-find (a .block .now) (a .name .now)) q ∙ find-back (a .block .now) (a .name .now) f h ∙ ap place-alone h)
 
 find-requires : tie.Need-find-requires
 find-requires c κs = search needs
