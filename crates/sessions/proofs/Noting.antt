@@ -15,17 +15,17 @@ use lib.ListN.{length, drop, getD, set, replicate, length-set}
 use lib.Seq.{getD-set-same, getD-set-other}
 use borrow.Author.Tests.{eqb-true, eqb-false, eq-eqb, ne-eqb}
 use Rattle.headers.specs.Rows.{same, every, is-octet}
-use Rattle.headers.specs.Block.{Entry, Block, entry-before, entry-record, entries, listed, spans, first-value}
+use Rattle.headers.specs.Block.{Entry, Block, entry-before, entry-record, entries, listed, spans, named, later, first-value}
 use Rattle.headers.specs.Answers.{accepted, first-span, find-answer, has-entries, is-block}
 use Rattle.headers.specs.Block.{Span}
 use Rattle.headers.specs.declared.block.Lengths.{Lengths}
 use Rattle.headers.proofs.Rows.{cond-case, same-eq, never}
 use Rattle.headers.proofs.Blocks.{Placed, placed, place-behind, placed-name, placed-value, entries-next, is-block-next, is-block-of, length-record}
 use Rattle.headers.proofs.LaidOut.{block-entries, is-block-sound}
-use Rattle.headers.proofs.Finding.{find-block}
+use Rattle.headers.proofs.Finding.{find-block, spans-named}
 use Rattle.headers.proofs.FirstValues.{find-absent, find-value}
 use Rattle.sessions.specs.Headers.{name-of, value-of}
-use Rattle.sessions.specs.Notes.{known-headers, headers-max, index-of, located, value-at, Locates, Notes-of}
+use Rattle.sessions.specs.Notes.{known-headers, headers-max, index-of, located, later-noted, value-at, Locates, AllNoted, Notes-of}
 use Rattle.sessions.specs.Notes.{number-from, number-of-name, no-notes}
 use Rattle.sessions.specs.declared.command.Header.{Header}
 use Rattle.sessions.specs.declared.notes.Located.{Located}
@@ -107,6 +107,23 @@ is-number x h = by (same x (name-of h)) refl
 
 abbrev pub left-spans : List ℕ → Header → ℕ → List Span
 left-spans block h i = spans (name-of h) i (listed (entries (drop i block)))
+
+-- where the first value is, and with how many later ones follow
+abbrev pub first-two : List Span → List ℕ
+first-two [] = []
+first-two (p ∷ ps) = p .start ∷ p .len ∷ []
+
+with-count : (ps : List Span) (u : Bool) (s n : ℕ) → first-two ps ≡ cond u [] (s ∷ n ∷ []) → first-span ps ≡ cond u [] (s ∷ n ∷ (length ps - 1) ∷ [])
+with-count [] true s n e = refl
+with-count [] false s n e = absurd (let z : _≡_ {A = ℕ} 0 1 = cc in omega arith)
+with-count (p ∷ ps) true s n e = absurd (let z : _≡_ {A = ℕ} 0 1 = cc in omega arith)
+with-count (p ∷ ps) false s n e =
+    let (start, len) = two (p .start) (p .len) s n e in
+    let k : length ps ≡ length (p ∷ ps) - 1 = omega arith in
+    ap (λ z. z ∷ p .len ∷ length ps ∷ []) start ∙ ap₂ (λ z w. s ∷ z ∷ w ∷ []) len k
+  where
+    two : (a b c d : ℕ) → _≡_ {A = List ℕ} (a ∷ b ∷ []) (c ∷ d ∷ []) → (a ≡ c) × (b ≡ d)
+    two a b c d q = (cc, cc)
 
 -- the value of the record at a place, after its head and its name
 abbrev pub span-at : ℕ → Lengths → Span
@@ -243,7 +260,7 @@ pub record Bounded (m : Mark) (i : ℕ) : Type 0 where
 -- a mark, with the values that are left, says how many there are in all and where the first is
 pub record Follows (m : Mark) (left all : List Span) : Type 0 where
   pub counted : m .count + length left ≡ length all
-  pub first : cond (eqb (m .count) 0) (first-span left) (m .start ∷ (m .end - m .start) ∷ []) ≡ first-span all
+  pub first : cond (eqb (m .count) 0) (first-two left) (m .start ∷ (m .end - m .start) ∷ []) ≡ first-two all
 
 module _ (m : Mark) where
   bounded-later : (i j : ℕ) → i ≤ j → Bounded m i → Bounded m j
@@ -260,8 +277,8 @@ module _ (m : Mark) where
   follows-value s n e left all q f =
       record { counted = omega (arith, f .counted); first = rw (ne-eqb (m .count + 1) 0 (λ z. omega arith)) (by (eqb (m .count) 0) (f .first)) }
     where
-      by : (t : Bool) → cond t (s ∷ n ∷ []) (m .start ∷ (m .end - m .start) ∷ []) ≡ first-span all
-          → cond t s (m .start) ∷ (cond t e (m .end) - cond t s (m .start)) ∷ [] ≡ first-span all
+      by : (t : Bool) → cond t (s ∷ n ∷ []) (m .start ∷ (m .end - m .start) ∷ []) ≡ first-two all
+          → cond t s (m .start) ∷ (cond t e (m .end) - cond t s (m .start)) ∷ [] ≡ first-two all
       by true p = ap (λ k. s ∷ k ∷ []) (let d : e - s ≡ n = omega arith in d) ∙ p
       by false p = p
 
@@ -376,16 +393,20 @@ module _ (block : List ℕ) (r : Notes) (i : ℕ) (w : Walked block r i) where
         m : Mark
         m = mark-of r (index-of h)
 
-        answer : (u : Bool) → eqb (m .count) 0 ≡ u → find-answer block (name-of h) ≡ accepted (cond u [] (m .start ∷ (m .end - m .start) ∷ []))
+        count : ℕ
+        count = length (spans (name-of h) 0 es) - 1
+
+        answer : (u : Bool) → eqb (m .count) 0 ≡ u → find-answer block (name-of h) ≡ accepted (cond u [] (m .start ∷ (m .end - m .start) ∷ count ∷ []))
         answer u z =
             find-block block (name-of h) es is
             ∙ ap accepted
-            (ap (λ ds. first-span (spans (name-of h) 0 ds)) (sym all) ∙ sym (ended b h .first) ∙ ap (λ v. cond v [] (m .start ∷ (m .end - m .start) ∷ [])) z)
+            (with-count (spans (name-of h) 0 es) u (m .start) (m .end - m .start)
+            (ap (λ ds. first-two (spans (name-of h) 0 ds)) (sym all) ∙ sym (ended b h .first) ∙ ap (λ v. cond v [] (m .start ∷ (m .end - m .start) ∷ [])) z))
 
-        by : (u : Bool) → find-answer block (name-of h) ≡ accepted (cond u [] (m .start ∷ (m .end - m .start) ∷ []))
+        by : (u : Bool) → find-answer block (name-of h) ≡ accepted (cond u [] (m .start ∷ (m .end - m .start) ∷ count ∷ []))
             → cond (not u) (some (value-at block (located r h))) none ≡ value-of h (listed (entries block))
         by true a = sym (find-absent (name-of h) block es is a) ∙ ap (first-value (name-of h)) (sym all)
-        by false a = sym (find-value (name-of h) block es is (m .start) (m .end - m .start) a .0) ∙ ap (first-value (name-of h)) (sym all)
+        by false a = sym (find-value (name-of h) block es is (m .start) (m .end - m .start) count a .0) ∙ ap (first-value (name-of h)) (sym all)
 
     pub walk-ends : Notes-of block r
     walk-ends =
@@ -411,3 +432,10 @@ module _ (block : List ℕ) (r : Notes) (i : ℕ) (w : Walked block r i) where
 -- in a valid block, a header is located where the notes say
 pub located-in : (block : List ℕ) (r : Notes) → Notes-of block r → r .valid ≡ true → (h : Header) (l : Located) → l ≡ located r h → Locates block h l
 located-in block r n v h l e = subst (Locates block h) (sym e) (n .noted (sym (n .well-formed) ∙ v) h .first)
+
+-- how many later entries follow the first of a header
+pub later-in : {block : List ℕ} {r : Notes} → AllNoted block r → (h : Header) → later-noted r h ≡ later (name-of h) (listed (entries block))
+later-in {block} {r} all h =
+    let many : getD (r .counts) (index-of h) 0 ≡ length (named (name-of h) (listed (entries block))) =
+    all h .counted ∙ spans-named (name-of h) 0 (listed (entries block)) in
+    ap (_- 1) many

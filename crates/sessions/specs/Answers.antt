@@ -15,9 +15,9 @@ abbrev pub bit : Bool → ℕ
 bit true = 1
 bit false = 0
 
--- what an accepted answer says: whether a receipt is owed
+-- what an accepted answer says: whether a receipt is owed, and how many later entries follow the first destination, id and transaction
 abbrev pub acceptance-says : Acceptance → List ℕ
-acceptance-says a = bit (a .receipt) ∷ []
+acceptance-says a = bit (a .receipt) ∷ a .«later_destinations» ∷ a .«later_ids» ∷ a .«later_transactions» ∷ []
 
 -- of a frame or a heart-beat: accepted, with what that says; or the number
 abbrev pub answer-says : SessionAnswer → Answer

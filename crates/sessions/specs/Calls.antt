@@ -7,7 +7,7 @@ use Prim.Native.Nat.{ℕ}
 use lib.ListN.{replicate}
 use lib.Dec.{eqb, leb, ltb}
 use Rattle.headers.specs.Rows.{empty, any, same}
-use Rattle.headers.specs.Block.{Entry, entries, listed}
+use Rattle.headers.specs.Block.{Entry, entries, listed, later}
 use Rattle.headers.specs.Answers.{Answer, accepted, refused, Check, settle, is-block}
 use Rattle.frames.specs.Grammar.{DISCONNECT, SUBSCRIBE, UNSUBSCRIBE}
 use Rattle.stores.specs.Searches.{first-from}
@@ -15,13 +15,13 @@ use Rattle.sessions.specs.Stores.{live, used, bad-length, live-again, no
 use Rattle.sessions.specs.Deliveries.{deliveries-max, label-max, auto-mode, mode-of, is-pending, settle-label, with-mode, dropped, record-label}
 use Rattle.sessions.specs.Values.{HeartBeats, versions, heart-beats, heart-beat-max}
 use Rattle.sessions.specs.Opening.{shared-flags, none-shared, may-offer, interval, overdue}
-use Rattle.sessions.specs.Headers.{value-of, has, is-some, is, unknown, from-server, opens, needed-by, namings-by, IdUse, id-uses, changed-id}
+use Rattle.sessions.specs.Headers.{name-of, value-of, has, is-some, is, unknown, from-server, opens, needed-by, namings-by, IdUse, id-uses, changed-id}
 use Rattle.sessions.specs.Headers.{mode-asked, settles}
 use Rattle.sessions.specs.Sessions.{id-max, fresh-phase, open-phase, closed-phase, in-phase, fresh, ids-of, with-ids, with-deliveries, closed, opened}
 use Rattle.sessions.specs.Sessions.{with-modes, heard, spoken, is-valid}
 use Rattle.sessions.specs.Answers.{bit, acceptance-says}
 use Rattle.sessions.specs.declared.command.Header.{Header}
-use Rattle.sessions.specs.declared.command.Header.the-variants.{AcceptVersion, HeartBeat, Id, Receipt}
+use Rattle.sessions.specs.declared.command.Header.the-variants.{AcceptVersion, HeartBeat, Destination, Id, Transaction, Receipt}
 use Rattle.sessions.specs.declared.command.Kind.the-variants.{Subscriptions}
 use Rattle.sessions.specs.declared.delivery.Deliveries.{Deliveries}
 use Rattle.sessions.specs.declared.session.Session.{Session}
@@ -163,12 +163,18 @@ frame-checks s n block = record-checks s n block ++ (phase-checks s n ++ entry-c
 abbrev pub owes-receipt : ℕ → List Entry → Bool
 owes-receipt n es = not (opens n) && has Receipt es
 
--- what an accepted frame is answered with, and an accepted heart-beat
+-- What an accepted frame is answered with: the receipt, and "how many later entries of that name follow", "for destination, id and
+-- transaction in each accepted answer" (document 02, C-19). "A missing name, or a beat, reports 0."
 abbrev pub acceptance-of : ℕ → List Entry → Acceptance
-acceptance-of n es = record { receipt = owes-receipt n es }
+acceptance-of n es = record {
+  receipt = owes-receipt n es;
+  «later_destinations» = later (name-of Destination) es;
+  «later_ids» = later (name-of Id) es;
+  «later_transactions» = later (name-of Transaction) es;
+}
 
 abbrev pub no-receipt : Acceptance
-no-receipt = record { receipt = false }
+no-receipt = record { receipt = false; «later_destinations» = 0; «later_ids» = 0; «later_transactions» = 0 }
 
 unfoldable pub frame-answer : Session → ℕ → List ℕ → Answer
 frame-answer s n block = settle (frame-checks s n block) (acceptance-says (acceptance-of n (listed (entries block))))

@@ -136,10 +136,14 @@ c ⇒ a = record { call = c; answer = a }
 
 -- accepted, and no receipt is owed; accepted, and one is
 abbrev ok : Answer
-ok = accepted (0 ∷ [])
+ok = accepted (0 ∷ 0 ∷ 0 ∷ 0 ∷ [])
 
 abbrev receipt-owed : Answer
-receipt-owed = accepted (1 ∷ [])
+receipt-owed = accepted (1 ∷ 0 ∷ 0 ∷ 0 ∷ [])
+
+-- accepted, no receipt is owed, and so many later entries follow the first destination, id and transaction
+abbrev overwritten : ℕ → ℕ → ℕ → Answer
+overwritten destinations ids transactions = accepted (0 ∷ destinations ∷ ids ∷ transactions ∷ [])
 
 -- the peer is timed out at a time, and it is not
 abbrev late : ℕ → Question
@@ -526,17 +530,23 @@ accepted-frames =
     } ∷
     []
 
--- Of entries with one name the first counts.
+-- Of entries with one name the first counts, and an accepted frame says how many later ones follow, whatever its command, of destination,
+-- id and transaction (C-19); a heart-beat says 0.
 unfoldable pub repeated-headers : List Life
 repeated-headers =
     record {
       start = server;
       events =
           frame-of CONNECT (entry "accept-version" "1.2" ∷ entry "accept-version" "x" ∷ entry "host" "h" ∷ []) 1 ⇒ ok ∷
-          frame-of SUBSCRIBE (entry "destination" "/d" ∷ entry "id" "a" ∷ entry "id" "b" ∷ []) 2 ⇒ ok ∷
-          frame-of BEGIN (entry "transaction" "t" ∷ entry "transaction" "u" ∷ []) 3 ⇒ ok ∷
+          frame-of SUBSCRIBE (entry "destination" "/d" ∷ entry "id" "a" ∷ entry "id" "b" ∷ []) 2 ⇒ overwritten 0 1 0 ∷
+          frame-of BEGIN (entry "transaction" "t" ∷ entry "transaction" "u" ∷ []) 3 ⇒ overwritten 0 0 1 ∷
+          frame-of SEND (entry "destination" "/d" ∷ entry "id" "a" ∷ entry "destination" "/e" ∷ entry "id" "b" ∷ entry "destination" "/d" ∷ []) 4
+          ⇒ overwritten 2 1 0 ∷
+          frame-of SEND (entry "run" "b" ∷ entry "destination" "/d" ∷ entry "run" "a" ∷ []) 5 ⇒ overwritten 0 0 0 ∷
+          heart-beat 6 ⇒ overwritten 0 0 0 ∷
+          frame-of DISCONNECT (entry "receipt" "r" ∷ entry "id" "" ∷ entry "id" "" ∷ entry "id" "" ∷ []) 7 ⇒ accepted (1 ∷ 0 ∷ 2 ∷ 0 ∷ []) ∷
           [];
-      left = having open-phase 3 ("a" ∷ []) ("t" ∷ []);
+      left = having closed-phase 7 ("a" ∷ []) ("t" ∷ []);
       asked = [];
     } ∷
     []

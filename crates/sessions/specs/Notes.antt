@@ -37,6 +37,9 @@ index-of Ack = 7
 abbrev pub located : Notes → Header → Located
 located r h = record { start = getD (r .starts) (index-of h) 0; end = getD (r .ends) (index-of h) 0; present = not (eqb (getD (r .counts) (index-of h) 0) 0) }
 
+abbrev pub later-noted : Notes → Header → ℕ
+later-noted r h = getD (r .counts) (index-of h) 0 - 1
+
 -- the value from start to end
 abbrev pub value-at : List ℕ → Located → List ℕ
 value-at block r = take (r .end - r .start) (drop (r .start) block)

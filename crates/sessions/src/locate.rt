@@ -113,10 +113,10 @@ pub(crate) fn mode_asked(notes: Notes, block: &[u8]) -> ModeRead
 pub(crate) fn acceptance(command: u32, notes: Notes) -> Acceptance
     ensures { λ r. ⌜ ((block : List ℕ) → AllNoted block notes → r ≡ acceptance-of command (listed (entries block))) ⌝ }
 {
-    if crate::command::opens(command) {
-        return Acceptance { receipt: false };
-    }
     Acceptance {
-        receipt: !lacks(notes, Header::Receipt),
+        receipt: !crate::command::opens(command) & !lacks(notes, Header::Receipt),
+        later_destinations: crate::notes::later(notes, Header::Destination),
+        later_ids: crate::notes::later(notes, Header::Id),
+        later_transactions: crate::notes::later(notes, Header::Transaction),
     }
 }

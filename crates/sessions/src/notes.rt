@@ -3,7 +3,7 @@
 ghost use mathlib.Core.Path.{_≡_};
 ghost use mathlib.Core.Bool.{cond};
 ghost use Rattle.headers.specs.Rows.{same};
-ghost use Rattle.sessions.specs.Notes.{Notes-of, located, index-of, headers-max, number-of-name, no-notes};
+ghost use Rattle.sessions.specs.Notes.{Notes-of, located, later-noted, index-of, headers-max, number-of-name, no-notes};
 use crate::command::Header;
 use headers::EntryAt;
 
@@ -134,4 +134,16 @@ pub(crate) fn locate(notes: Notes, header: Header) -> Located
         end: notes.ends[k],
         present: notes.counts[k] != 0,
     }
+}
+
+// How many later entries follow the first of a header.
+pub(crate) fn later(notes: Notes, header: Header) -> usize
+    ensures { λ r. ⌜ r ≡ later-noted notes header ⌝ }
+{
+    let k = index_of(header);
+    let count = notes.counts[k];
+    if count == 0 {
+        return 0;
+    }
+    count - 1
 }

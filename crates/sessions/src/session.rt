@@ -53,9 +53,12 @@ pub struct Session {
     pub phase: u8,
 }
 
-// What an accepted answer says: whether a receipt is owed.
+// What an accepted answer says: whether a receipt is owed, and how many later entries follow the first destination, id and transaction.
 pub struct Acceptance {
     pub receipt: bool,
+    pub later_destinations: usize,
+    pub later_ids: usize,
+    pub later_transactions: usize,
 }
 
 // The answer to a frame or a heart-beat: accepted, or refused with a number.
@@ -335,7 +338,13 @@ impl Session {
         if self.phase == Session::CLOSED {
             return self.refused(refusals::CLOSED);
         }
-        self.accepted(Acceptance { receipt: false }, time)
+        let acceptance = Acceptance {
+            receipt: false,
+            later_destinations: 0,
+            later_ids: 0,
+            later_transactions: 0,
+        };
+        self.accepted(acceptance, time)
     }
 
     // Whether the peer is timed out.
