@@ -5,6 +5,12 @@ ghost use lib.ListN.{length, drop};
 ghost use Rattle.headers.specs.Block.{two-at, entries};
 ghost use Rattle.headers.specs.Answers.{find-answer, found-says, count-from, counted-says, is-block, entry-answer, entry-says};
 
+// A part of octets that the caller has: where it begins, and how long it is.
+pub struct Span {
+    pub start: usize,
+    pub len: usize,
+}
+
 // The first value of a name: its place in the block, and how many later entries have the name.
 pub struct FirstValue {
     pub start: usize,

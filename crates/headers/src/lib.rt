@@ -12,6 +12,7 @@ pub use block::EntryAt;
 pub use block::FirstValue;
 pub use block::Found;
 pub use block::Lengths;
+pub use block::Span;
 pub use block::entry_at;
 pub use block::find;
 pub use block::is_valid;

@@ -17,7 +17,7 @@ use borrow.Author.Tests.{eqb-true, eqb-false, eq-eqb, ne-eqb}
 use Rattle.headers.specs.Rows.{same, every, is-octet}
 use Rattle.headers.specs.Block.{Entry, Block, entry-before, entry-record, entries, listed, spans, named, later, first-value}
 use Rattle.headers.specs.Answers.{accepted, first-span, find-answer, has-entries, is-block}
-use Rattle.headers.specs.Block.{Span}
+use Rattle.headers.specs.declared.block.Span.{Span}
 use Rattle.headers.specs.declared.block.Lengths.{Lengths}
 use Rattle.headers.proofs.Rows.{cond-case, same-eq, never}
 use Rattle.headers.proofs.Blocks.{Placed, placed, place-behind, placed-name, placed-value, entries-next, is-block-next, is-block-of, length-record}

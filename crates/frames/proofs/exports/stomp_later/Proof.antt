@@ -7,7 +7,7 @@ use Rattle.headers.specs.Answers.{find-answer, found-says}
 use Rattle.headers.specs.declared.block.Found.{Found}
 use Rattle.frames.specs.Answers.{later-alone, packed-later, unpacked-later}
 use Rattle.frames.proofs.Packed.{later-back}
-use Rattle.frames.proofs.Running.{octets-known}
+use Rattle.headers.proofs.Rows.{octets-known}
 use borrow.Author.Needs.{needs}
 use Rattle.frames.proofs.exports.stomp_later.Statement.{statement}
 use Rattle.frames.proofs.exports.stomp_later.Tie as tie
