@@ -114,13 +114,21 @@ fn dressed(random: &mut Random, mut frame: Frame) -> Frame {
     shuffle(random, &mut frame.entries);
     for index in (0..frame.entries.len()).rev() {
         if random.once_in(8) {
-            let name = frame.entries[index].name.clone();
-            let value = any_value(random, &name);
-            let place = random.between(index + 1, frame.entries.len());
-            frame.entries.insert(place, Entry { name, value });
+            let count = random.pick(&[1, 1, 1, 2, 3]);
+            repeat(random, &mut frame.entries, index, count);
         }
     }
     frame
+}
+
+/// Puts later entries of the name of this one after it.
+fn repeat(random: &mut Random, entries: &mut Vec<Entry>, index: usize, count: usize) {
+    for _ in 0..count {
+        let name = entries[index].name.clone();
+        let value = any_value(random, &name);
+        let place = random.between(index + 1, entries.len());
+        entries.insert(place, Entry { name, value });
+    }
 }
 
 /// An entry that does not matter for the command: of a name that matters for others, or almost so, or

@@ -9,7 +9,7 @@ use crate::program::{self, Ran};
 use crate::random::Random;
 use crate::replay::{self, Replay, Said};
 use crate::session::delivery::Recorded;
-use crate::session::Answer;
+use crate::session::{Answer, COUNTED};
 use std::io::{self, Write};
 
 /// The refusals of a session that is made and gets frames.
@@ -19,12 +19,13 @@ pub const NUMBERS: [usize; 13] = [31, 32, 33, 40, 41, 42, 43, 44, 45, 46, 47, 49
 pub const RECORDING: [usize; 4] = [61, 62, 63, 64];
 
 /// How many octets the streams compared had, and how often each outcome came up; of accepted frames,
-/// first those without a receipt, then those with one.
+/// first those without a receipt, then those with one, and those with later entries of each name counted.
 #[derive(Default)]
 pub struct Tally {
     octets: usize,
     beats: [usize; 2],
     accepted: [[usize; 2]; COMMANDS.len()],
+    overwritten: [usize; COUNTED.len()],
     refused: [[usize; NUMBERS.len()]; COMMANDS.len()],
     logs: usize,
     delivered: usize,
@@ -57,7 +58,11 @@ impl Tally {
 
     fn count_frame(&mut self, index: usize, answer: Answer) {
         match answer {
-            Ok(accepted) => self.accepted[index][usize::from(accepted.receipt)] += 1,
+            Ok(accepted) => {
+                self.accepted[index][usize::from(accepted.receipt)] += 1;
+                let counts = self.overwritten.iter_mut().zip(accepted.later);
+                counts.for_each(|(count, later)| *count += usize::from(later > 0));
+            }
             Err(number) => count_in(&NUMBERS, &mut self.refused[index], number),
         }
     }
@@ -116,6 +121,9 @@ impl comparison::Tally for Tally {
                     .filter(|(_, &count)| count > 0),
             );
         }
+        let [destinations, ids, transactions] = self.overwritten;
+        print!("frames accepted with a later destination {destinations}, ");
+        println!("id {ids}, transaction {transactions}");
         let mut all = [0; NUMBERS.len()];
         for row in &self.refused {
             (0..all.len()).for_each(|column| all[column] += row[column]);

@@ -14,9 +14,11 @@ use std::collections::BTreeMap;
 use std::io;
 
 /// The answers to a frame.
-const FRAME: [&str; 17] = [
+const FRAME: [&str; 19] = [
     "accepted",
+    "accepted overwritten",
     "accepted receipt",
+    "accepted receipt overwritten",
     "refused 31",
     "refused 32",
     "refused 33",
@@ -47,7 +49,8 @@ const DELIVER: [&str; 6] = [
     "refused 64",
 ];
 
-/// The answers to each kind of call, by its number; of `pending` without the texts.
+/// The answers to each kind of call, by its number; of `pending` without the texts, of `overwritten` without
+/// the counts.
 pub const ANSWERS: [&[&str]; 11] = [
     &["made", "refused 34"],
     &FRAME,
@@ -62,9 +65,13 @@ pub const ANSWERS: [&[&str]; 11] = [
     &["pending 1", "pending 2", "none", "refused 38"],
 ];
 
-/// The answer without the texts of `pending`.
+/// The answer without the texts of `pending` and the counts of `overwritten`.
 pub fn in_short(answer: &str) -> String {
-    let words: Vec<&str> = answer.split(' ').take(2).collect();
+    let length = match answer.split_once(" overwritten") {
+        Some((front, _)) => 1 + front.split(' ').count(),
+        None => 2,
+    };
+    let words: Vec<&str> = answer.split(' ').take(length).collect();
     words.join(" ")
 }
 

@@ -85,6 +85,7 @@ fn by_value() -> Vec<Call> {
         deliveries::modes(),
         deliveries::invalid(),
         deliveries::valid(),
+        overwritten(),
     ]
     .concat()
 }
@@ -316,5 +317,38 @@ fn refusals() -> Vec<Call> {
         frame(b"COMMIT", &[("transaction", "a")]),
         opened(),
         frame(b"SUBSCRIBE", &[("destination", "/q"), ("Id", "b")]),
+    ]
+}
+
+/// Later entries of destination, id and transaction, document 02, C-19: with a receipt and without, in an
+/// opening too; a heart-beat and a refusal count none.
+fn overwritten() -> Vec<Call> {
+    let send = [("destination", "/q"), ("id", "1"), ("id", "2")];
+    let owing = [
+        ("transaction", "t"),
+        ("destination", "/q"),
+        ("receipt", "r"),
+        ("destination", ""),
+        ("transaction", "u"),
+        ("destination", "/q"),
+    ];
+    let ids = [("id", "a"), ("id", "b"), ("id", "a"), ("id", "")];
+    let subscribe = [("transaction", ""), ("transaction", ""), send[0]];
+    let opening = [
+        ("accept-version", "1.2"),
+        ("accept-version", "1.2"),
+        ("host", "h"),
+        send[0],
+        send[0],
+    ];
+    vec![
+        set(&open(&[], &["t"])),
+        frame(b"SEND", &send),
+        frame(b"SEND", &owing),
+        heart_beat(8),
+        frame(b"SUBSCRIBE", &[&ids[..], &subscribe].concat()),
+        frame(b"BEGIN", &[("transaction", ""), ("transaction", "v")]),
+        offers(0, 0, ONLY_1_2),
+        frame(b"CONNECT", &opening),
     ]
 }

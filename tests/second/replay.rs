@@ -10,7 +10,7 @@ use crate::session::frame::opens;
 use crate::session::frame::Frame;
 use crate::session::opening::ONLY_1_2;
 use crate::session::record::{make, Record};
-use crate::session::Answer;
+use crate::session::{Answer, COUNTED};
 
 /// The time of every call.
 const TIME: u32 = 0;
@@ -123,8 +123,19 @@ fn line(step: &Step) -> String {
 /// An answer in words.
 pub fn written(answer: Answer) -> String {
     match answer {
-        Ok(accepted) if accepted.receipt => "accepted receipt".to_string(),
-        Ok(_) => "accepted".to_string(),
+        Ok(accepted) => {
+            let receipt = if accepted.receipt { " receipt" } else { "" };
+            format!("accepted{receipt}{}", overwritten(accepted.later))
+        }
         Err(number) => format!("refused {number}"),
     }
+}
+
+/// How many later entries there are of each name, if there is one.
+fn overwritten(later: [usize; COUNTED.len()]) -> String {
+    if later.iter().all(|&count| count == 0) {
+        return String::new();
+    }
+    let counts = later.map(|count| count.to_string());
+    format!(" overwritten {}", counts.join(" "))
 }

@@ -51,11 +51,16 @@ pub struct Session {
     pub deliveries: Vec<Delivery>,
 }
 
-/// An accepted answer "says only that": whether a receipt is owed.
+/// What an accepted answer says: whether a receipt is owed and, document 02, C-19, "how many later entries of
+/// that name follow", of each of these names.
 #[derive(Clone, Copy, PartialEq, Eq, Debug)]
 pub struct Accepted {
     pub receipt: bool,
+    pub later: [usize; COUNTED.len()],
 }
+
+/// The names whose later entries are counted, in the order of an answer.
+pub const COUNTED: [&[u8]; 3] = [b"destination", b"id", b"transaction"];
 
 /// A refusal is its number.
 pub type Answer = Result<Accepted, usize>;
@@ -175,7 +180,8 @@ impl Session {
         }
         self.state.last_heard = time;
         let receipt = frame.first(b"receipt").is_some() && !frame.opens();
-        Ok(Accepted { receipt })
+        let later = COUNTED.map(|name| frame.later(name));
+        Ok(Accepted { receipt, later })
     }
 
     /// What an accepted CONNECT or STOMP changes, and nothing for any other frame.
@@ -232,7 +238,10 @@ impl Session {
             return Err(40);
         }
         self.state.last_heard = time;
-        Ok(Accepted { receipt: false })
+        Ok(Accepted {
+            receipt: false,
+            later: [0; COUNTED.len()],
+        })
     }
 
     /// Whether the client has timed out: "the session is open, the client-to-server interval is not 0

@@ -10,7 +10,7 @@ use crate::random::Random;
 use crate::session::delivery::Mode;
 use crate::session::opening::ONLY_1_2;
 use crate::session::record::{make, Record};
-use crate::session::{Accepted, Phase};
+use crate::session::{Accepted, Phase, COUNTED};
 use crate::session_calls::accounts::{self, Totals};
 use crate::session_calls::records;
 use crate::session_calls::sequence::{sequence, Step};
@@ -30,9 +30,13 @@ fn frames_are_answered_as_meant() {
         }
         let frame = right(&mut random, &session);
         let receipt = frame.first(b"receipt").is_some() && phase == Phase::Open;
+        let later = COUNTED.map(|name| {
+            let named = frame.entries.iter().filter(|entry| entry.name == name);
+            named.count().saturating_sub(1)
+        });
         assert_eq!(
             session.frame(&frame, 7),
-            Ok(Accepted { receipt }),
+            Ok(Accepted { receipt, later }),
             "{frame:?}"
         );
     }
@@ -106,7 +110,7 @@ fn calls_change_only_what_they_may() {
     }
     let all: usize = ANSWERS.iter().map(|answers| answers.len()).sum();
     assert_eq!(answers.len(), all);
-    assert_eq!(all, 2 + 1 + 2 * (17 + 3 + 3 + 6) + 4);
+    assert_eq!(all, 2 + 1 + 2 * (19 + 3 + 3 + 6) + 4);
 }
 
 /// The accounts are even after each call, and what is pending is what the session holds.

@@ -16,13 +16,15 @@ fn lines(stream: &[u8], sends: u32, wants: u32, log: bool) -> String {
 #[test]
 fn examples_are_replayed() {
     let stream = b"CONNECT\naccept-version:1.2\nhost:h\nheart-beat:1000,0\n\n\0\n\
-        SUBSCRIBE\nid:a\ndestination:/q\nreceipt:r\n\n\0MESSAGE\n\n\0\nSEND";
+        SUBSCRIBE\nid:a\ndestination:/q\nreceipt:r\n\n\0\
+        SEND\ndestination:/q\nid:1\nid:2\n\n\0MESSAGE\n\n\0\nSEND";
     let expected = "0 frame 5 accepted version 1.2 client 2000 server 0\n\
         54 beat accepted\n\
         55 frame 14 accepted receipt\n\
-        97 frame 9 refused 41\n\
-        107 beat refused 40\n\
-        108 more\n";
+        97 frame 12 accepted overwritten 0 1 0\n\
+        129 frame 9 refused 41\n\
+        139 beat refused 40\n\
+        140 more\n";
     assert_eq!(lines(stream, 500, 2_000, false), expected);
     assert_eq!(lines(b"", 0, 0, true), "0 end\n");
     let most = 3_600_000;
@@ -89,7 +91,7 @@ fn the_fixed_stream_is_replayed() {
         "frame 9 refused 63",
         "frame 5 accepted version 1.2 client 0 server 0",
         "beat accepted",
-        "frame 14 accepted",
+        "frame 14 accepted overwritten 0 1 0",
         "frame 14 accepted receipt",
         "frame 9 delivered",
         "frame 9 refused 62",
@@ -122,7 +124,7 @@ fn the_fixed_stream_is_replayed() {
 }
 
 /// The answers to the fixed calls by value, group by group; a comma stands between two.
-const ANSWERS: [&str; 16] = [
+const ANSWERS: [&str; 17] = [
     "no,accepted,made,no,accepted,no,no,yes,yes,accepted,no,no,yes,set,no,yes,no",
     "set,accepted,accepted receipt,accepted receipt,accepted,refused 43,no,refused 40,refused 40,\
      set,accepted receipt,refused 40",
@@ -146,8 +148,8 @@ const ANSWERS: [&str; 16] = [
      pending 1 63 6c6c6c6c6c6c6c6c6c6c6c6c6c6c6c6c6c6c6c6c6c6c6c6c6c6c6c6c6c6c6c6c,none,accepted,\
      no,accepted,none,refused 63,refused 63",
     "set,accepted,pending 2 62 32,pending 1 63 34,accepted,recorded,accepted,accepted,\
-     accepted receipt,accepted,pending 2 62 33,none,accepted,recorded,accepted,refused 60,none,\
-     set,refused 60,set,refused 60,set,recorded,refused 60,set,refused 60,set,refused 60,set,\
+     accepted receipt overwritten 0 1 0,accepted,pending 2 62 33,none,accepted,recorded,accepted,\
+     refused 60,none,set,refused 60,set,refused 60,set,recorded,refused 60,set,refused 60,set,refused 60,set,\
      refused 46,set,refused 44,set,refused 43",
     "set,recorded,refused 61,refused 61,refused 62,refused 62,refused 64,recorded,refused 62,\
      pending 1 63 6c6162656c2d3633,pending 2 69 6c617374,none,accepted,accepted,recorded,accepted,\
@@ -165,6 +167,8 @@ const ANSWERS: [&str; 16] = [
      set,refused 38,set,refused 38,set,refused 38,set,refused 38",
     "set,refused 63,accepted,recorded,recorded,pending 1 79 31,pending 2 78 32,set,none,\
      refused 63,refused 40",
+    "set,accepted overwritten 0 1 0,accepted receipt overwritten 2 0 1,accepted,\
+     accepted overwritten 0 3 1,refused 44,made,accepted overwritten 1 0 0",
 ];
 
 #[test]

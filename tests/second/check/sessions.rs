@@ -6,8 +6,12 @@ use crate::session::opening::ONLY_1_2;
 use crate::session::record::{make, Record};
 use crate::session::{Accepted, Answer};
 
-pub const PLAIN: Answer = Ok(Accepted { receipt: false });
-const RECEIPT: Answer = Ok(Accepted { receipt: true });
+pub const PLAIN: Answer = accepted(false, [0, 0, 0]);
+const RECEIPT: Answer = accepted(true, [0, 0, 0]);
+
+const fn accepted(receipt: bool, later: [usize; 3]) -> Answer {
+    Ok(Accepted { receipt, later })
+}
 
 const OPENING: &[(&str, &str)] = &[("accept-version", "1.2"), ("host", "h")];
 
@@ -166,7 +170,7 @@ fn transactions_that_are_carried() {
 #[test]
 fn later_entries_do_not_count() {
     let begin = [("transaction", "t"), ("transaction", "")];
-    assert_eq!(answer("BEGIN", &begin), PLAIN);
+    assert_eq!(answer("BEGIN", &begin), accepted(false, [0, 0, 1]));
     let begin = [("transaction", ""), ("transaction", "t")];
     assert_eq!(answer("BEGIN", &begin), Err(44));
     let again = [
@@ -178,6 +182,26 @@ fn later_entries_do_not_count() {
         ],
     ];
     assert_eq!(tell(&mut fresh(), "CONNECT", &again.concat()), PLAIN);
+}
+
+/// Document 02, C-19: "Looking up a name must also say how many later entries of that name follow. Sessions
+/// pass this on for destination, id and transaction in each accepted answer". Other names are not counted.
+#[test]
+fn later_entries_are_counted() {
+    let send = [("destination", "/q"), ("id", "1"), ("id", "2")];
+    assert_eq!(answer("SEND", &send), accepted(false, [0, 1, 0]));
+    let send = [("destination", "a"), ("receipt", ""), ("receipt", "")];
+    let send = [&send[..], &[("destination", "b"), ("destination", "a")]].concat();
+    assert_eq!(answer("SEND", &send), accepted(true, [2, 0, 0]));
+    let opening = [OPENING, &[("id", ""), ("id", ""), ("host", "")]].concat();
+    assert_eq!(
+        tell(&mut fresh(), "STOMP", &opening),
+        accepted(false, [0, 1, 0])
+    );
+    let stray = [("transaction", "t"), ("Transaction", "t"), ("id", "i")];
+    assert_eq!(answer("DISCONNECT", &stray), PLAIN);
+    let begin = [("transaction", ""), ("transaction", "t"), ("id", "")];
+    assert_eq!(answer("BEGIN", &begin), Err(44));
 }
 
 /// "A receipt is owed exactly if the frame is accepted, the header is there and the command is neither

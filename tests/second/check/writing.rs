@@ -10,6 +10,7 @@ use crate::encode_calls::{Call, Reply};
 use crate::item::{content_length, header_line, Command, CONTENT_LENGTH};
 use crate::random::Random;
 use crate::rewrite::{complaint, rewrite, Stop};
+use crate::session::frame::Frame;
 use crate::streams;
 use std::collections::{BTreeSet, HashSet};
 
@@ -52,6 +53,13 @@ fn examples_are_decoded_and_encoded() {
     assert_eq!(decoded(P7).entries, [Entry::new(b"id", b"a:b")]);
     let runs = [Entry::new(b"run", b"b"), Entry::new(b"run", b"a")];
     assert_eq!(decoded(P13).entries, runs);
+    let looked_up = Frame {
+        command: decoded(P13).command,
+        entries: decoded(P13).entries,
+    };
+    assert_eq!(looked_up.first(b"run"), Some(&b"b"[..]));
+    assert_eq!(looked_up.later(b"run"), 1);
+    assert_eq!(looked_up.later(b"id"), 0);
     for frame in [P7, P13] {
         for counted in [false, true] {
             assert_eq!(encoded(&decoded(frame), counted), Ok(frame.to_vec()));

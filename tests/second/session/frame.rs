@@ -19,6 +19,16 @@ impl Frame {
         Some(&entry.value)
     }
 
+    /// How many later entries of a name follow its first one; 0 where the name is missing.
+    pub fn later(&self, name: &[u8]) -> usize {
+        let named = |entry: &Entry| entry.name == name;
+        let Some(first) = self.entries.iter().position(named) else {
+            return 0;
+        };
+        let after = &self.entries[first + 1..];
+        after.iter().filter(|entry| named(entry)).count()
+    }
+
     /// The id of a subscription or transaction that the frame names.
     pub fn id(&self) -> Option<&[u8]> {
         self.first(naming(self.command)?.header)

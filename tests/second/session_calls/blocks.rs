@@ -94,6 +94,9 @@ fn many_entries(random: &mut Random, frame: &mut Frame) {
         (b"n", b""),
         (b"i", b"d"),
         (b"", b"id"),
+        (b"id", b"i"),
+        (b"destination", b""),
+        (b"transaction", b""),
     ]);
     let place = random.pick(&[0, 0, frame.entries.len()]);
     let entries = vec![Entry::new(entry.0, entry.1); count];
