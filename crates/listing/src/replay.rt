@@ -88,7 +88,12 @@ fn deliver(session: Session, block: &[u8]) -> Taken {
         DeliveryAnswer::Recorded => Taken {
             outcome: Outcome {
                 session: after,
-                answer: SessionAnswer::Accepted(Acceptance { receipt: false }),
+                answer: SessionAnswer::Accepted(Acceptance {
+                    receipt: false,
+                    later_destinations: 0,
+                    later_ids: 0,
+                    later_transactions: 0,
+                }),
             },
             delivered: true,
         },
@@ -138,7 +143,7 @@ fn put_start(d: &mut [u8], start: u64, item: Item) -> usize
     k + put_number(&mut d[k..], item.command as u64, 32)
 }
 
-// A word and a number behind it.
+// A word and a number after it.
 fn put_word_number(d: &mut [u8], word: &[u8], n: u64, behind: u8) -> usize
     requires { ⌜ length (now word) + 21 ≤ length (now d) ⌝ }
     ensures { λ r. ⌜ (r ≤ length (now (word .entry)) + 21) × (length (now (d .exit)) ≡ length (now (d .entry))) ⌝ }
@@ -149,17 +154,17 @@ fn put_word_number(d: &mut [u8], word: &[u8], n: u64, behind: u8) -> usize
 
 // The highest shared version.
 fn put_version(d: &mut [u8], version: u32) -> usize
-    requires { ⌜ 51 ≤ length (now d) ⌝ }
-    ensures { λ r. ⌜ (r ≤ 51) × (length (now (d .exit)) ≡ length (now (d .entry))) ⌝ }
+    requires { ⌜ 50 ≤ length (now d) ⌝ }
+    ensures { λ r. ⌜ (r ≤ 50) × (length (now (d .exit)) ≡ length (now (d .entry))) ⌝ }
 {
-    let k = put_word_number(d, b" version ", (version / 10) as u64, 46);
+    let k = put_word_number(d, b"version ", (version / 10) as u64, 46);
     k + put_number(&mut d[k..], (version % 10) as u64, 32)
 }
 
 // What an opening came to.
 fn put_opened(d: &mut [u8], session: Session) -> usize
-    requires { ⌜ 107 ≤ length (now d) ⌝ }
-    ensures { λ r. ⌜ (r ≤ 107) × (length (now (d .exit)) ≡ length (now (d .entry))) ⌝ }
+    requires { ⌜ 106 ≤ length (now d) ⌝ }
+    ensures { λ r. ⌜ (r ≤ 106) × (length (now (d .exit)) ≡ length (now (d .entry))) ⌝ }
 {
     let mut k = put_version(d, session.highest_shared());
     k += put_word_number(&mut d[k..], b"client ", session.agreed.inbound as u64, 32);
@@ -177,34 +182,49 @@ fn put_receipt(d: &mut [u8], receipt: bool) -> usize
     0
 }
 
+// How many later entries follow the first destination, id and transaction, and an octet after that; only the octet where none do.
+fn put_overwritten(d: &mut [u8], a: Acceptance, behind: u8) -> usize
+    requires { ⌜ 76 ≤ length (now d) ⌝ }
+    ensures { λ r. ⌜ (r ≤ 76) × (length (now (d .exit)) ≡ length (now (d .entry))) ⌝ }
+{
+    if (a.later_destinations == 0) & ((a.later_ids == 0) & (a.later_transactions == 0)) {
+        d[0] = behind;
+        return 1;
+    }
+    let mut k = put_word_number(d, b" overwritten ", a.later_destinations as u64, 32);
+    k += put_number(&mut d[k..], a.later_ids as u64, 32);
+    k + put_number(&mut d[k..], a.later_transactions as u64, behind)
+}
+
 // That an item was accepted, to the line's end.
-fn put_accepted(d: &mut [u8], receipt: bool, opening: bool, session: Session) -> usize
-    requires { ⌜ 123 ≤ length (now d) ⌝ }
-    ensures { λ r. ⌜ (r ≤ 123) × (length (now (d .exit)) ≡ length (now (d .entry))) ⌝ }
+fn put_accepted(d: &mut [u8], a: Acceptance, opening: bool, session: Session) -> usize
+    requires { ⌜ 198 ≤ length (now d) ⌝ }
+    ensures { λ r. ⌜ (r ≤ 198) × (length (now (d .exit)) ≡ length (now (d .entry))) ⌝ }
 {
     let mut k = put_word(d, b"accepted");
-    k += put_receipt(&mut d[k..], receipt);
+    k += put_receipt(&mut d[k..], a.receipt);
     if opening {
+        k += put_overwritten(&mut d[k..], a, 32);
         return k + put_opened(&mut d[k..], session);
     }
-    k + put_word(&mut d[k..], b"\n")
+    k + put_overwritten(&mut d[k..], a, 10)
 }
 
 // The session's answer, to the line's end.
 fn put_answer(d: &mut [u8], answer: SessionAnswer, opening: bool, session: Session) -> usize
-    requires { ⌜ 123 ≤ length (now d) ⌝ }
-    ensures { λ r. ⌜ (r ≤ 123) × (length (now (d .exit)) ≡ length (now (d .entry))) ⌝ }
+    requires { ⌜ 198 ≤ length (now d) ⌝ }
+    ensures { λ r. ⌜ (r ≤ 198) × (length (now (d .exit)) ≡ length (now (d .entry))) ⌝ }
 {
     match answer {
-        SessionAnswer::Accepted(a) => put_accepted(d, a.receipt, opening, session),
+        SessionAnswer::Accepted(a) => put_accepted(d, a, opening, session),
         SessionAnswer::Refused(n) => put_word_number(d, b"refused ", n as u64, 10),
     }
 }
 
 // The line of an item.
 fn put_turn(d: &mut [u8], start: u64, item: Item, outcome: Outcome, delivered: bool) -> usize
-    requires { ⌜ 171 ≤ length (now d) ⌝ }
-    ensures { λ r. ⌜ (r ≤ 171) × (length (now (d .exit)) ≡ length (now (d .entry))) ⌝ }
+    requires { ⌜ 246 ≤ length (now d) ⌝ }
+    ensures { λ r. ⌜ (r ≤ 246) × (length (now (d .exit)) ≡ length (now (d .entry))) ⌝ }
 {
     let answer = outcome.answer;
     let session = outcome.session;
@@ -226,7 +246,7 @@ fn replay_item(
 ) -> Replaying
     requires { ⌜
         (at .progress .lo ≤ end) × (end ≤ at .progress .hi) × (at .progress .hi ≤ length (now buf))
-        × (at .progress .used + 192 ≤ length (now out))
+        × (at .progress .used + 246 ≤ length (now out))
         ⌝ }
     ensures { λ r. ⌜
         Room (length (now (buf .entry))) (length (now (out .entry))) (r .progress)
@@ -262,7 +282,7 @@ fn turn(fd: i32, buf: &mut [u8], block: &mut [u8], out: &mut [u8], at: Replaying
     let session = at.session;
     let log = at.log;
     let used = p.used;
-    if out.len() - used < 192 {
+    if out.len() - used < 246 {
         return Replaying {
             progress: crate::stream::flush(out, p),
             session,
