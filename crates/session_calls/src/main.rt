@@ -17,6 +17,7 @@ use sessions::parts::Offers;
 use sessions::parts::SubscriptionStore;
 use sessions::parts::TransactionStore;
 use sessions::refusals;
+use sessions::session::Acceptance;
 use sessions::session::DeliveryAnswer;
 use sessions::session::MakingAnswer;
 use sessions::session::Outcome;
@@ -110,6 +111,7 @@ fn write_deliveries(d: Deliveries, modes: [u8; Session::SUBSCRIPTIONS]) {
     io::write_all(STDOUT_FILENO, &count);
 }
 
+// The ids of subscriptions and their lengths: 528 octets.
 fn write_subscriptions(s: SubscriptionStore) {
     let ids = s.ids;
     let lens = s.lens;
@@ -117,6 +119,7 @@ fn write_subscriptions(s: SubscriptionStore) {
     io::write_all(STDOUT_FILENO, &lens);
 }
 
+// The ids of transactions and their lengths: 132 octets.
 fn write_transactions(t: TransactionStore) {
     let ids = t.ids;
     let lens = t.lens;
@@ -190,15 +193,30 @@ fn say_made(answer: MakingAnswer) {
     }
 }
 
+// How many later entries follow the first destination, id and transaction, where one of these is not 0.
+fn say_overwritten(a: Acceptance) {
+    if (a.later_destinations == 0) & ((a.later_ids == 0) & (a.later_transactions == 0)) {
+        return;
+    }
+    say(b" overwritten ");
+    io::print_decimal(STDOUT_FILENO, a.later_destinations as u64);
+    say(b" ");
+    io::print_decimal(STDOUT_FILENO, a.later_ids as u64);
+    say(b" ");
+    io::print_decimal(STDOUT_FILENO, a.later_transactions as u64);
+}
+
+fn say_accepted(a: Acceptance) {
+    say(b"accepted");
+    if a.receipt {
+        say(b" receipt");
+    }
+    say_overwritten(a);
+}
+
 fn say_answer(answer: SessionAnswer) {
     match answer {
-        SessionAnswer::Accepted(a) => {
-            if a.receipt {
-                say(b"accepted receipt");
-            } else {
-                say(b"accepted");
-            }
-        }
+        SessionAnswer::Accepted(a) => say_accepted(a),
         SessionAnswer::Refused(n) => say_refused(n),
     }
 }
