@@ -99,7 +99,7 @@ enum stomp_decode_refusal {
     STOMP_DECODE_SHORT_BLOCK = 21  /* the block is shorter than needed */
 };
 
-/* The number of stomp_find. */
+/* The number of stomp_find and stomp_later. */
 enum stomp_find_refusal {
     STOMP_FIND_MALFORMED = 22 /* the block is not a row of whole records */
 };
@@ -204,6 +204,13 @@ uint64_t stomp_decode(const uint8_t *frame, size_t frame_len, uint8_t *block, si
  * in the block where the value starts, at least 6. The value's length is the two octets
  * at start - name_len - 2, high first. `block` and `name` must not overlap. */
 uint64_t stomp_find(const uint8_t *block, size_t block_len, const uint8_t *name, size_t name_len);
+
+/* How many later entries of a name follow the first: one that is not 0 says that a newer entry was put
+ * before an older one, which no longer counts. The slices are those of stomp_find. Writes nothing.
+ *
+ * The answer is that number, 0 where no entry has the name, and 2^63 + 22 where the block is malformed,
+ * which no count is. `block` and `name` must not overlap. */
+uint64_t stomp_later(const uint8_t *block, size_t block_len, const uint8_t *name, size_t name_len);
 
 /* Encodes a frame: the command, the entries of the block in order, escaped where the command has
  * escapes, and the body. Where the body holds octet 0 and no entry is named content-length, a line
@@ -482,6 +489,13 @@ static inline size_t stomp_find_length(uint64_t answer, const uint8_t *block, si
         return 0;
     octets = block + stomp_find_start(answer) - name_len - 2;
     return (size_t)octets[0] << 8 | octets[1];
+}
+
+/* A reader of what stomp_later answered: 22 where the block is malformed, else 0, and the answer is the
+ * count. */
+static inline unsigned stomp_later_code(uint64_t answer)
+{
+    return answer >> 63 ? (unsigned)(answer & 0xff) : 0;
 }
 
 #ifdef __cplusplus
