@@ -14,7 +14,7 @@
 #include "guard.h"
 #include "row.h"
 
-enum { TOKEN_CASES = 300000, EDGE_CASES = 100000, BODY_CASES = 1000 };
+enum { TOKEN_CASES = 300000, EDGE_CASES = 100000, BODY_CASES = 1000, NAME_CASES = 100000 };
 enum { OUTCOMES = 14, LEAST_OF_EACH = 200 };
 
 /* How often each answer was given: incomplete, heart-beat, frame, invalid 1 to 11. */
@@ -272,6 +272,60 @@ static void check_stream(const struct stream *st, uint64_t *seed)
     }
 }
 
+/* A block of entries whose names are rows of a, b and c, so that many are there twice or more. */
+static void put_short_entries(struct row *r, uint64_t *seed)
+{
+    for (size_t left = random_between(seed, 0, 9); left > 0; left--) {
+        uint8_t head[] = {72, 68, 0, (uint8_t)random_between(seed, 0, 2), 0, (uint8_t)random_between(seed, 0, 3)};
+        put(r, head, sizeof head);
+        for (size_t n = head[3]; n > 0; n--)
+            put_times(r, &"a\0b\0c"[2 * random_between(seed, 0, 2)], 1);
+        put_times(r, "v", head[5]);
+    }
+}
+
+/* What is found of a name in such a block, and how many entries follow, ours as by hand. */
+static uint64_t agreed_later(const struct row *r, const char *text)
+{
+    const uint8_t *name = (const uint8_t *)text;
+    const uint8_t *block = at_end(guard, r->octets, r->length);
+    size_t length = strlen(text);
+    uint64_t later = counters[OURS](block, r->length, name, length);
+    if (later != counters[BASELINE](block, r->length, name, length) ||
+        finders[OURS](block, r->length, name, length) != finders[BASELINE](block, r->length, name, length)) {
+        fprintf(stderr, "bench: what is found of the name \"%s\" differs\n", text);
+        show_octets("the block", block, r->length);
+        exit(1);
+    }
+    return later;
+}
+
+/* Names looked up in such blocks, some of them damaged. */
+static void check_names(void)
+{
+    static const char *const asked[] = {"", "a", "b", "ab", "abc"};
+    static const char *const outcomes[] = {"none", "one", "more", "malformed"};
+    unsigned long found[4] = {0};
+    uint64_t seed = 19;
+    for (size_t i = 0; i < NAME_CASES; i++) {
+        made.length = 0;
+        put_short_entries(&made, &seed);
+        if (made.length > 0 && random_between(&seed, 0, 3) == 0)
+            damage(&made, &seed);
+        uint64_t later = agreed_later(&made, asked[random_between(&seed, 0, 4)]);
+        found[stomp_later_code(later) ? 3 : later < 2 ? later : 2]++;
+    }
+    printf("%d names with the same later entries:", NAME_CASES);
+    for (size_t o = 0; o < 4; o++) {
+        printf("%s %s %lu", o ? "," : "", outcomes[o], found[o]);
+        if (found[o] < LEAST_OF_EACH) {
+            fprintf(stderr, "bench: too few names have the answer %s\n", outcomes[o]);
+            exit(1);
+        }
+    }
+    printf("\n");
+}
+
 /* Empty slices with the null pointer: ours answers as the rules say of nothing. */
 static void check_null(void)
 {
@@ -280,7 +334,7 @@ static void check_null(void)
     static const uint8_t ack[] = "ACK\n\n";
     bool right = stomp_parse(NULL, 0) == STOMP_INCOMPLETE;
     right = right && stomp_code(stomp_decode(NULL, 0, NULL, 0)) == STOMP_DECODE_NOT_A_FRAME;
-    right = right && stomp_find(NULL, 0, NULL, 0) == 0;
+    right = right && stomp_find(NULL, 0, NULL, 0) == 0 && stomp_later(NULL, 0, NULL, 0) == 0;
     right = right && stomp_feed_code(stomp_feed(NULL, 0, NULL, 0, NULL, 0)) == STOMP_FEED_SHORT_BUFFER;
     right = right && stomp_feed_code(stomp_feed(NULL, 0, buffer, sizeof buffer, NULL, 0)) == STOMP_FEED_INVALID_STATE;
     right = right && stomp_feed(state, sizeof state, buffer, sizeof buffer, NULL, 0) == STOMP_INCOMPLETE;
@@ -306,6 +360,7 @@ void check_answers(const struct stream streams[STREAMS])
     check_null();
     check_examples();
     check_blocks();
+    check_names();
     check_tokens(&seed);
     check_edges(&seed);
     check_bodies(&seed);

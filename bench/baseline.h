@@ -1,8 +1,8 @@
 /* Parsing, decoding, encoding and looking up of STOMP 1.2 items, and matching, by hand, to compare the proved
  * calls with.
  *
- * The answers are packed as those of stomp_parse, stomp_decode, stomp_encode_with, stomp_find and stomp_match, and a
- * refusal writes nothing. */
+ * The answers are packed as those of stomp_parse, stomp_decode, stomp_encode_with, stomp_find, stomp_later and
+ * stomp_match, and a refusal writes nothing. */
 #ifndef BASELINE_H
 #define BASELINE_H
 
@@ -30,8 +30,9 @@ uint64_t baseline_encode_with(uint32_t options, uint32_t command, const uint8_t 
 uint64_t baseline_encode_memcpy(uint32_t options, uint32_t command, const uint8_t *block, size_t block_length,
                                 const uint8_t *body, size_t body_length, uint8_t *target, size_t target_length);
 
-/* Goes over the block once. */
+/* Both go over the block once. */
 uint64_t baseline_find(const uint8_t *block, size_t block_length, const uint8_t *name, size_t name_length);
+uint64_t baseline_later(const uint8_t *block, size_t block_length, const uint8_t *name, size_t name_length);
 
 /* Goes over name and pattern once for their words, then fills a row of answers. */
 uint64_t baseline_match(const uint8_t *name, size_t name_length, const uint8_t *pattern, size_t pattern_length);

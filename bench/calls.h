@@ -20,6 +20,7 @@ extern parser *const parsers[VARIANTS];
 extern decoder *const decoders[VARIANTS];
 extern encoder *const encoders[VARIANTS];
 extern finder *const finders[PAIR];
+extern finder *const counters[PAIR];
 extern const char *const names[VARIANTS];
 
 #endif

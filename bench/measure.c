@@ -54,6 +54,7 @@ parser *const parsers[VARIANTS] = {stomp_parse, baseline_parse, baseline_parse_m
 decoder *const decoders[VARIANTS] = {stomp_decode, baseline_decode, baseline_decode_memchr, before_decode};
 encoder *const encoders[VARIANTS] = {stomp_encode_with, baseline_encode_with, baseline_encode_memcpy, before_encode};
 finder *const finders[PAIR] = {stomp_find, baseline_find};
+finder *const counters[PAIR] = {stomp_later, baseline_later};
 const char *const names[VARIANTS] = {"ours", "baseline", "memchr", "before"};
 
 /* The names that are looked up: some that frames have, and one that none has. */

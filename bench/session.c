@@ -115,9 +115,9 @@ static bool is_valid(const struct session *s)
            is_valid_store(s->transactions, s->transaction_lengths, TRANSACTIONS) && has_valid_deliveries(s);
 }
 
-/* Passes all records of the block and keeps the first value of each header; false where it is
- * malformed. */
-static bool read_block(const uint8_t *block, size_t length, struct octets values[HEADERS])
+/* Passes all records of the block, keeps the first value of each header and counts its entries; false
+ * where it is malformed. */
+static bool read_block(const uint8_t *block, size_t length, struct octets values[HEADERS], size_t counts[HEADERS])
 {
     for (size_t at = 0; at < length;) {
         if (length - at < HEAD || block[at] != 72 || block[at + 1] != 68)
@@ -128,8 +128,9 @@ static bool read_block(const uint8_t *block, size_t length, struct octets values
         if (length - at < name + value)
             return false;
         for (size_t h = 0; h < HEADERS; h++) {
-            if (!values[h].at && is_named(block + at, name, &header_names[h])) {
-                values[h] = (struct octets){block + at + name, value};
+            if (is_named(block + at, name, &header_names[h])) {
+                if (counts[h]++ == 0)
+                    values[h] = (struct octets){block + at + name, value};
                 break;
             }
         }
@@ -460,13 +461,19 @@ unsigned session_make(struct session *s, uint32_t sends, uint32_t wants, const b
     return ACCEPTED;
 }
 
+static size_t after_first(size_t count)
+{
+    return count > 0 ? count - 1 : 0;
+}
+
 unsigned session_frame(struct session *s, uint32_t command, const uint8_t *block, size_t length,
-                       uint32_t time)
+                       uint32_t time, struct later *later)
 {
     struct octets values[HEADERS] = {{NULL, 0}};
+    size_t counts[HEADERS] = {0};
     if (!is_valid(s))
         return 38;
-    if (command < 1 || command > COMMANDS || !read_block(block, length, values))
+    if (command < 1 || command > COMMANDS || !read_block(block, length, values, counts))
         return 39;
     unsigned number = phase_refusal(s, command);
     if (number == 0)
@@ -476,6 +483,8 @@ unsigned session_frame(struct session *s, uint32_t command, const uint8_t *block
         return number;
     }
     s->last_heard = time;
+    *later = (struct later){after_first(counts[DESTINATION]), after_first(counts[ID]),
+                            after_first(counts[TRANSACTION])};
     return values[RECEIPT].at && !opens(command) ? ACCEPTED_RECEIPT : ACCEPTED;
 }
 

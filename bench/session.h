@@ -46,12 +46,20 @@ struct delivery {
     struct octets label;
 };
 
+/* How many later entries follow the first of these headers. */
+struct later {
+    size_t destinations;
+    size_t ids;
+    size_t transactions;
+};
+
 /* The answers, besides the numbers of the refusals: accepted or recorded, or yes or no. */
 enum { ACCEPTED = 0, ACCEPTED_RECEIPT = 1, NO = 0, YES = 1 };
 
 unsigned session_make(struct session *s, uint32_t sends, uint32_t wants, const bool offered[3]);
+/* Where the frame is accepted, `later` is set. */
 unsigned session_frame(struct session *s, uint32_t command, const uint8_t *block, size_t length,
-                       uint32_t time);
+                       uint32_t time, struct later *later);
 unsigned session_heart_beat(struct session *s, uint32_t time);
 unsigned session_timed_out(const struct session *s, uint32_t time);
 unsigned session_deliver(struct session *s, struct octets subscription, struct octets label);

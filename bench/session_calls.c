@@ -128,7 +128,10 @@ static void frame_call(struct session *s)
     uint32_t time = read_number();
     size_t length = read_length();
     read_octets(block, length);
-    write_answer(session_frame(s, command, block, length, time), words);
+    struct later later = {0, 0, 0};
+    write_answer(session_frame(s, command, block, length, time, &later), words);
+    if (later.destinations + later.ids + later.transactions > 0)
+        printf(" overwritten %zu %zu %zu", later.destinations, later.ids, later.transactions);
 }
 
 static void make_call(struct session *s)
@@ -271,7 +274,8 @@ static struct block sending(bool is_long)
 
 static void call(struct session *s, uint32_t command, struct block b)
 {
-    session_frame(s, command, b.octets, b.length, 0);
+    struct later later;
+    session_frame(s, command, b.octets, b.length, 0, &later);
 }
 
 /* A text with two digits at its end. */
@@ -318,6 +322,7 @@ static void many_calls(unsigned which, uint32_t calls)
     bool subscribes = which == SHORT_SUBSCRIBE || which == LONG_SUBSCRIBE;
     uint32_t commands[2] = {STOMP_COMMAND_SEND, STOMP_COMMAND_SEND};
     struct block b = numbered(sending(is_long), 3);
+    struct later later;
     uint64_t accepted = 0;
     prepare(&s, is_long, which >= SHORT_PENDING);
     if (subscribes) {
@@ -326,7 +331,7 @@ static void many_calls(unsigned which, uint32_t calls)
         b = numbered(subscription(is_long), SUBSCRIPTIONS - 1);
     }
     for (uint32_t i = 0; i < calls; i++)
-        accepted += session_frame(&s, commands[i % 2], b.octets, b.length, i) <= ACCEPTED_RECEIPT;
+        accepted += session_frame(&s, commands[i % 2], b.octets, b.length, i, &later) <= ACCEPTED_RECEIPT;
     if (s.pending != (which >= SHORT_PENDING ? DELIVERIES : 0)) {
         fprintf(stderr, "session: %u deliveries are pending\n", s.pending);
         exit(1);

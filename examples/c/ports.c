@@ -1,5 +1,5 @@
-/* Reads a frame that a relay passed on, finds its first port, writes a frame that answers it, asks which of
- * some names a pattern matches, and checks a plan. */
+/* Reads a frame that a relay passed on, finds its first port and how many follow, writes a frame that
+ * answers it, asks which of some names a pattern matches, and checks a plan. */
 #include <stdio.h>
 #include <stdlib.h>
 #include <string.h>
@@ -109,6 +109,12 @@ int main(void)
     size_t port_length = stomp_find_length(found, read.octets, strlen(name));
     printf("found the first port, %zu octets\n", port_length);
     print_octets(port, port_length);
+
+    /* What the relay put its port before is still there, and no longer counts. */
+    uint64_t later = stomp_later(read.octets, read.length, (const uint8_t *)name, strlen(name));
+    if (stomp_later_code(later))
+        stop("later", stomp_later_code(later), 0);
+    printf("later ports that no longer count: %lu\n", (unsigned long)later);
 
     add(&reply, "destination", (const uint8_t *)where, strlen(where));
     add(&reply, "port", port, port_length);

@@ -1,5 +1,5 @@
-//! Reads a frame that a relay passed on, finds its first port, writes a frame that answers it, and asks
-//! which of some names a pattern matches.
+//! Reads a frame that a relay passed on, finds its first port and how many follow, writes a frame that
+//! answers it, and asks which of some names a pattern matches.
 
 mod stomp;
 
@@ -45,6 +45,10 @@ fn main() -> Result<(), Refusal> {
     let port = stomp::find(&read, b"port")?.expect("a port");
     println!("found the first port, {} octets", port.len());
     println!("{}", shown(port));
+
+    // What the relay put its port before is still there, and no longer counts.
+    let later = stomp::later(&read, b"port")?;
+    println!("later ports that no longer count: {later}");
 
     let mut reply = Vec::new();
     let mut target = vec![0; stomp::MAX_FRAME];

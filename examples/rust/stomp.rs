@@ -82,6 +82,12 @@ mod library {
             name: *const u8,
             name_len: usize,
         ) -> u64;
+        pub fn stomp_later(
+            block: *const u8,
+            block_len: usize,
+            name: *const u8,
+            name_len: usize,
+        ) -> u64;
         pub fn stomp_match(
             name: *const u8,
             name_len: usize,
@@ -223,6 +229,19 @@ pub fn find<'a>(block: &'a [u8], name: &[u8]) -> Result<Option<&'a [u8]>, Refusa
             let len = usize::from(u16::from_be_bytes([block[at], block[at + 1]]));
             Ok(Some(&block[start..start + len]))
         }
+    }
+}
+
+/// How many later entries of a name follow the first; 0 where no entry has it. The block is the part in use.
+pub fn later(block: &[u8], name: &[u8]) -> Result<usize, Refusal> {
+    let answer =
+        unsafe { library::stomp_later(block.as_ptr(), block.len(), name.as_ptr(), name.len()) };
+    match answer >> 63 {
+        0 => Ok(answer as usize),
+        _ => Err(Refusal {
+            code: bits(answer, 0, 8) as u32,
+            place: 0,
+        }),
     }
 }
 

@@ -6,7 +6,8 @@
  *   1 decode   room 2, frame; with the fourth bit match: pattern length 2, pattern, name; with the fifth
  *              bit too a plan, and with the sixth as records, see plan.c
  *   2 encode   options 4, command 4, room 2, body length 2, body, block
- *   3 find     name length 2, name, block; with the fifth bit calls of a registry, see registry.c
+ *   3 find     name length 2, name, block; then how many later entries follow, of the same; with the fifth
+ *              bit calls of a registry, see registry.c
  *
  * A number that is missing is 0, and a slice is not longer than what is left. With the fourth bit
  * the block is not there as it is, but as a text of which whole records are made: octet 255 ends an
@@ -23,7 +24,7 @@
 #include "../../include/stomp.h"
 #include "fuzz.h"
 
-enum { PARSE, DECODE, ENCODE, FIND, MATCH };
+enum { PARSE, DECODE, ENCODE, FIND, MATCH, LATER };
 enum { PAGE_BEHIND = 4, AS_TEXT = 8, IN_PIECES = 8, MATCHED = 8, PLANNED = 16, AS_RECORDS = 32 };
 enum { REGISTERED = 16 };
 enum { HEAD = 6 };
@@ -48,7 +49,7 @@ static bool at_end;
 
 static void fail(const char *what, const struct call *c, uint64_t ours, uint64_t other)
 {
-    static const char *const names[] = {"parse", "decode", "encode", "find", "match"};
+    static const char *const names[] = {"parse", "decode", "encode", "find", "match", "later"};
     fprintf(stderr, "fuzz: %s: %s: ours %#llx, the other %#llx; options %lu, command %lu, lengths %zu %zu, room %zu\n",
             names[c->which], what, (unsigned long long)ours, (unsigned long long)other,
             (unsigned long)c->options, (unsigned long)c->command, c->length[FIRST], c->length[SECOND],
@@ -114,6 +115,9 @@ static uint64_t call_ours(const struct call *c)
     case MATCH:
         answer = stomp_match(s[FIRST], c->length[FIRST], s[SECOND], c->length[SECOND]);
         break;
+    case LATER:
+        answer = stomp_later(s[FIRST], c->length[FIRST], s[SECOND], c->length[SECOND]);
+        break;
     }
     for (size_t i = 0; i < SLICES; i++) {
         if (memcmp(our_guard(i, c->length[i]), filled, GUARD) != 0)
@@ -142,23 +146,43 @@ static struct copy copied(const uint8_t *octets, size_t length)
     return c;
 }
 
-/* The first value of the name in a block that is a row of whole records. */
-static uint64_t plain_find(const uint8_t *block, size_t length, const uint8_t *name, size_t name_length)
+/* The entries of a name in a block: whether it is a row of whole records, where the first value is, and
+ * how many there are. */
+struct named {
+    bool whole;
+    uint64_t start;
+    uint64_t count;
+};
+
+static struct named plain_named(const uint8_t *block, size_t length, const uint8_t *name, size_t name_length)
 {
-    uint64_t found = 0;
+    struct named found = {false, 0, 0};
     for (size_t at = 0; at < length;) {
         if (length - at < HEAD || block[at] != 'H' || block[at + 1] != 'D')
-            return 1;
+            return found;
         size_t of_name = (size_t)block[at + 2] << 8 | block[at + 3];
         size_t of_value = (size_t)block[at + 4] << 8 | block[at + 5];
         at += HEAD;
         if (length - at < of_name + of_value)
-            return 1;
-        if (!found && of_name == name_length && memcmp(block + at, name, name_length) == 0)
-            found = at + of_name;
+            return found;
+        if (of_name == name_length && memcmp(block + at, name, name_length) == 0 && found.count++ == 0)
+            found.start = at + of_name;
         at += of_name + of_value;
     }
+    found.whole = true;
     return found;
+}
+
+static uint64_t plain_find(struct named found)
+{
+    return found.whole ? found.start : 1;
+}
+
+static uint64_t plain_later(struct named found)
+{
+    if (!found.whole)
+        return ((uint64_t)1 << 63) + STOMP_FIND_MALFORMED;
+    return found.count > 0 ? found.count - 1 : 0;
 }
 
 /* Makes the call on both sides, and ends the program where they differ. */
@@ -185,7 +209,10 @@ static uint64_t agreed(const struct call *c)
                                      c->length[SECOND], buffer.octets, room);
         break;
     case FIND:
-        other = plain_find(first.octets, c->length[FIRST], second.octets, c->length[SECOND]);
+        other = plain_find(plain_named(first.octets, c->length[FIRST], second.octets, c->length[SECOND]));
+        break;
+    case LATER:
+        other = plain_later(plain_named(first.octets, c->length[FIRST], second.octets, c->length[SECOND]));
         break;
     case MATCH:
         other = baseline_match(first.octets, c->length[FIRST], second.octets, c->length[SECOND]);
@@ -317,6 +344,10 @@ int LLVMFuzzerTestOneInput(const uint8_t *octets, size_t length)
     if ((c.which == ENCODE || c.which == FIND) && (choice & AS_TEXT))
         make_block(&c);
     uint64_t answer = agreed(&c);
+    if (c.which == FIND) {
+        c.which = LATER;
+        agreed(&c);
+    }
     if ((c.which == DECODE || c.which == ENCODE) && !stomp_refused(answer))
         try_rooms(c, answer);
     return 0;

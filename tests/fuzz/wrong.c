@@ -4,6 +4,7 @@
 uint64_t right_parse(const uint8_t *octets, size_t len);
 uint64_t right_decode(const uint8_t *frame, size_t frame_len, uint8_t *block, size_t block_len);
 uint64_t right_find(const uint8_t *block, size_t block_len, const uint8_t *name, size_t name_len);
+uint64_t right_later(const uint8_t *block, size_t block_len, const uint8_t *name, size_t name_len);
 uint64_t right_feed(uint8_t *state, size_t state_len, uint8_t *buffer, size_t buffer_len, const uint8_t *piece,
                     size_t piece_len);
 uint64_t right_encode_with(uint32_t options, uint32_t command, const uint8_t *block, size_t block_len,
@@ -52,6 +53,13 @@ uint64_t stomp_find(const uint8_t *block, size_t block_len, const uint8_t *name,
 {
     uint64_t answer = right_find(block, block_len, name, name_len);
     return WRONG == 5 && answer == 1 ? 0 : answer;
+}
+
+/* 27: counts the first entry too. */
+uint64_t stomp_later(const uint8_t *block, size_t block_len, const uint8_t *name, size_t name_len)
+{
+    uint64_t answer = right_later(block, block_len, name, name_len);
+    return WRONG == 27 && stomp_found(right_find(block, block_len, name, name_len)) ? answer + 1 : answer;
 }
 
 /* 6: takes the lowest 16 bits of the command only; 7: writes where the body is refused. */
