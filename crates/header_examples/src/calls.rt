@@ -70,7 +70,7 @@ fn line_in(d: &mut [u8], name: &[u8], value: &[u8], escapes: bool) {
     }
 }
 
-// Looks a name up, and shows its value's start, length and octets.
+// Looks a name up, and shows its value's start and length, how many later entries of the name follow, and the value's octets.
 pub(crate) fn find(label: &[u8], block: &[u8], name: &[u8]) {
     say(label);
     match headers::find(block, name) {
@@ -78,6 +78,8 @@ pub(crate) fn find(label: &[u8], block: &[u8], name: &[u8]) {
             let start = p.start;
             let len = p.len;
             pair(start as u64, len as u64);
+            say(b" ");
+            number(p.later as u64);
             if start <= block.len() {
                 front(&block[start..], len);
             }
