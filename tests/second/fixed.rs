@@ -22,7 +22,7 @@ use crate::session_calls::{first_record, Call, Reply, Way};
 /// A client's life as a log: what is accepted up to DISCONNECT, messages that are recorded or not, frames and
 /// a heart-beat after it, and octets that are refused.
 pub fn stream() -> Vec<u8> {
-    let parts: [&[u8]; 27] = [
+    let parts: [&[u8]; 28] = [
         b"\n",
         b"MESSAGE\nsubscription:b\nack:early\n\n\0",
         b"CONNECT\naccept-version:1.0,1.1,1.2\nhost:stomp\\example\nheart-beat:1000,0\nreceipt:no\n\n\0",
@@ -37,6 +37,7 @@ pub fn stream() -> Vec<u8> {
         b"MESSAGE\nack:m\\c3\nmessage-id:3\n\n\0",
         b"BEGIN\ntransaction:tx1\n\n\0\n",
         b"SEND\ndestination:/queue/a\ntransaction:tx1\nreceipt:r-2\ncontent-length:3\n\na\0b\0",
+        b"SEND\ndestination:/a\ntransaction:tx1\nreceipt:\ndestination:/b\ntransaction:\ndestination:/a\n\n\0",
         b"SEND\ndestination:\n\nno transaction\0",
         b"ACK\nid:m\\c1\ntransaction:tx1\n\n\0",
         b"NACK\nid:12345\n\n\0",

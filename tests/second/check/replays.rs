@@ -103,6 +103,7 @@ fn the_fixed_stream_is_replayed() {
         "frame 3 accepted",
         "beat accepted",
         "frame 12 accepted receipt",
+        "frame 12 accepted receipt overwritten 2 0 1",
         "frame 12 accepted",
         "frame 2 accepted",
         "frame 10 accepted",
