@@ -9,7 +9,10 @@ use native.Mathlib.Omega.{arith}
 use lib.ListN.{length}
 use lib.Dec.{eqb}
 use Rattle.headers.specs.Rows.{any, first-of, same, All}
-use Rattle.sessions.specs.Accounts.{Delivery, Event, subscribed, unsubscribed, delivered, acked, nacked, closed, nothing, mode-by, mode-in, Fate, acknowledged, refused, dropped, still-pending, among, settled-with, fate, Account, made-at, account-of, accounts, is-acknowledged, is-refused, is-dropped, is-still-pending, with-fate, recorded, pending-in}
+use Rattle.sessions.specs.Accounts.{Delivery, Event, subscribed, unsubscribed, delivered, acked, nacked, closed, nothing, mode-by, mode-in}
+use Rattle.sessions.specs.Accounts.{Fate, acknowledged, refused, dropped, still-pending, among, settled-with, fate, Account, made-at}
+use Rattle.sessions.specs.Accounts.{account-of, accounts, is-acknowledged, is-refused, is-dropped, is-still-pending, with-fate, recorded}
+use Rattle.sessions.specs.Accounts.{pending-in}
 use Rattle.sessions.specs.Deliveries.{auto-mode, client-mode, without, settled}
 use Rattle.headers.proofs.Rows.{cond-case, same-eq, same-self, refuted, and-left, and-right, and-no, or-false-left, or-false-right, implied-not, first-none}
 use borrow.Author.Tests.{eqb-true}
@@ -46,7 +49,8 @@ fate-count dropped a r d o = a + r + suc d + o
 fate-count still-pending a r d o = a + r + d + suc o
 
 abbrev tallied : List Account → ℕ
-tallied cs = length (with-fate is-acknowledged cs) + length (with-fate is-refused cs) + length (with-fate is-dropped cs) + length (with-fate is-still-pending cs)
+tallied cs = length (with-fate is-acknowledged cs) + length (with-fate is-refused cs) + length (with-fate is-dropped cs) + length
+    (with-fate is-still-pending cs)
 
 tallied-cons : (c : Account) (cs : List Account) → tallied (c ∷ cs) ≡ suc (tallied cs)
 tallied-cons c cs = by (c .fate)
@@ -94,7 +98,8 @@ abbrev pub survivors : List Delivery → List Event → List Delivery
 survivors ds es = passing (stays es) ds
 
 -- tests that agree
-passing-same : (F G : Delivery → List (List ℕ) → Bool) → ((d : Delivery) (ls : List (List ℕ)) → F d ls ≡ G d ls) → (ds : List Delivery) → passing F ds ≡ passing G ds
+passing-same : (F G : Delivery → List (List ℕ) → Bool) → ((d : Delivery) (ls : List (List ℕ)) → F d ls ≡ G d ls) → (ds : List Delivery) → passing F ds ≡
+    passing G ds
 passing-same F G h [] = refl
 passing-same F G h (d ∷ ds) = ap₂ (λ t r. cond t (d ∷ r) r) (h d (d .label ∷ followers d ds)) (passing-same F G h ds)
 
@@ -123,7 +128,8 @@ module _ (x : List ℕ) where
   -- one of another subscription is not settled with those of x
   other-apart : (d y : Delivery) → same x (d .subscription) ≡ false → same x (y .subscription) ≡ true → settled-with d (y .subscription) ≡ false
   other-apart d y h k =
-      implied-not (eqb (d .mode) client-mode) (same (y .subscription) (d .subscription)) (λ c. ap (λ z. same z (d .subscription)) (sym (same-eq x (y .subscription) k)) ∙ h)
+      implied-not (eqb (d .mode) client-mode) (same (y .subscription) (d .subscription))
+      (λ c. ap (λ z. same z (d .subscription)) (sym (same-eq x (y .subscription) k)) ∙ h)
 
   followers-without : (d : Delivery) → same x (d .subscription) ≡ false → (ds : List Delivery) → followers d (without of-it ds) ≡ followers d ds
   followers-without d h [] = refl
@@ -188,11 +194,13 @@ module _ (n : Delivery) where
       by false = joined (is-still-pending (fate d (d .label ∷ followers d ds) es))
 
 -- one that none is settled with
-survivors-apart : (x l : List ℕ) (es : List Event) (ds : List Delivery) → All (λ d. settled-with d x ≡ false) ds → survivors ds (delivered x l ∷ es) ≡ survivors ds es
+survivors-apart : (x l : List ℕ) (es : List Event) (ds : List Delivery) → All (λ d. settled-with d x ≡ false) ds → survivors ds (delivered x l ∷ es) ≡
+    survivors ds es
 unfolding fate
 survivors-apart x l es [] h = refl
 survivors-apart x l es (d ∷ ds) (h, more) =
-    ap₂ (λ t r. cond (is-still-pending (fate d (cond t ((d .label ∷ followers d ds) ++ (l ∷ [])) (d .label ∷ followers d ds)) es)) (d ∷ r) r) h (survivors-apart x l es ds more)
+    ap₂ (λ t r. cond (is-still-pending (fate d (cond t ((d .label ∷ followers d ds) ++ (l ∷ [])) (d .label ∷ followers d ds)) es)) (d ∷ r) r) h
+    (survivors-apart x l es ds more)
 
 -- ---- ACK and NACK
 
@@ -227,14 +235,16 @@ module _ (l : List ℕ) (F G : Delivery → List (List ℕ) → Bool) (h : (d : 
 
     -- two of one subscription have one mode
     goes-same : (d : Delivery) → d .mode ≡ m (d .subscription) → settled-with d (n .subscription) ≡ goes d
-    goes-same d e = by (same (n .subscription) (d .subscription)) refl ∙ ap (λ t. eqb (n .mode) client-mode && t) (same-turn (n .subscription) (d .subscription))
+    goes-same d e = by (same (n .subscription) (d .subscription)) refl ∙ ap (λ t. eqb (n .mode) client-mode && t)
+        (same-turn (n .subscription) (d .subscription))
       where
         by : (t : Bool) → same (n .subscription) (d .subscription) ≡ t → eqb (d .mode) client-mode && t ≡ eqb (n .mode) client-mode && t
         by true q = ap (λ z. eqb z client-mode && true) (e ∙ ap m (sym (same-eq (n .subscription) (d .subscription) q)) ∙ sym right)
         by false q = and-no (eqb (d .mode) client-mode) ∙ sym (and-no (eqb (n .mode) client-mode))
 
     -- the label is one of those that settle d exactly where d is settled with the named one
-    followers-named : (d : Delivery) (ds : List Delivery) → first-of (named l) ds ≡ some n → Distinct ds → among l (followers d ds) ≡ settled-with d (n .subscription)
+    followers-named : (d : Delivery) (ds : List Delivery) → first-of (named l) ds ≡ some n → Distinct ds → among l (followers d ds) ≡ settled-with d
+        (n .subscription)
     followers-named d [] e u = absurd (let z : _≡_ {A = ℕ} 0 1 = cc in omega arith)
     followers-named d (y ∷ ds) e (u, us) = by (named l y) refl e (followers-named d ds)
       where
@@ -258,7 +268,8 @@ module _ (l : List ℕ) (F G : Delivery → List (List ℕ) → Bool) (h : (d : 
     followers-settled d k (y ∷ ds) e = by (named l y) refl e (followers-settled d k ds)
       where
         gone : goes y ≡ true → settled-with d (y .subscription) ≡ false
-        gone q = ap (settled-with d) (same-eq (y .subscription) (n .subscription) (and-right (eqb (n .mode) client-mode) (same (y .subscription) (n .subscription)) q)) ∙ k
+        gone q = ap (settled-with d) (same-eq (y .subscription) (n .subscription)
+            (and-right (eqb (n .mode) client-mode) (same (y .subscription) (n .subscription)) q)) ∙ k
 
         by : (t : Bool) → named l y ≡ t → cond t (some y) (first-of (named l) ds) ≡ some n
             → (first-of (named l) ds ≡ some n → followers d (settled (named l) goes ds) ≡ followers d ds)
@@ -284,7 +295,8 @@ module _ (l : List ℕ) (F G : Delivery → List (List ℕ) → Bool) (h : (d : 
             h d ls ∙ ap (λ t. not t && F d ls) (ap (_|| among l (followers d ds)) q ∙ followers-named d ds f us ∙ goes-same d a ∙ g)
 
         by : (t : Bool) → named l d ≡ t → cond t (some d) (first-of (named l) ds) ≡ some n
-            → (first-of (named l) ds ≡ some n → Distinct ds → All (λ d. d .mode ≡ m (d .subscription)) ds → passing G ds ≡ passing F (settled (named l) goes ds))
+            → (first-of (named l) ds ≡ some n → Distinct ds → All (λ d. d .mode ≡ m (d .subscription)) ds → passing G ds ≡ passing F
+            (settled (named l) goes ds))
             → passing G (d ∷ ds) ≡ passing F (cond t ds (cond (goes d) (settled (named l) goes ds) (d ∷ settled (named l) goes ds)))
         by true q f go =
             ap (λ t. cond t (d ∷ passing G ds) (passing G ds)) (h d ls ∙ ap (λ t. not (t || among l (followers d ds)) && F d ls) q)
@@ -299,7 +311,8 @@ module _ (l : List ℕ) (F G : Delivery → List (List ℕ) → Bool) (h : (d : 
                 (sym (followers-settled d (goes-same d a ∙ g) ds f))
 
 -- an ACK or NACK, by what it says of an pending delivery
-settle-step : (past : List Event) (l : List ℕ) (F G : Delivery → List (List ℕ) → Bool) → ((d : Delivery) (ls : List (List ℕ)) → G d ls ≡ not (among l ls) && F d ls)
+settle-step : (past : List Event) (l : List ℕ) (F G : Delivery → List (List ℕ) → Bool) →
+    ((d : Delivery) (ls : List (List ℕ)) → G d ls ≡ not (among l ls) && F d ls)
     → (ds : List Delivery) → Distinct ds → Agrees past ds → passing G ds ≡ passing F (settled-by l ds)
 settle-step past l F G h ds u a = by (first-of (named l) ds) refl
   where
@@ -323,7 +336,8 @@ settle-step past l F G h ds u a = by (first-of (named l) ds) refl
 -- ---- one event
 
 -- an auto one settles nobody
-auto-apart : (past : List Event) (x : List ℕ) → eqb (mode-in x past) auto-mode ≡ true → (ds : List Delivery) → Agrees past ds → All (λ d. settled-with d x ≡ false) ds
+auto-apart : (past : List Event) (x : List ℕ) → eqb (mode-in x past) auto-mode ≡ true → (ds : List Delivery) → Agrees past ds → All
+    (λ d. settled-with d x ≡ false) ds
 auto-apart past x e [] a = tt
 auto-apart past x e (d ∷ ds) (a, more) = (apart, auto-apart past x e ds more)
   where

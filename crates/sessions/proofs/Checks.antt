@@ -54,7 +54,8 @@ frame-passed s n block v e =
     let all = all-pass (frame-checks s n block) (acceptance-says (acceptance-of n es)) v e in
     let (known, rest) = all-parts (record-checks s n block) (phase-checks s n ++ entry-checks s n es) all in
     let ((open-yet, (not-server, (in-turn, end))), asked-of-entries) = all-parts (phase-checks s n) (entry-checks s n es) rest in
-    let (needs, after-needs) = all-parts (header-checks s n es) (opening-checks s n es ++ (id-checks s (uses-of s n es) ++ delivery-checks s n es)) asked-of-entries in
+    let (needs, after-needs) = all-parts (header-checks s n es) (opening-checks s n es ++ (id-checks s (uses-of s n es) ++ delivery-checks s n es))
+    asked-of-entries in
     let (opening, after-opening) = all-parts (opening-checks s n es) (id-checks s (uses-of s n es) ++ delivery-checks s n es) after-needs in
     let (named, asked) = all-parts (id-checks s (uses-of s n es)) (delivery-checks s n es) after-opening in
     record { in-turn = in-turn; needs = needs .0; named = named; asked = asked }
@@ -101,10 +102,12 @@ module _ (s : Session) (es : List Entry) (id : List ℕ) (v : value-of Id es ≡
   subscribe-changes = ap (λ o. changed-id (put-before (id-use (subscription Enter) o) [])) v
 
   pub subscribe-settles : Passed s (number SUBSCRIBE) es → settle (use-checks id-max Enter id (ids-of Subscriptions s)) [] ≡ accepted []
-  subscribe-settles p = changed-settles s (uses-of s (number SUBSCRIBE) es) (record { kind = Subscriptions; usage = Enter; id = id }) (p .named) subscribe-changes
+  subscribe-settles p = changed-settles s (uses-of s (number SUBSCRIBE) es) (record { kind = Subscriptions; usage = Enter; id = id }) (p .named)
+      subscribe-changes
 
   pub unsubscribe-changes : changed-id (uses-of s (number UNSUBSCRIBE) es) ≡ some (record { kind = Subscriptions; usage = Free; id = id })
   unsubscribe-changes = ap (λ o. changed-id (put-before (id-use (subscription Free) o) [])) v
 
   pub unsubscribe-settles : Passed s (number UNSUBSCRIBE) es → settle (use-checks id-max Free id (ids-of Subscriptions s)) [] ≡ accepted []
-  unsubscribe-settles p = changed-settles s (uses-of s (number UNSUBSCRIBE) es) (record { kind = Subscriptions; usage = Free; id = id }) (p .named) unsubscribe-changes
+  unsubscribe-settles p = changed-settles s (uses-of s (number UNSUBSCRIBE) es) (record { kind = Subscriptions; usage = Free; id = id }) (p .named)
+      unsubscribe-changes

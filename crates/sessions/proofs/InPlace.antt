@@ -19,7 +19,8 @@ use prog.Wp.{Heap, Calls, Loops, WpFn, Closed}
 use ghost.Atoms.{Atoms, sem}
 use contract.Monad.{Fun, fact}
 use contract.Running.{Running, GhostRules, givenOf, tables, tablesOf}
-use types.Kit.{Given, Item, Goal, Seq, Soaks, ‵, raw, _⊛_, some, later, _$_, _∵_, !, qed, move, drop, use0, use1, split, join, pick, fjoin, fjoin3, feqI, suffices, frame, await, done}
+use types.Kit.{Given, Item, Goal, Seq, Soaks, ‵, raw, _⊛_, some, later, _$_, _∵_, !, qed, move, drop, use0, use1, split, join, pick, fjoin, fjoin3}
+use types.Kit.{feqI, suffices, frame, await, done}
 use types.SemTy.{Body}
 use sound.WpLaws.{FmC, fmOf, WpFn-mono}
 use denote.RattleType.{RattleType}
@@ -58,7 +59,8 @@ answers = EL.vals S.the-type S′.the-laws
 pub owed : (r : Outcome) (v : Val) → Is O.the-row r (v ∷ []) → Is T.the-row (r .session) (vals (r .session)) × Is S.the-row (r .answer) (answers (r .answer))
 owed r v is = let w = LL.owed O.the-type O′.the-laws r (v ∷ []) is in (w .0, w .1 .0)
 
-module _ {M : Type 1} (𝓤 : URA M) (H : Heap 𝓤) (𝓜 : Model 𝓤 H) (𝓖 : GhostRules 𝓤 H) (𝓡 : Running 𝓤 H 𝓜) (E : Ended) (hs : Stays (E .signature .params) (E .kept)) (c : Clauses 𝓤 E) where
+module _ {M : Type 1} (𝓤 : URA M) (H : Heap 𝓤) (𝓜 : Model 𝓤 H) (𝓖 : GhostRules 𝓤 H) (𝓡 : Running 𝓤 H 𝓜) (E : Ended)
+    (hs : Stays (E .signature .params) (E .kept)) (c : Clauses 𝓤 E) where
   pub walk-closes : AllGo 𝓤 H (𝓖 .A) (givenOf 𝓤 H 𝓜 𝓖) (E .signature .lifetimes) (E .signature .params) (E .kept) hs
       → (γ : Env) (self core : Name) (f : Fn) (K : Contract 𝓤) → Closed 𝓤 H (tables 𝓤 H 𝓜 𝓡 γ .C) (tables 𝓤 H 𝓜 𝓡 γ .Λ) self f → Triple 𝓤 (𝓡 .run (γ core)) K
       → ((C : Calls 𝓤 H) (Λ : Loops 𝓤 H) → FmC 𝓤 H (givenOf 𝓤 H 𝓜 𝓖 .laws) C → Triple 𝓤 (C core) K → Walks 𝓤 H (𝓖 .A) E hs (WpFn 𝓤 H C Λ f) c)
@@ -74,7 +76,16 @@ module _ {M : Type 1} (𝓤 : URA M) (H : Heap 𝓤) (𝓜 : Model 𝓤 H) (𝓖
 
 module _ {M : Type 1} (𝓤 : URA M) (H : Heap 𝓤) (A : Atoms 𝓤) (R : RattleType) (Φ : Session → ℕ → R .Denot → Type 0) where
   abbrev core-ended : Ended
-  core-ended = record { signature = record { lifetimes = 0; outlives = []; params = plain (λ _. T.the-row) ∷ plain (λ _. u32) ∷ []; result = plain (λ _. R) }; kept = (yes, (yes, tt)) }
+  core-ended = record {
+    signature = record {
+      lifetimes = 0;
+      outlives = [];
+      params = plain (λ _. T.the-row) ∷ plain (λ _. u32) ∷ [];
+      result = plain
+          (λ _. R);
+    };
+    kept = (yes, (yes, tt));
+  }
 
   abbrev core-clauses : Clauses 𝓤 core-ended
   core-clauses κs a = record { ghost = Unit {0}; requires = λ _. emp 𝓤; ensures = λ _ r e. fact 𝓤 (Φ (a .0) (a .1 .0) r) }
@@ -87,14 +98,17 @@ module _ {M : Type 1} (𝓤 : URA M) (H : Heap 𝓤) (A : Atoms 𝓤) (R : Rattl
     to-core = ((tt, tt, tt, (h, (n, tt)), (vals h, (vint w32 n ∷ [], tt))), tt)
 
     pub asks : Given 𝓤 H A → ent 𝓤 (sep 𝓤 (sem 𝓤 H A (T.the-row .own h (vals h))) (sem 𝓤 H A (u32 .own n (vint w32 n ∷ [])))) (Core .pre to-core)
-    asks W = qed W (‵ (T.the-row .own h (vals h)) ∷ ‵ (u32 .own n (vint w32 n ∷ [])) ∷ []) ∵ nothing ! $ move ! (2 ∷ 0 ∷ []) $ join ! $ move ! (1 ∷ 0 ∷ []) $ join ! $ nothing ! $ join ! $ frame ! $ done !
+    asks W = qed W (‵ (T.the-row .own h (vals h)) ∷ ‵ (u32 .own n (vint w32 n ∷ [])) ∷ []) ∵ nothing ! $ move ! (2 ∷ 0 ∷ []) $ join ! $ move !
+        (1 ∷ 0 ∷ []) $ join ! $ nothing ! $ join ! $ frame ! $ done !
 
     told : (r : R .Denot) → ent 𝓤 (ensured 𝓤 H A core-ended core-clauses tt (h, (n, tt)) tt r) (fact 𝓤 (Φ h n r))
     told r = exE 𝓤 _ (λ ws. snd∗ 𝓤 (sem 𝓤 H A (lasts core-ended tt (h, (n, tt)) ws)) (fact 𝓤 (Φ h n r)))
 
-    pub answered : {K : Type 0} {W : Given 𝓤 H A} {Γ : List (Item 𝓤)} {G : Goal 𝓤 H} → K → Soaks G → (v : Val) → ((r : R .Denot) → Φ h n r → Is R r (v ∷ []) → Seq K W Γ G) → Seq K W (raw (Core .post to-core v) ∷ Γ) G
+    pub answered : {K : Type 0} {W : Given 𝓤 H A} {Γ : List (Item 𝓤)} {G : Goal 𝓤 H} → K → Soaks G → (v : Val) →
+        ((r : R .Denot) → Φ h n r → Is R r (v ∷ []) → Seq K W Γ G) → Seq K W (raw (Core .post to-core v) ∷ Γ) G
     answered {W = W} t z v k =
-        use1 W (later (some (λ (r : R .Denot). (‵ ftrue ⊛ ‵ (R .own r (v ∷ []))) ⊛ raw (ensured 𝓤 H A core-ended core-clauses tt (h, (n, tt)) tt r)))) (id⊢ 𝓤 _) $ await t z $ pick t (λ r.
+        use1 W (later (some (λ (r : R .Denot). (‵ ftrue ⊛ ‵ (R .own r (v ∷ []))) ⊛ raw (ensured 𝓤 H A core-ended core-clauses tt (h, (n, tt)) tt r))))
+        (id⊢ 𝓤 _) $ await t z $ pick t (λ r.
         split t $ move t (1 ∷ []) $ use1 W (raw (fact 𝓤 (Φ h n r))) (told r) $ heard t (Φ h n r) (λ e. split t $ drop t $
         peeks t R (Is R) (shows 𝓤 H A R) r (v ∷ []) (λ is. drop t $ k r e is)))
 
@@ -102,7 +116,16 @@ module _ {M : Type 1} (𝓤 : URA M) (H : Heap 𝓤) (A : Atoms 𝓤) (R : Rattl
 
 module _ (R : RattleType) where
   abbrev own-ended : Ended
-  own-ended = record { signature = record { lifetimes = 1; outlives = []; params = mutRefTo (0 ∷ []) tt (plain (λ _. T.the-row)) ∷ plain (λ _. u32) ∷ []; result = plain (λ _. R) }; kept = (yes, (yes, tt)) }
+  own-ended = record {
+    signature = record {
+      lifetimes = 1;
+      outlives = [];
+      params = mutRefTo (0 ∷ []) tt (plain (λ _. T.the-row)) ∷ plain (λ _. u32) ∷
+          [];
+      result = plain (λ _. R);
+    };
+    kept = (yes, (yes, tt));
+  }
 
   abbrev stayed : Stays (own-ended .signature .params) (own-ended .kept)
   stayed = (stay-ref (0 ∷ []) tt (plain (λ _. T.the-row)), (stay-none (λ _. u32) yes, tt))
@@ -130,19 +153,25 @@ module _ {M : Type 1} (𝓤 : URA M) (H : Heap 𝓤) (A : Atoms 𝓤) (R : Rattl
         → ent 𝓤 (sep 𝓤 (A .obs γ (T.the-row .coded .code h′)) (sep 𝓤 (A .bor κ (Body (mem T.the-row) b o γ)) (A .lft κ q))) (Post v)
     leaves W r v h′ e fits has =
         qed W (‵ (fobs γ (T.the-row .coded .code h′)) ∷ ‵ (fbor κ (Body (mem T.the-row) b o γ)) ∷ ‵ (flft κ q) ∷ []) ∵
-        suffices ! _ (ends-at 𝓤 H A (own-ended R) (stayed R) own-clauses W (((κ, tt), (q, tt), tt, given b o γ h n, words b o n), tt) v r (h′, (tt, tt)) (tt, (tt, tt))) $
+        suffices ! _ (ends-at 𝓤 H A (own-ended R) (stayed R) own-clauses W (((κ, tt), (q, tt), tt, given b o γ h n, words b o n), tt) v r (h′, (tt, tt))
+        (tt, (tt, tt))) $
         says ! e $ nothing ! $ move ! (3 ∷ 0 ∷ []) $ join ! $
-        frame ! $ feqI ! (List Val) (vptr b o ∷ []) (vptr b o ∷ []) refl $ fjoin3 ! $ nothing ! $ owned ! u32 (Is u32) (uint-makes 𝓤 H A W w32) n _ (refl, fits) $ fjoin ! $ move ! (1 ∷ 0 ∷ []) $ fjoin ! $
+        frame ! $ feqI ! (List Val) (vptr b o ∷ []) (vptr b o ∷ []) refl $ fjoin3 ! $ nothing ! $ owned ! u32 (Is u32) (uint-makes 𝓤 H A W w32) n _
+        (refl, fits) $ fjoin ! $ move ! (1 ∷ 0 ∷ []) $ fjoin ! $
         use0 W (‵ (R .own r (v ∷ []))) has $ move ! (1 ∷ 0 ∷ []) $ done !
 
-module _ {M : Type 1} (𝓤 : URA M) (H : Heap 𝓤) (𝓜 : Model 𝓤 H) (𝓖 : GhostRules 𝓤 H) (𝓡 : Running 𝓤 H 𝓜) (R : RattleType) (Ψ : Session → ℕ → R .Denot → Session → Type 0) where
+module _ {M : Type 1} (𝓤 : URA M) (H : Heap 𝓤) (𝓜 : Model 𝓤 H) (𝓖 : GhostRules 𝓤 H) (𝓡 : Running 𝓤 H 𝓜) (R : RattleType)
+    (Ψ : Session → ℕ → R .Denot → Session → Type 0) where
   -- the function meets its contract, from its walk at each place, session and time
-  pub time-closes : (γ : Env) (self core : Name) (f : Fn) (K : Contract 𝓤) → Closed 𝓤 H (tables 𝓤 H 𝓜 𝓡 γ .C) (tables 𝓤 H 𝓜 𝓡 γ .Λ) self f → Triple 𝓤 (𝓡 .run (γ core)) K
-      → ((C : Calls 𝓤 H) (Λ : Loops 𝓤 H) → FmC 𝓤 H (givenOf 𝓤 H 𝓜 𝓖 .laws) C → Triple 𝓤 (C core) K → (κ : Lft) (q : Share) (b o : ℕ) (γ : GName) (h : Session) (n : ℕ) → Walk 𝓤 H (𝓖 .A) R Ψ κ q b o γ h n (WpFn 𝓤 H C Λ f))
+  pub time-closes : (γ : Env) (self core : Name) (f : Fn) (K : Contract 𝓤) → Closed 𝓤 H (tables 𝓤 H 𝓜 𝓡 γ .C) (tables 𝓤 H 𝓜 𝓡 γ .Λ) self f → Triple 𝓤
+      (𝓡 .run (γ core)) K
+      → ((C : Calls 𝓤 H) (Λ : Loops 𝓤 H) → FmC 𝓤 H (givenOf 𝓤 H 𝓜 𝓖 .laws) C → Triple 𝓤 (C core) K → (κ : Lft) (q : Share) (b o : ℕ) (γ : GName)
+      (h : Session) (n : ℕ) → Walk 𝓤 H (𝓖 .A) R Ψ κ q b o γ h n (WpFn 𝓤 H C Λ f))
       → Triple 𝓤 (𝓡 .run (γ self)) (tripleOf 𝓤 H (𝓖 .A) (own-ended R .signature) (closing 𝓤 H (𝓖 .A) (own-ended R) (own-clauses 𝓤 H (𝓖 .A) R Ψ)))
   time-closes γ self core f K closed met walk =
       let W = givenOf 𝓤 H 𝓜 𝓖 in
       walk-closes 𝓤 H 𝓜 𝓖 𝓡 (own-ended R) (stayed R) (own-clauses 𝓤 H (𝓖 .A) R Ψ)
       (goes-ref 𝓤 H (𝓖 .A) W 1 0 tt (plain (λ _. T.the-row)), (goes-none 𝓤 H (𝓖 .A) W 1 (λ _. u32) yes (λ κs x f. refl), tt)) γ self core f K closed met
-      (λ C Λ fm known. walked 𝓤 H (𝓖 .A) (own-ended R) (stayed R) (own-clauses 𝓤 H (𝓖 .A) R Ψ) (WpFn 𝓤 H C Λ f) (λ κs. (ptr-vals, (uint-vals w32, tt))) (λ κs. (mut-tells (named 0) (κs .0) T.the-row, (uint-tells w32, tt)))
+      (λ C Λ fm known. walked 𝓤 H (𝓖 .A) (own-ended R) (stayed R) (own-clauses 𝓤 H (𝓖 .A) R Ψ) (WpFn 𝓤 H C Λ f) (λ κs. (ptr-vals, (uint-vals w32, tt)))
+      (λ κs. (mut-tells (named 0) (κs .0) T.the-row, (uint-tells w32, tt)))
       (λ κs qs bounds a _ _. via 𝓤 _ (fst∗ 𝓤 _ (emp 𝓤)) (walk C Λ fm known (κs .0) (qs .0) (a .0 .ptr .0) (a .0 .ptr .1) (a .0 .name) (a .0 .now) (a .1 .0))))

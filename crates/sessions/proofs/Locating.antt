@@ -28,19 +28,23 @@ module _ {block : List ℕ} {h : Header} {r : Located} (l : Locates block h r) w
   present-has = sym (present-some (r .present) (value-at block r)) ∙ ap is-some (l .first)
 
   -- what a function reads of the first value
-  pub read-located : {B : Type 0} (f : Option (List ℕ) → B) (p : Bool) → r .present ≡ p → f (cond p (some (value-at block r)) none) ≡ f (value-of h (listed (entries block)))
+  pub read-located : {B : Type 0} (f : Option (List ℕ) → B) (p : Bool) → r .present ≡ p → f (cond p (some (value-at block r)) none) ≡ f
+      (value-of h (listed (entries block)))
   read-located f p e = ap f (ap (λ q. cond q (some (value-at block r)) none) (sym e) ∙ l .first)
 
 -- a header that is there is located
-pub located-there : {block : List ℕ} {h : Header} {r : Located} → Locates block h r → has h (listed (entries block)) ≡ true → value-of h (listed (entries block)) ≡ some (value-at block r)
+pub located-there : {block : List ℕ} {h : Header} {r : Located} → Locates block h r → has h (listed (entries block)) ≡ true → value-of h
+    (listed (entries block)) ≡ some (value-at block r)
 located-there {block} {h} {r} l e = by (r .present) (l .first)
   where
-    by : (t : Bool) → cond t (some (value-at block r)) none ≡ value-of h (listed (entries block)) → value-of h (listed (entries block)) ≡ some (value-at block r)
+    by : (t : Bool) → cond t (some (value-at block r)) none ≡ value-of h (listed (entries block)) → value-of h (listed (entries block)) ≡ some
+        (value-at block r)
     by true q = sym q
     by false q = absurd (let z : false ≡ true = ap is-some q ∙ e in let w : _≡_ {A = ℕ} 0 1 = cc in omega arith)
 
 -- its value is what is there
-pub value-there : {block : List ℕ} {h : Header} {r : Located} → Locates block h r → (v : List ℕ) → value-of h (listed (entries block)) ≡ some v → value-at block r ≡ v
+pub value-there : {block : List ℕ} {h : Header} {r : Located} → Locates block h r → (v : List ℕ) → value-of h (listed (entries block)) ≡ some v →
+    value-at block r ≡ v
 value-there {block} {h} {r} l v e =
     let there : some (value-at block r) ≡ some v = sym (located-there l (ap is-some e)) ∙ e in
     let same : value-at block r ≡ v = cc in same

@@ -29,7 +29,8 @@ unsaid : {A : Type 0} (t : Bool) (x : A) (o : Option A) → cond t (some x) none
 unsaid true x o e h = absurd (let z : _≡_ {A = ℕ} 0 1 = cc in omega arith)
 unsaid false x o e h = sym e
 
-module _ (s : Session) (es : List Entry) (acceptance : Acceptance) (time : ℕ) (r : Outcome) (v : VersionsRead) (versions : versions-say v ≡ client-versions es) where
+module _ (s : Session) (es : List Entry) (acceptance : Acceptance) (time : ℕ) (r : Outcome) (v : VersionsRead)
+    (versions : versions-say v ≡ client-versions es) where
   pub opening-malformed : v .valid ≡ false → r ≡ closed-by s 31 → GivesOpening s es acceptance time r
   opening-malformed h q = gives-closed _ 31 _ (rw (unsaid (v .valid) (v .flags) (client-versions es) versions h)) refl q
 
@@ -46,14 +47,23 @@ module _ (s : Session) (es : List Entry) (acceptance : Acceptance) (time : ℕ) 
     module _ (n : none-shared shared ≡ false) (b : HeartBeatsRead) (heart-beats : heart-beats-say b ≡ client-heart-beats es) where
       pub opening-no-heart-beat : b .valid ≡ false → r ≡ closed-by s 33 → GivesOpening s es acceptance time r
       opening-no-heart-beat m q =
-          gives-on _ _ (rw known) (gives-on _ _ (rw shared-is n) (gives-closed _ 33 _ (rw (unsaid (b .valid) (record { sends = b .sends; wants = b .wants }) (client-heart-beats es) heart-beats m)) refl q))
+          gives-on _ _ (rw known) (gives-on _ _ (rw shared-is n) (gives-closed _ 33 _ (rw (unsaid (b .valid) (record {
+            sends = b .sends;
+            wants =
+                b .wants;
+          }) (client-heart-beats es) heart-beats m)) refl q))
 
-      pub opening-done : b .valid ≡ true → r ≡ accepted-by (opened s shared (interval (b .sends) (s .offers .wants)) (interval (s .offers .sends) (b .wants))) acceptance time → GivesOpening s es acceptance time r
+      pub opening-done : b .valid ≡ true → r ≡ accepted-by (opened s shared (interval (b .sends) (s .offers .wants))
+          (interval (s .offers .sends) (b .wants))) acceptance time → GivesOpening s es acceptance time r
       opening-done m q =
-          let told : client-heart-beats es ≡ some (record { sends = b .sends; wants = b .wants }) = said (b .valid) (record { sends = b .sends; wants = b .wants }) (client-heart-beats es) heart-beats m in
-          let became : opening s es ≡ opened s shared (interval (b .sends) (s .offers .wants)) (interval (s .offers .sends) (b .wants)) = rw (shared-is, told) in
-          gives-on _ _ (rw known) (gives-on _ _ (rw shared-is n) (gives-on _ _ (rw told) (gives-accepted [] acceptance s (opening s es) time r refl (q ∙ ap (λ z. accepted-by z acceptance time) (sym became)))))
+          let told : client-heart-beats es ≡ some (record { sends = b .sends; wants = b .wants }) = said (b .valid)
+          (record { sends = b .sends; wants = b .wants }) (client-heart-beats es) heart-beats m in
+          let became : opening s es ≡ opened s shared (interval (b .sends) (s .offers .wants)) (interval (s .offers .sends) (b .wants)) =
+          rw (shared-is, told) in
+          gives-on _ _ (rw known) (gives-on _ _ (rw shared-is n) (gives-on _ _ (rw told)
+          (gives-accepted [] acceptance s (opening s es) time r refl (q ∙ ap (λ z. accepted-by z acceptance time) (sym became)))))
 
 -- the timed-out question of an open session with an interval
-pub timed-out-by : (s : Session) (time : ℕ) → s .phase ≡ 1 → (s .agreed .inbound ≡ 0 → ⊥) → is-timed-out s time ≡ ltb (s .agreed .inbound * 2) (passed time (s .«last_heard»))
+pub timed-out-by : (s : Session) (time : ℕ) → s .phase ≡ 1 → (s .agreed .inbound ≡ 0 → ⊥) → is-timed-out s time ≡ ltb (s .agreed .inbound * 2)
+    (passed time (s .«last_heard»))
 timed-out-by s time p n = rw (eq-eqb (s .phase) 1 p, ne-eqb (s .agreed .inbound) 0 n)

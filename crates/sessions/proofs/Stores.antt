@@ -67,11 +67,13 @@ lengths-ids w n s [] f = refl
 lengths-ids w n s (l ∷ ls) f =
     ap₂ (_∷_) (length-take-le l s (omega (arith, fits-first f, fits-long f))) (lengths-ids w (length ls) (drop w s) ls (fits-next f))
 
-pub place-padded : (w n : ℕ) (s ls : List ℕ) → Fits w n s ls → clean w s ls ≡ true → (i : ℕ) → i < length ls → padded w (getD (ids w s ls) i []) ≡ take w (drop (i * w) s)
+pub place-padded : (w n : ℕ) (s ls : List ℕ) → Fits w n s ls → clean w s ls ≡ true → (i : ℕ) → i < length ls → padded w (getD (ids w s ls) i []) ≡ take
+    w (drop (i * w) s)
 unfolding ids clean
 place-padded w n s [] f c i h = absurd (omega arith)
 place-padded w n s (l ∷ ls) f c zero h =
-    padded-take w l s (fits-first f) (omega (arith, fits-long f)) (and-left (is-zero (drop l (take w s))) (clean w (drop w s) ls) c) ∙ ap (λ k. take w (drop k s)) (sym (zero-mul w))
+    padded-take w l s (fits-first f) (omega (arith, fits-long f)) (and-left (is-zero (drop l (take w s))) (clean w (drop w s) ls) c) ∙ ap
+    (λ k. take w (drop k s)) (sym (zero-mul w))
 place-padded w n s (l ∷ ls) f c (suc i) h =
     let there : suc i * w ≡ w + i * w = omega (arith, suc-mul i w) in
     place-padded w (length ls) (drop w s) ls (fits-next f) (and-right (is-zero (drop l (take w s))) (clean w (drop w s) ls) c) i (omega arith)
@@ -165,7 +167,8 @@ module _ (w : ℕ) (x : List ℕ) (is : List (List ℕ)) (h : are-short w (x ∷
   drop-first = drop-at (padded w x) (laid w is) w padded-long
 
   id-first : take (length x) (padded w x ++ laid w is) ≡ x
-  id-first = ap (take (length x)) (append-assoc x (replicate (w - length x) 0) (laid w is)) ∙ take-at x (replicate (w - length x) 0 ++ laid w is) (length x) refl
+  id-first = ap (take (length x)) (append-assoc x (replicate (w - length x) 0) (laid w is)) ∙ take-at x (replicate (w - length x) 0 ++ laid w is)
+      (length x) refl
 
   clean-first : is-zero (drop (length x) (take w (padded w x ++ laid w is))) ≡ true
   clean-first =
@@ -242,7 +245,8 @@ module _ (p : List ℕ → Bool) (y : List ℕ) where
       let first : empty x || not (live x xs) ≡ true = and-left (empty x || not (live x xs)) (distinct xs) d in
       cond-case (λ l. distinct l ≡ true) (p x)
       (λ e. ap₂ (_&&_) later rest)
-      (λ e. ap₂ (_&&_) (or-else (empty x) (live x xs) (live x (replaced p y xs)) first (λ f g. replaced-none x xs g (apart x y (live y xs) f h))) (replaced-distinct xs later rest))
+      (λ e. ap₂ (_&&_) (or-else (empty x) (live x xs) (live x (replaced p y xs)) first (λ f g. replaced-none x xs g (apart x y (live y xs) f h)))
+      (replaced-distinct xs later rest))
 
   -- where one passes, the new one is there, with all others that were
   pub replaced-live : (x : List ℕ) (xs : List (List ℕ)) → any p xs ≡ true → ((z : List ℕ) → p z ≡ true → same z x ≡ false)
@@ -262,7 +266,8 @@ freed-live x (z ∷ xs) d n =
     cond-case (λ l. live x l ≡ false) (same z x)
     (λ e. ap₂ (_||_) (nil-apart x n)
     (not-true (live x xs)
-    (sym (ap (_|| not (live x xs)) (empty-not x n)) ∙ ap (λ t. empty t || not (live t xs)) (sym (same-eq z x e)) ∙ and-left (empty z || not (live z xs)) (distinct xs) d)))
+    (sym (ap (_|| not (live x xs)) (empty-not x n)) ∙ ap (λ t. empty t || not (live t xs)) (sym (same-eq z x e)) ∙ and-left (empty z || not (live z xs))
+    (distinct xs) d)))
     (λ e. ap₂ (_||_) e (freed-live x xs (and-right (empty z || not (live z xs)) (distinct xs) d) n))
 
 -- ---- the ids after a use of one

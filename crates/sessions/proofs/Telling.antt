@@ -32,13 +32,15 @@ use Rattle.sessions.proofs.Walking.{Turn, part-fits, next-place, room, 
 
 -- ---- an id that is there, by the keys
 
-live-32 : (n : ℕ) (s ls : List ℕ) → Fits 32 n s ls → clean 32 s ls ≡ true → (id : List ℕ) → live id (ids 32 s ls) ≡ true → any (λ x. eqb x (key (padded 32 id))) (keys s ls) ≡ true
+live-32 : (n : ℕ) (s ls : List ℕ) → Fits 32 n s ls → clean 32 s ls ≡ true → (id : List ℕ) → live id (ids 32 s ls) ≡ true → any
+    (λ x. eqb x (key (padded 32 id))) (keys s ls) ≡ true
 unfolding ids clean rows
 live-32 n s [] f c id h = absurd (true≢false (sym h))
 live-32 n s (l ∷ ls) f c id h =
     or-either (same (take l s) id) (live id (ids 32 (drop 32 s) ls)) h
     (λ e. ap (_|| any (λ x. eqb x (key (padded 32 id))) (keys (drop 32 s) ls)) (eq-eqb (key (take 32 s)) (key (padded 32 id)) (ap key (sym (here e)))))
-    (λ e. ap (eqb (key (take 32 s)) (key (padded 32 id)) ||_) (live-32 (length ls) (drop 32 s) ls (fits-next f) (and-right (is-zero (drop l (take 32 s))) (clean 32 (drop 32 s) ls) c) id e)
+    (λ e. ap (eqb (key (take 32 s)) (key (padded 32 id)) ||_) (live-32 (length ls) (drop 32 s) ls (fits-next f)
+    (and-right (is-zero (drop l (take 32 s))) (clean 32 (drop 32 s) ls) c) id e)
     ∙ or-yes (eqb (key (take 32 s)) (key (padded 32 id))))
   where
     here : same (take l s) id ≡ true → padded 32 id ≡ take 32 s
@@ -46,7 +48,8 @@ live-32 n s (l ∷ ls) f c id h =
         ap (padded 32) (sym (same-eq (take l s) id e))
         ∙ padded-take 32 l s (fits-first f) (omega (arith, fits-long f)) (and-left (is-zero (drop l (take 32 s))) (clean 32 (drop 32 s) ls) c)
 
-pub live-keyed : (w n : ℕ) (s ls : List ℕ) → Clean w n s ls → (id : List ℕ) → live id (ids w s ls) ≡ true → any (λ x. eqb x (key (padded w id))) (keys s ls) ≡ true
+pub live-keyed : (w n : ℕ) (s ls : List ℕ) → Clean w n s ls → (id : List ℕ) → live id (ids w s ls) ≡ true → any (λ x. eqb x (key (padded w id)))
+    (keys s ls) ≡ true
 live-keyed w n s ls c id =
     subst (λ z. Fits z n s ls → clean z s ls ≡ true → live id (ids z s ls) ≡ true → any (λ x. eqb x (key (padded z id))) (keys s ls) ≡ true) (sym (c .wide))
     (λ f e. live-32 n s ls f e id) (c .fits) (c .clean-yes)
@@ -59,11 +62,13 @@ again-empty id others e = ap (λ t. not t && live id others) (sym (empty-zero id
 some-id : (id : List ℕ) (others : List (List ℕ)) → (length id ≡ 0 → ⊥) → again id others ≡ live id others
 some-id id others n = ap (λ t. not t && live id others) (empty-not id (λ e. n (ap length e)))
 
-pub again-found : (id : List ℕ) (others : List (List ℕ)) → (length id ≡ 0 → ⊥) → (r : Search) (found : Bool) → search-says r ≡ first-from (λ x. same x id) 0 others → found ≡ is-at r
+pub again-found : (id : List ℕ) (others : List (List ℕ)) → (length id ≡ 0 → ⊥) → (r : Search) (found : Bool) → search-says r ≡ first-from
+    (λ x. same x id) 0 others → found ≡ is-at r
     → found ≡ again id others
 again-found id others n r found told is = is ∙ sym (told-any (λ x. same x id) 0 others r told) ∙ sym (some-id id others n)
 
-pub again-missed : {w n : ℕ} {s ls ks : List ℕ} {k : ℕ} {id : List ℕ} → Keyed w n s ls ks k id → (length id ≡ 0 → ⊥) → false ≡ any (λ x. eqb x k) ks → false ≡ again id (ids w s ls)
+pub again-missed : {w n : ℕ} {s ls ks : List ℕ} {k : ℕ} {id : List ℕ} → Keyed w n s ls ks k id → (length id ≡ 0 → ⊥) → false ≡ any (λ x. eqb x k) ks →
+    false ≡ again id (ids w s ls)
 again-missed {w} {n} {s} {ls} {ks} {k} {id} q e miss =
     let none : any (λ x. eqb x (key (padded w id))) (keys s ls) ≡ false = ap₂ (λ a b. any (λ x. eqb x a) b) (sym (q .key-is)) (sym (q .keys-are)) ∙ sym miss in
     sym (some-id id (ids w s ls) e ∙ refuted (live id (ids w s ls)) (λ h. true≢false (sym (live-keyed w n s ls (q .store) id h) ∙ none)))
@@ -85,21 +90,24 @@ not-both : (a b : Bool) → a || not b ≡ not (not a && b)
 not-both true b = refl
 not-both false b = refl
 
-module _ {w n : ℕ} {s ls : List ℕ} {k at l : ℕ} {fits : Fits w n s ls} {stands : Before w n k at} (t : Turn fits stands l) (c : clean w (drop at s) (drop k ls) ≡ true) where
+module _ {w n : ℕ} {s ls : List ℕ} {k at l : ℕ} {fits : Fits w n s ls} {stands : Before w n k at} (t : Turn fits stands l)
+    (c : clean w (drop at s) (drop k ls) ≡ true) where
   both-clean : is-zero (drop l (take w (drop at s))) && clean w (drop w (drop at s)) (drop (k + 1) ls) ≡ true
   unfolding clean
   both-clean = sym (ap (clean w (drop at s)) (lens-at t)) ∙ c
 
   pub rest-clean : clean w (drop (at + w) s) (drop (k + 1) ls) ≡ true
   rest-clean =
-      ap (λ z. clean w z (drop (k + 1) ls)) (sym (drop-drop w at s)) ∙ and-right (is-zero (drop l (take w (drop at s)))) (clean w (drop w (drop at s)) (drop (k + 1) ls)) both-clean
+      ap (λ z. clean w z (drop (k + 1) ls)) (sym (drop-drop w at s)) ∙ and-right (is-zero (drop l (take w (drop at s))))
+      (clean w (drop w (drop at s)) (drop (k + 1) ls)) both-clean
 
   -- the place's octets are its id and 0 after it
   here-padded : padded w (id-at t) ≡ take w (drop at s)
   here-padded =
       let e : at + l - at ≡ l = omega arith in
       ap (λ z. padded w (take z (drop at s))) e
-      ∙ padded-take w l (drop at s) (length-fits t) (simp length-drop (omega (arith, room t))) (and-left (is-zero (drop l (take w (drop at s)))) (clean w (drop w (drop at s)) (drop (k + 1) ls)) both-clean)
+      ∙ padded-take w l (drop at s) (length-fits t) (simp length-drop (omega (arith, room t)))
+      (and-left (is-zero (drop l (take w (drop at s)))) (clean w (drop w (drop at s)) (drop (k + 1) ls)) both-clean)
 
   module _ (wide : w ≡ 32) (few : n ≤ 64) (ks z : List ℕ) (are : ks ≡ keys s ls ++ z) where
     inside : k < length (keys s ls)
@@ -122,13 +130,16 @@ module _ {w n : ℕ} {s ls : List ℕ} {k at l : ℕ} {fits : Fits w n s ls} {st
     rest-keys : take (n - (k + 1)) (drop (k + 1) ks) ≡ keys (drop (at + w) s) (drop (k + 1) ls)
     rest-keys =
         let there : (k + 1) * 32 ≡ at + w = ap (_* 32) (add-one k) ∙ suc-mul k 32 ∙ omega (arith, start, wide) in
-        let behind : drop (k + 1) (keys s ls) ≡ keys (drop (at + w) s) (drop (k + 1) ls) = keys-drop (k + 1) s ls ∙ ap (λ m. keys (drop m s) (drop (k + 1) ls)) there in
-        let long : length (keys (drop (at + w) s) (drop (k + 1) ls)) ≡ n - (k + 1) = keys-long (drop (at + w) s) (drop (k + 1) ls) ∙ length-drop (k + 1) ls ∙ ap (_- (k + 1)) (fits .lens-long) in
+        let behind : drop (k + 1) (keys s ls) ≡ keys (drop (at + w) s) (drop (k + 1) ls) = keys-drop (k + 1) s ls ∙ ap
+        (λ m. keys (drop m s) (drop (k + 1) ls)) there in
+        let long : length (keys (drop (at + w) s) (drop (k + 1) ls)) ≡ n - (k + 1) = keys-long (drop (at + w) s) (drop (k + 1) ls) ∙ length-drop (k + 1)
+        ls ∙ ap (_- (k + 1)) (fits .lens-long) in
         ap (λ r. take (n - (k + 1)) (drop (k + 1) r)) are
         ∙ ap (take (n - (k + 1))) (drop-append-le (k + 1) (keys s ls) z (omega (arith, inside)) ∙ ap (_++ z) behind)
         ∙ take-at (keys (drop (at + w) s) (drop (k + 1) ls)) z (n - (k + 1)) long
 
-    pub rest-keyed : (h : ℕ) → h ≡ getD ks k 0 → Keyed w (n - (k + 1)) (part-from (at + w) s) (part-from (k + 1) ls) (take (n - (k + 1)) (drop (k + 1) ks)) h (id-at t)
+    pub rest-keyed : (h : ℕ) → h ≡ getD ks k 0 → Keyed w (n - (k + 1)) (part-from (at + w) s) (part-from (k + 1) ls)
+        (take (n - (k + 1)) (drop (k + 1) ks)) h (id-at t)
     rest-keyed h e =
         record {
           store = record {
@@ -142,7 +153,8 @@ module _ {w n : ℕ} {s ls : List ℕ} {k at l : ℕ} {fits : Fits w n s ls} {st
         }
 
   -- what is left of the test, one place on
-  pub distinct-next : (r : Bool) → r ≡ again (id-at t) (ids w (part-from (at + w) s) (part-from (k + 1) ls)) → distinct (ids w (drop at s) (drop k ls)) ≡ not r && distinct (ids-behind t)
+  pub distinct-next : (r : Bool) → r ≡ again (id-at t) (ids w (part-from (at + w) s) (part-from (k + 1) ls)) → distinct (ids w (drop at s) (drop k ls))
+      ≡ not r && distinct (ids-behind t)
   unfolding distinct
   distinct-next r e =
       ap distinct (ids-at t)

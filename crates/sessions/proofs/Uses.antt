@@ -27,7 +27,8 @@ use Rattle.sessions.specs.Calls.{uses-of, id-checks, id-effect}
 use Rattle.sessions.specs.Notes.{value-at, Locates}
 use Rattle.sessions.specs.declared.notes.Located.{Located}
 use Rattle.sessions.proofs.Locating.{value-there}
-use Rattle.sessions.specs.Steps.{closed-by, accepted-by, GivesUses, SettlesUse, settled-number, lower, names-id, naming-list, listed-namings, GivesNamings, use-named, put-of, count-of}
+use Rattle.sessions.specs.Steps.{closed-by, accepted-by, GivesUses, SettlesUse, settled-number, lower, names-id, naming-list, listed-namings}
+use Rattle.sessions.specs.Steps.{GivesNamings, use-named, put-of, count-of}
 use Rattle.sessions.specs.declared.command.Naming.{Naming}
 use Rattle.sessions.specs.declared.command.Namings.{Namings}
 use Rattle.sessions.specs.declared.store.Use.{Use}
@@ -334,7 +335,8 @@ module _ (s : Session) (sized : Sized s) (valid : is-valid s ≡ true) (g : Nami
   pub naming-asked : (i < count-of (g .kind)) × (length (take (n - l .start) (drop (l .start) block)) ≤ id-max)
   naming-asked =
       let (u, is, v, kind, usage) = named in
-      let (a, b) = put-asked s sized valid u i (take (n - l .start) (drop (l .start) block)) (subst (λ o. SettlesUse s o (Settled.Put i)) is e) (part-is u v usage) in
+      let (a, b) = put-asked s sized valid u i (take (n - l .start) (drop (l .start) block)) (subst (λ o. SettlesUse s o (Settled.Put i)) is e)
+      (part-is u v usage) in
       (subst (λ k. i < count-of k) kind a, b)
 
   pub naming-put : put-of (g .kind) s i (take (n - l .start) (drop (l .start) block))

@@ -51,7 +51,14 @@ module _ (c : ℕ) where
           inr (record { first = []; second = p; rest = ps; parts = rw e (ap ([] ∷_) (split-first c xs)); no-digits = rw (eqb-true x c e, d) })
       by false e (inl q) = inl (rw (e, q))
       by false e (inr s) =
-          inr (record { first = x ∷ s .first; second = s .second; rest = s .rest; parts = rw (e, s .parts); no-digits = rw (s .no-digits) (and-no (is-digit x)) })
+          inr (record {
+            first = x ∷ s .first;
+            second = s .second;
+            rest = s .rest;
+            parts = rw (e, s .parts);
+            no-digits = rw (s .no-digits)
+                (and-no (is-digit x));
+          })
 
 -- ## Items and heart-beats
 
@@ -88,7 +95,8 @@ parts-at c xs n first h =
     ∙ ap (λ ys. front n xs ∷ split c ys) (sym (take-all (length xs - (n + 1)) (drop (n + 1) xs) (simp length-drop (omega arith))))
 
 -- what comes of the parts of a row, where of several it is what comes of a row that is no digits
-by-parts : {A : Type 0} (f : List (List ℕ) → A) (c : ℕ) (xs : List ℕ) → is-digit c ≡ false → ((p q : List ℕ) (ps : List (List ℕ)) → every is-digit xs ≡ false → f (p ∷ q ∷ ps) ≡ f (xs ∷ []))
+by-parts : {A : Type 0} (f : List (List ℕ) → A) (c : ℕ) (xs : List ℕ) → is-digit c ≡ false →
+    ((p q : List ℕ) (ps : List (List ℕ)) → every is-digit xs ≡ false → f (p ∷ q ∷ ps) ≡ f (xs ∷ []))
     → f (split c xs) ≡ f (xs ∷ [])
 by-parts f c xs d more = ⊎-elim (λ e. ap f e) (λ s. ap f (s .parts) ∙ more (s .first) (s .second) (s .rest) (s .no-digits)) (parted c d xs)
 
@@ -102,7 +110,8 @@ module _ (p : List ℕ) (n : ℕ) (first : n ≡ 0 + until 46 p) where
   unfolding is-item
   item-parts h =
       rw (parts-at 46 p n first h)
-      (by-parts (λ ps. two-numbers (front n p ∷ ps)) 46 (behind n p) refl (λ q r ps d. sym (rw (no-some-digits (behind n p) d) (and-no (some-digits (front n p))))))
+      (by-parts (λ ps. two-numbers (front n p ∷ ps)) 46 (behind n p) refl
+      (λ q r ps d. sym (rw (no-some-digits (behind n p) d) (and-no (some-digits (front n p))))))
 
   pub item-front : n < length p → some-digits (front n p) ≡ false → is-item p ≡ false
   item-front h e = item-parts h ∙ ap (_&& some-digits (behind n p)) e
@@ -120,14 +129,16 @@ module _ (v : List ℕ) (n : ℕ) (first : n ≡ 0 + until 44 v) where
   unfolding heart-beats
   heart-beats-parts h =
       rw (parts-at 44 v n first h)
-      (by-parts (λ ps. heart-beats-in (front n v ∷ ps)) 44 (behind n v) refl (λ q r ps d. sym (rw (no-amount heart-beat-max (behind n v) d) (both-none (amount heart-beat-max (front n v))))))
+      (by-parts (λ ps. heart-beats-in (front n v ∷ ps)) 44 (behind n v) refl
+      (λ q r ps d. sym (rw (no-amount heart-beat-max (behind n v) d) (both-none (amount heart-beat-max (front n v))))))
 
   -- what is read of its parts
   module _ (h : n < length v) (a : DecimalRead) (sends : read-says a ≡ amount heart-beat-max (front n v)) where
     pub heart-beats-front : a ≡ DecimalRead.Invalid → heart-beats v ≡ none
     heart-beats-front e = heart-beats-parts h ∙ ap (λ o. both o (amount heart-beat-max (behind n v))) (sym sends ∙ ap read-says e)
 
-    pub heart-beats-both : (b : DecimalRead) → read-says b ≡ amount heart-beat-max (behind n v) → (a′ b′ : DecimalRead) → a ≡ a′ → b ≡ b′ → heart-beats v ≡ both (read-says a′) (read-says b′)
+    pub heart-beats-both : (b : DecimalRead) → read-says b ≡ amount heart-beat-max (behind n v) → (a′ b′ : DecimalRead) → a ≡ a′ → b ≡ b′ → heart-beats
+        v ≡ both (read-says a′) (read-says b′)
     heart-beats-both b wants a′ b′ p q = heart-beats-parts h ∙ ap₂ both (sym sends ∙ ap read-says p) (sym wants ∙ ap read-says q)
 
 -- ## Versions, item by item

@@ -97,7 +97,8 @@ module _ {w n : ℕ} {s ls : List ℕ} {k at l : ℕ} {fits : Fits w n s ls} {st
       ∙ ap (λ z. take l (drop at s) ∷ ids w z (drop (k + 1) ls)) (drop-drop w at s)
       ∙ ap (λ z. take z (drop at s) ∷ ids w (drop (at + w) s) (drop (k + 1) ls)) e
 
-  pub clean-at : (b : Bool) → is-zero (take (at + w - (at + l)) (drop (at + l) s)) ≡ b → clean w (drop at s) (drop k ls) ≡ b && clean w (drop (at + w) s) (drop (k + 1) ls)
+  pub clean-at : (b : Bool) → is-zero (take (at + w - (at + l)) (drop (at + l) s)) ≡ b → clean w (drop at s) (drop k ls) ≡ b && clean w
+      (drop (at + w) s) (drop (k + 1) ls)
   unfolding clean
   clean-at b is =
       let e : w - l ≡ at + w - (at + l) = omega arith in

@@ -19,7 +19,8 @@ only-requires c κs = search needs
 returns : tie.Need-returns
 returns c =
     let n = c .before .before .before .args .command in
-    named-only n (subscription Enter) _ _ (namings-tests v1-2 n ∙ rw (eq-eqb _ _ (c .before .before .if1 .taken))) (c .before .subscription .ensures) (c .only .ensures)
+    named-only n (subscription Enter) _ _ (namings-tests v1-2 n ∙ rw (eq-eqb _ _ (c .before .before .if1 .taken))) (c .before .subscription .ensures)
+    (c .only .ensures)
 
 subscription-requires-2 : tie.Need-subscription-requires-2
 subscription-requires-2 c κs = search needs
@@ -30,7 +31,11 @@ only-requires-2 c κs = search needs
 returns-2 : tie.Need-returns-2
 returns-2 c =
     let n = c .before .before .before .before .args .command in
-    named-only n (subscription Free) _ _ (namings-tests v1-2 n ∙ rw (ne-eqb _ _ (c .before .before .before .if1 .left), eq-eqb _ _ (c .before .before .if2 .taken))) (c .before .subscription2 .ensures) (c .only2 .ensures)
+    named-only n (subscription Free) _ _ (namings-tests v1-2 n ∙ rw (
+      ne-eqb _ _ (c .before .before .before .if1 .left),
+      eq-eqb _ _
+          (c .before .before .if2 .taken),
+    )) (c .before .subscription2 .ensures) (c .only2 .ensures)
 
 transaction-requires : tie.Need-transaction-requires
 transaction-requires c κs = search needs
@@ -41,7 +46,12 @@ only-requires-3 c κs = search needs
 returns-3 : tie.Need-returns-3
 returns-3 c =
     let n = c .before .before .before .before .before .args .command in
-    named-only n (transaction Enter) _ _ (namings-tests v1-2 n ∙ rw (ne-eqb _ _ (c .before .before .before .before .if1 .left), ne-eqb _ _ (c .before .before .before .if2 .left), eq-eqb _ _ (c .before .before .if3 .taken))) (c .before .transaction .ensures) (c .only3 .ensures)
+    named-only n (transaction Enter) _ _ (namings-tests v1-2 n ∙ rw (
+      ne-eqb _ _ (c .before .before .before .before .if1 .left),
+      ne-eqb _ _
+          (c .before .before .before .if2 .left),
+      eq-eqb _ _ (c .before .before .if3 .taken),
+    )) (c .before .transaction .ensures) (c .only3 .ensures)
 
 transaction-requires-2 : tie.Need-transaction-requires-2
 transaction-requires-2 c κs = search needs
@@ -52,7 +62,14 @@ only-requires-4 c κs = search needs
 returns-4 : tie.Need-returns-4
 returns-4 c =
     let n = c .before .before .before .before .before .before .args .command in
-    named-only n (transaction Free) _ _ (namings-tests v1-2 n ∙ rw (ne-eqb _ _ (c .before .before .before .before .before .if1 .left), ne-eqb _ _ (c .before .before .before .before .if2 .left), ne-eqb _ _ (c .before .before .before .if3 .left), c .before .before .if4 .taken)) (c .before .transaction2 .ensures) (c .only4 .ensures)
+    named-only n (transaction Free) _ _ (namings-tests v1-2 n ∙ rw (
+      ne-eqb _ _ (c .before .before .before .before .before .if1 .left),
+      ne-eqb _ _
+          (c .before .before .before .before .if2 .left),
+      ne-eqb _ _ (c .before .before .before .if3 .left),
+      c .before .before .if4 .taken,
+    ))
+    (c .before .transaction2 .ensures) (c .only4 .ensures)
 
 transaction-requires-3 : tie.Need-transaction-requires-3
 transaction-requires-3 c κs = search needs
@@ -63,7 +80,14 @@ only-requires-5 c κs = search needs
 returns-5 : tie.Need-returns-5
 returns-5 c =
     let n = c .before .before .before .before .before .before .before .args .command in
-    named-only n (transaction Need) _ _ (namings-tests v1-2 n ∙ rw (ne-eqb _ _ (c .before .before .before .before .before .before .if1 .left), ne-eqb _ _ (c .before .before .before .before .before .if2 .left), ne-eqb _ _ (c .before .before .before .before .if3 .left), c .before .before .before .if4 .left, c .before .before .if5 .taken)) (c .before .transaction3 .ensures) (c .only5 .ensures)
+    named-only n (transaction Need) _ _ (namings-tests v1-2 n ∙ rw (
+      ne-eqb _ _ (c .before .before .before .before .before .before .if1 .left),
+      ne-eqb _
+          _ (c .before .before .before .before .before .if2 .left),
+      ne-eqb _ _ (c .before .before .before .before .if3 .left),
+      c .before .before .before .if4 .left,
+      c .before .before .if5 .taken,
+    )) (c .before .transaction3 .ensures) (c .only5 .ensures)
 
 transaction-requires-4 : tie.Need-transaction-requires-4
 transaction-requires-4 c κs = search needs
@@ -74,7 +98,14 @@ only-requires-6 c κs = search needs
 returns-6 : tie.Need-returns-6
 returns-6 c =
     let n = c .before .before .before .before .before .before .before .args .command in
-    named-only n (transaction Nothing) _ _ (namings-tests v1-2 n ∙ rw (ne-eqb _ _ (c .before .before .before .before .before .before .if1 .left), ne-eqb _ _ (c .before .before .before .before .before .if2 .left), ne-eqb _ _ (c .before .before .before .before .if3 .left), c .before .before .before .if4 .left, c .before .before .if5 .left)) (c .before .transaction4 .ensures) (c .only6 .ensures)
+    named-only n (transaction Nothing) _ _ (namings-tests v1-2 n ∙ rw (
+      ne-eqb _ _ (c .before .before .before .before .before .before .if1 .left),
+      ne-eqb
+          _ _ (c .before .before .before .before .before .if2 .left),
+      ne-eqb _ _ (c .before .before .before .before .if3 .left),
+      c .before .before .before .if4 .left,
+      c .before .before .if5 .left,
+    )) (c .before .transaction4 .ensures) (c .only6 .ensures)
 
 pub namings-of-spec : {M : Type 1} → statement M
 namings-of-spec =

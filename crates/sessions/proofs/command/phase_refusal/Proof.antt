@@ -18,16 +18,40 @@ opens-requires : tie.Need-opens-requires
 opens-requires c κs = search needs
 
 returns-3 : tie.Need-returns-3
-returns-3 c = simp (ne-eqb _ _ (c .before .before .before .before .before .if1 .left), sym (c .before .before .before .before .is-from-server .ensures) ∙ c .before .before .before .if2 .left, sym (c .before .before .opens .ensures) ∙ c .before .if3 .taken, eq-eqb _ _ (c .if4 .taken))
+returns-3 c = simp (
+  ne-eqb _ _ (c .before .before .before .before .before .if1 .left),
+  sym (c .before .before .before .before .is-from-server .ensures)
+      ∙ c .before .before .before .if2 .left,
+  sym (c .before .before .opens .ensures) ∙ c .before .if3 .taken,
+  eq-eqb _ _ (c .if4 .taken),
+)
 
 returns-4 : tie.Need-returns-4
-returns-4 c = simp (ne-eqb _ _ (c .before .before .before .before .before .if1 .left), sym (c .before .before .before .before .is-from-server .ensures) ∙ c .before .before .before .if2 .left, sym (c .before .before .opens .ensures) ∙ c .before .if3 .taken, ne-eqb _ _ (c .if4 .left))
+returns-4 c = simp (
+  ne-eqb _ _ (c .before .before .before .before .before .if1 .left),
+  sym (c .before .before .before .before .is-from-server .ensures)
+      ∙ c .before .before .before .if2 .left,
+  sym (c .before .before .opens .ensures) ∙ c .before .if3 .taken,
+  ne-eqb _ _ (c .if4 .left),
+)
 
 returns-5 : tie.Need-returns-5
-returns-5 c = simp (ne-eqb _ _ (c .before .before .before .before .before .if1 .left), sym (c .before .before .before .before .is-from-server .ensures) ∙ c .before .before .before .if2 .left, sym (c .before .before .opens .ensures) ∙ c .before .if3 .left, eq-eqb _ _ (c .if5 .taken))
+returns-5 c = simp (
+  ne-eqb _ _ (c .before .before .before .before .before .if1 .left),
+  sym (c .before .before .before .before .is-from-server .ensures)
+      ∙ c .before .before .before .if2 .left,
+  sym (c .before .before .opens .ensures) ∙ c .before .if3 .left,
+  eq-eqb _ _ (c .if5 .taken),
+)
 
 returns-6 : tie.Need-returns-6
-returns-6 c = simp (ne-eqb _ _ (c .before .before .before .before .before .if1 .left), sym (c .before .before .before .before .is-from-server .ensures) ∙ c .before .before .before .if2 .left, sym (c .before .before .opens .ensures) ∙ c .before .if3 .left, ne-eqb _ _ (c .if5 .left))
+returns-6 c = simp (
+  ne-eqb _ _ (c .before .before .before .before .before .if1 .left),
+  sym (c .before .before .before .before .is-from-server .ensures)
+      ∙ c .before .before .before .if2 .left,
+  sym (c .before .before .opens .ensures) ∙ c .before .if3 .left,
+  ne-eqb _ _ (c .if5 .left),
+)
 
 pub phase-refusal-spec : {M : Type 1} → statement M
 phase-refusal-spec =

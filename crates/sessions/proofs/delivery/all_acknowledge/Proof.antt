@@ -32,7 +32,8 @@ returns c =
     let l = c .before .before .before .before .loop in
     let a = c .before .before .before .before .before .before .before .before .args in
     sym (l .inv .1 ∙ every-step (acknowledging (a .lens .now) (a .modes .now)) (a .places .now) (l .i) (c .before .before .before .loop-test .taken)
-    ∙ ap (_&& every (acknowledging (a .lens .now) (a .modes .now)) (drop (l .i + 1) (a .places .now))) (sym (c .before .acknowledges .ensures) ∙ not-true _ (c .if1 .taken)))
+    ∙ ap (_&& every (acknowledging (a .lens .now) (a .modes .now)) (drop (l .i + 1) (a .places .now)))
+    (sym (c .before .acknowledges .ensures) ∙ not-true _ (c .if1 .taken)))
 
 add-i : tie.Need-add-i Inv-loop μ-loop
 add-i c = search needs
@@ -46,7 +47,8 @@ loop-again c =
     let a = c .before .before .before .before .before .before .before .before .args in (
       omega arith,
       l .inv .1 ∙ every-step (acknowledging (a .lens .now) (a .modes .now)) (a .places .now) (l .i) (c .before .before .before .loop-test .taken)
-          ∙ ap (_&& every (acknowledging (a .lens .now) (a .modes .now)) (drop (l .i + 1) (a .places .now))) (sym (c .before .acknowledges .ensures) ∙ not-false _ (c .if1 .left)),
+          ∙ ap (_&& every (acknowledging (a .lens .now) (a .modes .now)) (drop (l .i + 1) (a .places .now)))
+          (sym (c .before .acknowledges .ensures) ∙ not-false _ (c .if1 .left)),
     )
 
 returns-2 : tie.Need-returns-2 Inv-loop μ-loop

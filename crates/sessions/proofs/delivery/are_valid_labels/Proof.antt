@@ -50,7 +50,8 @@ are-some-requires c κs = search needs
 returns-2 : tie.Need-returns-2
 returns-2 c =
     let a = c .before .before .before .before .before .before .before .before .before .args in
-    labels-two (a .n) (a .labels .now) (a .lens .now) (sym (c .before .before .before .before .is-valid .ensures) ∙ not-false _ (c .before .before .before .if1 .left))
+    labels-two (a .n) (a .labels .now) (a .lens .now) (sym (c .before .before .before .before .is-valid .ensures) ∙ not-false _
+    (c .before .before .before .if1 .left))
     (sym (c .before .are-some .ensures) ∙ not-true _ (c .if2 .taken))
 
 sub-is-zero : tie.Need-sub-is-zero
@@ -68,8 +69,10 @@ is-zero-requires c κs = search needs
 returns-3 : tie.Need-returns-3
 returns-3 c =
     let a = c .before .before .before .before .before .before .before .before .before .before .before .before .args in
-    labels-three (a .n) (a .labels .now) (a .lens .now) (sym (c .before .before .before .before .before .before .before .is-valid .ensures) ∙ not-false _ (c .before .before .before .before .before .before .if1 .left))
-    (sym (c .before .before .before .before .are-some .ensures) ∙ not-false _ (c .before .before .before .if2 .left)) (sym (c .before .is-zero .ensures) ∙ not-true _ (c .if3 .taken))
+    labels-three (a .n) (a .labels .now) (a .lens .now) (sym (c .before .before .before .before .before .before .before .is-valid .ensures) ∙ not-false
+    _ (c .before .before .before .before .before .before .if1 .left))
+    (sym (c .before .before .before .before .are-some .ensures) ∙ not-false _ (c .before .before .before .if2 .left))
+    (sym (c .before .is-zero .ensures) ∙ not-true _ (c .if3 .taken))
 
 sub-is-zero-2 : tie.Need-sub-is-zero-2
 sub-is-zero-2 c = search needs
@@ -86,8 +89,11 @@ is-zero-requires-2 c κs = search needs
 returns-4 : tie.Need-returns-4
 returns-4 c =
     let a = c .before .before .before .before .before .before .before .before .before .before .before .before .before .before .args in
-    c .is-zero2 .ensures ∙ labels-four (a .n) (a .labels .now) (a .lens .now) (sym (c .before .before .before .before .before .before .before .before .before .is-valid .ensures) ∙ not-false _ (c .before .before .before .before .before .before .before .before .if1 .left))
-    (sym (c .before .before .before .before .before .before .are-some .ensures) ∙ not-false _ (c .before .before .before .before .before .if2 .left)) (sym (c .before .before .before .is-zero .ensures) ∙ not-false _ (c .before .before .if3 .left))
+    c .is-zero2 .ensures ∙ labels-four (a .n) (a .labels .now) (a .lens .now)
+    (sym (c .before .before .before .before .before .before .before .before .before .is-valid .ensures) ∙ not-false _
+    (c .before .before .before .before .before .before .before .before .if1 .left))
+    (sym (c .before .before .before .before .before .before .are-some .ensures) ∙ not-false _ (c .before .before .before .before .before .if2 .left))
+    (sym (c .before .before .before .is-zero .ensures) ∙ not-false _ (c .before .before .if3 .left))
 
 pub are-valid-labels-spec : {M : Type 1} → statement M
 are-valid-labels-spec =

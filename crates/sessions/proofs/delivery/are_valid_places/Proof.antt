@@ -21,7 +21,8 @@ all-acknowledge-requires c κs = search needs
 returns : tie.Need-returns
 returns c =
     let a = c .before .before .before .before .before .before .args in
-    no-first _ _ (sym (c .before .all-acknowledge .ensures) ∙ not-true _ (c .if1 .taken)) ∙ sym (places-parts (a .n) (a .places .now) (a .lens .now) (a .modes .now))
+    no-first _ _ (sym (c .before .all-acknowledge .ensures) ∙ not-true _ (c .if1 .taken)) ∙ sym
+    (places-parts (a .n) (a .places .now) (a .lens .now) (a .modes .now))
 
 sub-is-zero : tie.Need-sub-is-zero
 sub-is-zero c = search needs

@@ -13,7 +13,8 @@ use prog.Wp.{Heap, Calls, Loops, WpFn}
 use ghost.Atoms.{Atoms}
 use contract.Running.{givenOf}
 use types.Kit.{Given, ‵, raw, _⊛_, _$_, _∵_, !, qed, by, move, keep, drop, use2, split, fsplit, fsplit3, rewrite}
-use types.Run.{look, look-raw, store-raw, init, forget, stop, hop, fld, from, load, of-opd, and-then, no-more, assigns, land, returns, enter, alloc1, alloc0, params1, pass1, pass0, free1, free0}
+use types.Run.{look, look-raw, store-raw, init, forget, stop, hop, fld, from, load, of-opd, and-then, no-more, assigns, land, returns, enter, alloc1}
+use types.Run.{alloc0, params1, pass1, pass0, free1, free0}
 use types.Part.{whole, sub, look-in}
 use sound.WpLaws.{FmC}
 use denote.RattleType.{owns}
@@ -51,33 +52,45 @@ abbrev Φ : Session → ℕ → Outcome → Type 0
 abbrev Ψ : Session → ℕ → SessionAnswer → Session → Type 0
 Ψ h n r h′ = (answer-says r ≡ heart-beat-answer h) × (h′ ≡ heart-beat-session h n)
 
-module _ {M : Type 1} (𝓤 : URA M) (H : Heap 𝓤) (A : Atoms 𝓤) (W : Given 𝓤 H A) (C : Calls 𝓤 H) (Λ : Loops 𝓤 H) (fm : FmC 𝓤 H (W .laws) C) (known : Triple 𝓤 (C #core) (Core 𝓤 H A O.the-row Φ)) (κ : Lft) (q : Share) (b o : ℕ) (γ : GName) (h : Session) (n : ℕ) where
+module _ {M : Type 1} (𝓤 : URA M) (H : Heap 𝓤) (A : Atoms 𝓤) (W : Given 𝓤 H A) (C : Calls 𝓤 H) (Λ : Loops 𝓤 H) (fm : FmC 𝓤 H (W .laws) C)
+    (known : Triple 𝓤 (C #core) (Core 𝓤 H A O.the-row Φ)) (κ : Lft) (q : Share) (b o : ℕ) (γ : GName) (h : Session) (n : ℕ) where
   walk : Walk 𝓤 H A R.the-row Ψ κ q b o γ h n (WpFn 𝓤 H C Λ code.function)
   walk =
-      qed W ((‵ (flft κ q) ⊛ ‵ ftrue) ∷ ‵ (owns (MutRef (named 0) κ T.the-row ∷ u32 ∷ []) (given b o γ h n) (words b o n)) ∷ []) ∵ split ! $ move ! (2 ∷ []) $ fsplit ! $ move ! (1 ∷ []) $ fsplit ! $
+      qed W ((‵ (flft κ q) ⊛ ‵ ftrue) ∷ ‵ (owns (MutRef (named 0) κ T.the-row ∷ u32 ∷ []) (given b o γ h n) (words b o n)) ∷ []) ∵ split ! $ move !
+      (2 ∷ []) $ fsplit ! $ move ! (1 ∷ []) $ fsplit ! $
       peeks ! u32 (Is u32) (shows 𝓤 H A u32) n (vint w32 n ∷ []) (λ gn. move ! (2 ∷ []) $ fsplit3 ! $ drop ! $ move ! (0 ∷ 1 ∷ 4 ∷ []) $
       -- [obs; the borrow; the token; what n owns; true; true]
       enter ! C Λ code.function (vptr b o ∷ vint w32 n ∷ []) _ $
-      alloc1 ! (λ l₀. alloc1 ! (λ l₁. alloc1 ! (λ l₂. alloc1 ! (λ l₃. alloc1 ! (λ l₄. alloc0 ! $ params1 ! $ pass1 ! (init ! 6 refl (tt, tt)) $ pass1 ! (init ! 4 refl (tt, record { fits = gn .1 })) $ pass0 ! $
-      move ! (10 ∷ 11 ∷ 12 ∷ []) $ opens ! tt T.the-row {h = h} b o (λ vs. spelt ! T.the-row (Is T.the-row) (shows 𝓤 H A T.the-row) vals (LL.tells T.the-type T′.the-laws) fullShare h vs b o $
+      alloc1 ! (λ l₀. alloc1 ! (λ l₁. alloc1 ! (λ l₂. alloc1 ! (λ l₃. alloc1 ! (λ l₄. alloc0 ! $ params1 ! $
+      pass1 ! (init ! 6 refl (tt, tt)) $ pass1 ! (init ! 4 refl (tt, record { fits = gn .1 })) $ pass0 ! $
+      move ! (10 ∷ 11 ∷ 12 ∷ []) $ opens ! tt T.the-row {h = h} b o (λ vs. spelt ! T.the-row (Is T.the-row) (shows 𝓤 H A T.the-row) vals
+      (LL.tells T.the-type T′.the-laws) fullShare h vs b o $
       -- [the session's cell; what it owns; the open borrow; obs; auth; _4; …; _3; …; _2; …; _1; …; room for _0; …; what n owns; …]
       move ! (1 ∷ []) $ peeks ! T.the-row (Is T.the-row) (shows 𝓤 H A T.the-row) h (vals h) (λ was. move ! (1 ∷ 0 ∷ []) $
-      assigns ! (of-opd ! (load ! (from ! (hop ! (look ! 11 refl) (stop !))) (look-raw ! 0 refl))) (from ! (stop !)) (init ! 5 refl (LL.lawful T.the-type T′.the-laws 𝓤 H A W .typed h (vals h) was .0)) $
+      assigns ! (of-opd ! (load ! (from ! (hop ! (look ! 11 refl) (stop !))) (look-raw ! 0 refl))) (from ! (stop !))
+      (init ! 5 refl (LL.lawful T.the-type T′.the-laws 𝓤 H A W .typed h (vals h) was .0)) $
       move ! (1 ∷ 15 ∷ []) $ use2 W (raw (Core 𝓤 H A O.the-row Φ .pre (to-core 𝓤 H A O.the-row Φ h n))) (asks 𝓤 H A O.the-row Φ h n W) $
       -- [the core's pre; the cell; the open borrow; obs; auth; _4; …; room for _3; …; _2; …; _1; …; room for _0; …]
-      calls-at ! fm (Core 𝓤 H A O.the-row Φ) known (to-core 𝓤 H A O.the-row Φ h n) (and-then ! (load ! (from ! (stop !)) (look ! 5 refl)) (and-then ! (load ! (from ! (stop !)) (look ! 9 refl)) (no-more !))) (λ v.
+      calls-at ! fm (Core 𝓤 H A O.the-row Φ) known (to-core 𝓤 H A O.the-row Φ h n)
+      (and-then ! (load ! (from ! (stop !)) (look ! 5 refl)) (and-then ! (load ! (from ! (stop !)) (look ! 9 refl)) (no-more !))) (λ v.
       answered 𝓤 H A O.the-row Φ h n ! tt v (λ r e is.
       land ! (from ! (stop !)) (init ! 6 refl (LL.lawful O.the-type O′.the-laws 𝓤 H A W .typed r (v ∷ []) is .0)) $
       rewrite ! 6 (λ (us : List Val). ‵ (fat fullShare O′.mir l₃ 0 (only us))) (LL.tells O.the-type O′.the-laws r (v ∷ []) is) refl $
       -- [the cell; the open borrow; obs; auth; _4; …; _3; …; _2; …; _1; …; room for _0; …]
-      assigns ! (of-opd ! (load ! (from ! (fld ! refl (stop !))) (look-in ! 6 (sub ! 0 refl (whole !))))) (from ! (hop ! (look ! 10 refl) (stop !))) (store-raw ! 0 refl (LL.lawful T.the-type T′.the-laws 𝓤 H A W .typed (r .session) (vals (r .session)) (owed r v is .0) .0)) $
-      assigns ! (of-opd ! (load ! (from ! (fld ! refl (stop !))) (look-in ! 6 (sub ! 1 refl (whole !))))) (from ! (stop !)) (init ! 12 refl (EL.lawful R.the-type R′.the-laws 𝓤 H A W tt .typed (r .answer) (answers (r .answer)) (owed r v is .1) .0)) $
-      owned ! T.the-row (Is T.the-row) (LL.makes T.the-type T′.the-plain 𝓤 H A) (r .session) (vals (r .session)) (owed r v is .0) $ move ! (1 ∷ 0 ∷ []) $ closes ! tt T.the-row (r .session) (vals (r .session)) b o $
+      assigns ! (of-opd ! (load ! (from ! (fld ! refl (stop !))) (look-in ! 6 (sub ! 0 refl (whole !))))) (from ! (hop ! (look ! 10 refl) (stop !)))
+      (store-raw ! 0 refl (LL.lawful T.the-type T′.the-laws 𝓤 H A W .typed (r .session) (vals (r .session)) (owed r v is .0) .0)) $
+      assigns ! (of-opd ! (load ! (from ! (fld ! refl (stop !))) (look-in ! 6 (sub ! 1 refl (whole !))))) (from ! (stop !))
+      (init ! 12 refl (EL.lawful R.the-type R′.the-laws 𝓤 H A W tt .typed (r .answer) (answers (r .answer)) (owed r v is .1) .0)) $
+      owned ! T.the-row (Is T.the-row) (LL.makes T.the-type T′.the-plain 𝓤 H A) (r .session) (vals (r .session)) (owed r v is .0) $ move ! (1 ∷ 0 ∷ [])
+      $ closes ! tt T.the-row (r .session) (vals (r .session)) b o $
       returns ! (look ! 11 refl) $ forget ! 3 refl $ forget ! 5 refl $ forget ! 7 refl $ forget ! 9 refl $ forget ! 11 refl $
-      move ! (11 ∷ 12 ∷ []) $ free1 ! $ move ! (9 ∷ 10 ∷ []) $ free1 ! $ move ! (7 ∷ 8 ∷ []) $ free1 ! $ move ! (5 ∷ 6 ∷ []) $ free1 ! $ move ! (3 ∷ 4 ∷ []) $ free1 ! $ free0 ! $
-      keep ! (0 ∷ 1 ∷ 2 ∷ []) $ by ! (leaves 𝓤 H A R.the-row Ψ κ q b o γ h n W (r .answer) (only (answers (r .answer))) (r .session) e (gn .1) (EL.makes R.the-type R′.the-plain 𝓤 H A (r .answer) (answers (r .answer)) (owed r v is .1)))))))))))))
+      move ! (11 ∷ 12 ∷ []) $ free1 ! $ move ! (9 ∷ 10 ∷ []) $ free1 ! $ move ! (7 ∷ 8 ∷ []) $ free1 ! $ move ! (5 ∷ 6 ∷ []) $ free1 ! $ move !
+      (3 ∷ 4 ∷ []) $ free1 ! $ free0 ! $
+      keep ! (0 ∷ 1 ∷ 2 ∷ []) $ by ! (leaves 𝓤 H A R.the-row Ψ κ q b o γ h n W (r .answer) (only (answers (r .answer))) (r .session) e (gn .1)
+      (EL.makes R.the-type R′.the-plain 𝓤 H A (r .answer) (answers (r .answer)) (owed r v is .1)))))))))))))
 
 pub heart-beat-in-place-spec : {M : Type 1} → stated.statement M
 unfolding code.routine
 heart-beat-in-place-spec 𝓤 H 𝓜 𝓖 𝓡 =
-    time-closes 𝓤 H 𝓜 𝓖 𝓡 R.the-row Ψ code.env #self #core code.function (Core 𝓤 H (𝓖 .A) O.the-row Φ) (code.unfolded 𝓤 H 𝓜 𝓡) (core-thm.met 𝓤 H 𝓜 𝓖 𝓡) (walk 𝓤 H (𝓖 .A) (givenOf 𝓤 H 𝓜 𝓖))
+    time-closes 𝓤 H 𝓜 𝓖 𝓡 R.the-row Ψ code.env #self #core code.function (Core 𝓤 H (𝓖 .A) O.the-row Φ) (code.unfolded 𝓤 H 𝓜 𝓡) (core-thm.met 𝓤 H 𝓜 𝓖 𝓡)
+    (walk 𝓤 H (𝓖 .A) (givenOf 𝓤 H 𝓜 𝓖))

@@ -27,7 +27,8 @@ read-heart-beats-requires : tie.Need-read-heart-beats-requires
 read-heart-beats-requires c κs = search needs
 
 returns-2 : tie.Need-returns-2
-returns-2 c = c .read-heart-beats .ensures ∙ read-located (c .before .before .before .before .locate .ensures) heart-beats-of true (not-false _ (c .before .before .if1 .left))
+returns-2 c = c .read-heart-beats .ensures ∙ read-located (c .before .before .before .before .locate .ensures) heart-beats-of true
+    (not-false _ (c .before .before .if1 .left))
 
 pub client-heart-beats-spec : {M : Type 1} → statement M
 client-heart-beats-spec =

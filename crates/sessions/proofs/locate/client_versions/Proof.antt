@@ -27,7 +27,8 @@ read-versions-requires : tie.Need-read-versions-requires
 read-versions-requires c κs = search needs
 
 returns-2 : tie.Need-returns-2
-returns-2 c = c .read-versions .ensures ∙ read-located (c .before .before .before .before .locate .ensures) versions-of true (not-false _ (c .before .before .if1 .left))
+returns-2 c = c .read-versions .ensures ∙ read-located (c .before .before .before .before .locate .ensures) versions-of true
+    (not-false _ (c .before .before .if1 .left))
 
 pub client-versions-spec : {M : Type 1} → statement M
 client-versions-spec =

@@ -22,13 +22,27 @@ lacks-requires-2 : tie.Need-lacks-requires-2
 lacks-requires-2 c κs = search needs
 
 returns : tie.Need-returns
-returns c = λ block all. rw (needed-tests v1-2 (c .before .before .before .before .args .command), sym (c .before .before .before .opens .ensures) ∙ c .before .before .if1 .taken, c .before .lacks .ensures block all, c .lacks2 .ensures block all, or-no)
+returns c = λ block all. rw (
+  needed-tests v1-2 (c .before .before .before .before .args .command),
+  sym (c .before .before .before .opens .ensures) ∙
+      c .before .before .if1 .taken,
+  c .before .lacks .ensures block all,
+  c .lacks2 .ensures block all,
+  or-no,
+)
 
 lacks-requires-3 : tie.Need-lacks-requires-3
 lacks-requires-3 c κs = search needs
 
 returns-2 : tie.Need-returns-2
-returns-2 c = λ block all. rw (needed-tests v1-2 (c .before .before .before .before .args .command), sym (c .before .before .before .opens .ensures) ∙ c .before .before .if1 .left, eq-eqb _ _ (c .before .if2 .taken), c .lacks3 .ensures block all, or-no)
+returns-2 c = λ block all. rw (
+  needed-tests v1-2 (c .before .before .before .before .args .command),
+  sym (c .before .before .before .opens .ensures) ∙
+      c .before .before .if1 .left,
+  eq-eqb _ _ (c .before .if2 .taken),
+  c .lacks3 .ensures block all,
+  or-no,
+)
 
 lacks-requires-4 : tie.Need-lacks-requires-4
 lacks-requires-4 c κs = search needs
@@ -37,22 +51,63 @@ lacks-requires-5 : tie.Need-lacks-requires-5
 lacks-requires-5 c κs = search needs
 
 returns-3 : tie.Need-returns-3
-returns-3 c = λ block all. rw (needed-tests v1-2 (c .before .before .before .before .before .before .args .command), sym (c .before .before .before .before .before .opens .ensures) ∙ c .before .before .before .before .if1 .left, ne-eqb _ _ (c .before .before .before .if2 .left), eq-eqb _ _ (c .before .before .if3 .taken), c .before .lacks4 .ensures block all, c .lacks5 .ensures block all, or-no)
+returns-3 c = λ block all. rw (
+  needed-tests v1-2 (c .before .before .before .before .before .before .args .command),
+  sym
+      (c .before .before .before .before .before .opens .ensures) ∙ c .before .before .before .before .if1 .left,
+  ne-eqb _ _
+      (c .before .before .before .if2 .left),
+  eq-eqb _ _ (c .before .before .if3 .taken),
+  c .before .lacks4 .ensures block all,
+  c .lacks5 .ensures block
+      all,
+  or-no,
+)
 
 lacks-requires-6 : tie.Need-lacks-requires-6
 lacks-requires-6 c κs = search needs
 
 returns-4 : tie.Need-returns-4
-returns-4 c = λ block all. rw (needed-tests v1-2 (c .before .before .before .before .before .before .args .command), sym (c .before .before .before .before .before .opens .ensures) ∙ c .before .before .before .before .if1 .left, ne-eqb _ _ (c .before .before .before .if2 .left), ne-eqb _ _ (c .before .before .if3 .left), c .before .if4 .taken, c .lacks6 .ensures block all, or-no)
+returns-4 c = λ block all. rw (
+  needed-tests v1-2 (c .before .before .before .before .before .before .args .command),
+  sym
+      (c .before .before .before .before .before .opens .ensures) ∙ c .before .before .before .before .if1 .left,
+  ne-eqb _ _
+      (c .before .before .before .if2 .left),
+  ne-eqb _ _ (c .before .before .if3 .left),
+  c .before .if4 .taken,
+  c .lacks6 .ensures block all,
+  or-no,
+)
 
 lacks-requires-7 : tie.Need-lacks-requires-7
 lacks-requires-7 c κs = search needs
 
 returns-5 : tie.Need-returns-5
-returns-5 c = λ block all. rw (needed-tests v1-2 (c .before .before .before .before .before .before .before .args .command), sym (c .before .before .before .before .before .before .opens .ensures) ∙ c .before .before .before .before .before .if1 .left, ne-eqb _ _ (c .before .before .before .before .if2 .left), ne-eqb _ _ (c .before .before .before .if3 .left), c .before .before .if4 .left, c .before .if5 .taken, c .lacks7 .ensures block all, or-no)
+returns-5 c = λ block all. rw (
+  needed-tests v1-2 (c .before .before .before .before .before .before .before .args .command),
+  sym
+      (c .before .before .before .before .before .before .opens .ensures) ∙ c .before .before .before .before .before .if1 .left,
+  ne-eqb _ _
+      (c .before .before .before .before .if2 .left),
+  ne-eqb _ _ (c .before .before .before .if3 .left),
+  c .before .before .if4 .left,
+  c .before .if5 .taken,
+  c .lacks7 .ensures block all,
+  or-no,
+)
 
 returns-6 : tie.Need-returns-6
-returns-6 c = λ block all. rw (needed-tests v1-2 (c .before .before .before .before .before .before .args .command), sym (c .before .before .before .before .before .opens .ensures) ∙ c .before .before .before .before .if1 .left, ne-eqb _ _ (c .before .before .before .if2 .left), ne-eqb _ _ (c .before .before .if3 .left), c .before .if4 .left, c .if5 .left)
+returns-6 c = λ block all. rw (
+  needed-tests v1-2 (c .before .before .before .before .before .before .args .command),
+  sym
+      (c .before .before .before .before .before .opens .ensures) ∙ c .before .before .before .before .if1 .left,
+  ne-eqb _ _
+      (c .before .before .before .if2 .left),
+  ne-eqb _ _ (c .before .before .if3 .left),
+  c .before .if4 .left,
+  c .if5 .left,
+)
 
 pub lacks-needed-spec : {M : Type 1} → statement M
 lacks-needed-spec =

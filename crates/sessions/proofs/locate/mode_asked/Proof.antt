@@ -27,7 +27,8 @@ read-mode-requires : tie.Need-read-mode-requires
 read-mode-requires c κs = search needs
 
 returns-2 : tie.Need-returns-2
-returns-2 c = c .read-mode .ensures ∙ read-located (c .before .before .before .before .locate .ensures) mode-named true (not-false _ (c .before .before .if1 .left))
+returns-2 c = c .read-mode .ensures ∙ read-located (c .before .before .before .before .locate .ensures) mode-named true
+    (not-false _ (c .before .before .if1 .left))
 
 pub mode-asked-spec : {M : Type 1} → statement M
 mode-asked-spec =

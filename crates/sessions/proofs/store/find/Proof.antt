@@ -22,7 +22,8 @@ abbrev μ-loop : tie.MeasureT-loop
 μ-loop store lens count width id k₀ at₀ k at = count - k
 
 -- what a turn knows that has read the place's length
-here : (c : tie.After-wide Inv-loop μ-loop) → Turn (c .before .before .before .before .before .before .before .pre) (c .before .before .before .loop .inv .0) (c .wide .result)
+here : (c : tie.After-wide Inv-loop μ-loop) → Turn (c .before .before .before .before .before .before .before .pre)
+    (c .before .before .before .loop .inv .0) (c .wide .result)
 here c = record { more = c .before .before .loop-test .taken; read = c .wide .ensures .0 }
 
 loop-holds : tie.Need-loop-holds Inv-loop μ-loop
@@ -52,7 +53,8 @@ is-same-requires c κs = search needs
 returns : tie.Need-returns Inv-loop μ-loop
 returns c =
     let t = c .before .before .before in
-    sym (t .before .before .before .loop .inv .1 ∙ ap (first-from _ _) (ids-at (here t)) ∙ first-hit _ _ _ _ (sym (c .before .is-same .ensures) ∙ c .if1 .taken))
+    sym (t .before .before .before .loop .inv .1 ∙ ap (first-from _ _) (ids-at (here t)) ∙ first-hit _ _ _ _
+    (sym (c .before .is-same .ensures) ∙ c .if1 .taken))
 
 add-at : tie.Need-add-at Inv-loop μ-loop
 add-at c = omega (arith, room (here (c .before .before .before)))

@@ -27,7 +27,8 @@ shared-slice-read-if1 c = search needs
 returns : tie.Need-returns Inv-loop μ-loop
 returns c =
     let l = c .before .before .before .loop in
-    sym (l .inv .1 ∙ ap (first-from (λ x. eqb x 0) (l .k)) (drop-one _ _ 0 (c .before .before .loop-test .taken)) ∙ first-hit _ _ _ _ (eq-eqb _ _ (c .if1 .taken)))
+    sym (l .inv .1 ∙ ap (first-from (λ x. eqb x 0) (l .k)) (drop-one _ _ 0 (c .before .before .loop-test .taken)) ∙ first-hit _ _ _ _
+    (eq-eqb _ _ (c .if1 .taken)))
 
 add-k : tie.Need-add-k Inv-loop μ-loop
 add-k c = search needs
@@ -37,8 +38,11 @@ loop-less c = search needs
 
 loop-again : tie.Need-loop-again Inv-loop μ-loop
 loop-again c =
-    let l = c .before .before .before .loop in
-    (omega arith, l .inv .1 ∙ ap (first-from (λ x. eqb x 0) (l .k)) (drop-one _ _ 0 (c .before .before .loop-test .taken)) ∙ first-miss _ _ _ _ (ne-eqb _ _ (c .if1 .left)))
+    let l = c .before .before .before .loop in (
+      omega arith,
+      l .inv .1 ∙ ap (first-from (λ x. eqb x 0) (l .k)) (drop-one _ _ 0 (c .before .before .loop-test .taken)) ∙ first-miss _ _ _ _
+          (ne-eqb _ _ (c .if1 .left)),
+    )
 
 returns-2 : tie.Need-returns-2 Inv-loop μ-loop
 returns-2 c =

@@ -20,7 +20,8 @@ abbrev μ-loop : tie.MeasureT-loop
 μ-loop store lens count width k₀ at₀ k at = count - k
 
 -- what a turn knows that has read the place's length
-here : (c : tie.After-wide Inv-loop μ-loop) → Turn (c .before .before .before .before .before .before .pre) (c .before .before .before .loop .inv .0) (c .wide .result)
+here : (c : tie.After-wide Inv-loop μ-loop) → Turn (c .before .before .before .before .before .before .pre) (c .before .before .before .loop .inv .0)
+    (c .wide .result)
 here c = record { more = c .before .before .loop-test .taken; read = c .wide .ensures .0 }
 
 loop-holds : tie.Need-loop-holds Inv-loop μ-loop

@@ -18,7 +18,8 @@ use Rattle.sessions.proofs.store.is_distinct.Tie as tie
 
 abbrev Inv-loop : tie.InvT-loop
 Inv-loop store lens count width keys k₀ at₀ k at =
-    Before width count k at × (clean width (drop at store) (drop k lens) ≡ true) × (distinct (ids width store lens) ≡ distinct (ids width (drop at store) (drop k lens)))
+    Before width count k at × (clean width (drop at store) (drop k lens) ≡ true) ×
+    (distinct (ids width store lens) ≡ distinct (ids width (drop at store) (drop k lens)))
 
 abbrev μ-loop : tie.MeasureT-loop
 μ-loop store lens count width keys k₀ at₀ k at = count - k
@@ -127,8 +128,12 @@ loop-less c = search needs
 loop-again : tie.Need-loop-again Inv-loop μ-loop
 loop-again c =
     let t = c .before .before .before .before .before .before .before in
-    let l = t .before .before .before .loop in
-    (next-place (here t), rest-clean (here t) (l .inv .1), l .inv .2 ∙ distinct-next (here t) (l .inv .1) false (sym (c .if1 .left) ∙ c .before .is-repeated .ensures))
+    let l = t .before .before .before .loop in (
+      next-place (here t),
+      rest-clean (here t) (l .inv .1),
+      l .inv .2 ∙ distinct-next (here t) (l .inv .1) false
+          (sym (c .if1 .left) ∙ c .before .is-repeated .ensures),
+    )
 
 returns-2 : tie.Need-returns-2 Inv-loop μ-loop
 unfolding distinct

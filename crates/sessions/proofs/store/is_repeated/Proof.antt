@@ -23,11 +23,13 @@ is-found-requires c κs = search needs
 returns-2 : tie.Need-returns-2
 returns-2 c =
     let a = c .before .before .before .before .before .before .before .before .before .args in
-    again-found (a .id .now) (ids (a .width) (a .store .now) (a .lens .now)) (c .before .before .before .before .if1 .left) (c .before .find .result) (c .is-found .result) (c .before .find .ensures)
+    again-found (a .id .now) (ids (a .width) (a .store .now) (a .lens .now)) (c .before .before .before .before .if1 .left) (c .before .find .result)
+    (c .is-found .result) (c .before .find .ensures)
     (c .is-found .ensures)
 
 returns-3 : tie.Need-returns-3
-returns-3 c = again-missed (c .before .before .before .before .before .before .before .pre) (c .before .before .if1 .left) (sym (c .if2 .left) ∙ c .before .has-key .ensures)
+returns-3 c = again-missed (c .before .before .before .before .before .before .before .pre) (c .before .before .if1 .left)
+    (sym (c .if2 .left) ∙ c .before .has-key .ensures)
 
 pub is-repeated-spec : {M : Type 1} → statement M
 is-repeated-spec =

@@ -29,7 +29,8 @@ wide-requires c κs = search needs
 returns : tie.Need-returns Inv-loop μ-loop
 returns c =
     let l = c .before .before .before .before .loop in
-    let off = ap (λ x. leb x (c .before .before .before .before .before .before .args .width)) (sym (c .before .wide .ensures .0)) ∙ lt-leb _ _ (c .if1 .taken) in
+    let off = ap (λ x. leb x (c .before .before .before .before .before .before .args .width)) (sym (c .before .wide .ensures .0)) ∙ lt-leb _ _
+    (c .if1 .taken) in
     sym (l .inv .1 ∙ every-step _ _ _ (c .before .before .before .loop-test .taken) ∙ simp off)
 
 add-k : tie.Need-add-k Inv-loop μ-loop

@@ -68,7 +68,8 @@ returns-5 c =
     let e = c .before .before .before in
     settles-enter (a .width) (a .usage) (a .id .now) _ (e .before .before .before .if1 .left) (e .before .before .if2 .left)
     (c .before .before .find2 .result) (c .before .before .find2 .ensures) (c .entered .result) (e .enum-told3 .given .1)
-    (c .before .find-free .result) (c .before .find-free .ensures ∙ sym (first-free (a .width) (a .count) 0 (a .store .now) (a .lens .now) (s .pre))) (c .entered .ensures)
+    (c .before .find-free .result) (c .before .find-free .ensures ∙ sym (first-free (a .width) (a .count) 0 (a .store .now) (a .lens .now) (s .pre)))
+    (c .entered .ensures)
 
 returns-6 : tie.Need-returns-6
 returns-6 c =

@@ -30,7 +30,8 @@ shared-slice-read-if2 c = search needs
 returns-2 : tie.Need-returns-2 Inv-loop μ-loop
 returns-2 c =
     let l = c .before .before .before .loop in
-    sym (l .inv .1 ∙ every-step is-digit (c .before .before .before .before .before .args .part .now) (l .i) (search needs) ∙ simp (digit-low _ (c .if2 .taken)))
+    sym (l .inv .1 ∙ every-step is-digit (c .before .before .before .before .before .args .part .now) (l .i) (search needs) ∙
+    simp (digit-low _ (c .if2 .taken)))
 
 shared-slice-read-if3 : tie.Need-shared-slice-read-if3 Inv-loop μ-loop
 shared-slice-read-if3 c = search needs
@@ -38,7 +39,8 @@ shared-slice-read-if3 c = search needs
 returns-3 : tie.Need-returns-3 Inv-loop μ-loop
 returns-3 c =
     let l = c .before .before .before .before .before .loop in
-    sym (l .inv .1 ∙ every-step is-digit (c .before .before .before .before .before .before .before .args .part .now) (l .i) (search needs) ∙ simp (digit-high _ (c .if3 .taken)))
+    sym (l .inv .1 ∙ every-step is-digit (c .before .before .before .before .before .before .before .args .part .now) (l .i) (search needs) ∙
+    simp (digit-high _ (c .if3 .taken)))
 
 add-i : tie.Need-add-i Inv-loop μ-loop
 add-i c = search needs
@@ -48,8 +50,11 @@ loop-less c = search needs
 
 loop-again : tie.Need-loop-again Inv-loop μ-loop
 loop-again c =
-    let l = c .before .before .before .before .before .loop in
-    (search needs, l .inv .1 ∙ every-step is-digit (c .before .before .before .before .before .before .before .args .part .now) (l .i) (search needs) ∙ simp (digit-between _ (c .before .before .if2 .left) (c .if3 .left)))
+    let l = c .before .before .before .before .before .loop in (
+      search needs,
+      l .inv .1 ∙ every-step is-digit (c .before .before .before .before .before .before .before .args .part .now) (l .i) (search needs) ∙
+          simp (digit-between _ (c .before .before .if2 .left) (c .if3 .left)),
+    )
 
 returns-4 : tie.Need-returns-4 Inv-loop μ-loop
 returns-4 c = sym (c .before .loop .inv .1 ∙ every-end is-digit (c .before .before .before .args .part .now) (c .before .loop .i) (c .loop-test .left))

@@ -33,7 +33,8 @@ returns-2 : tie.Need-returns-2
 returns-2 c =
     let l = c .before .before .before in
     let e = l .before .end-of in
-    sym (item-front (l .before .before .before .args .item .now) (e .result) (e .ensures .0) (l .if1 .left) (sym (c .before .is-digits .ensures) ∙ not-true _ (c .if2 .taken)))
+    sym (item-front (l .before .before .before .args .item .now) (e .result) (e .ensures .0) (l .if1 .left)
+    (sym (c .before .is-digits .ensures) ∙ not-true _ (c .if2 .taken)))
 
 sub-is-digits-2 : tie.Need-sub-is-digits-2
 sub-is-digits-2 c = search needs
@@ -53,7 +54,8 @@ returns-3 c =
     let l = t .before .before .before in
     let e = l .before .end-of in
     c .is-digits2 .ensures
-    ∙ sym (item-behind (l .before .before .before .args .item .now) (e .result) (e .ensures .0) (l .if1 .left) (sym (t .before .is-digits .ensures) ∙ not-false _ (t .if2 .left)))
+    ∙ sym (item-behind (l .before .before .before .args .item .now) (e .result) (e .ensures .0) (l .if1 .left)
+    (sym (t .before .is-digits .ensures) ∙ not-false _ (t .if2 .left)))
 
 pub is-item-spec : {M : Type 1} → statement M
 is-item-spec =

@@ -18,7 +18,8 @@ no-heart-beats-requires c κs = search needs
 returns : tie.Need-returns
 returns c =
     let e = c .before .before .end-of in
-    c .no-heart-beats .ensures ∙ sym (heart-beats-none (c .before .before .before .before .args .value .now) (e .result) (e .ensures .0) (c .before .if1 .taken))
+    c .no-heart-beats .ensures ∙ sym (heart-beats-none (c .before .before .before .before .args .value .now) (e .result) (e .ensures .0)
+    (c .before .if1 .taken))
 
 add-next : tie.Need-add-next
 add-next c = search needs
@@ -50,7 +51,8 @@ returns-2 c =
     let l = d .before .before in
     let e = l .before .end-of in
     c .no-heart-beats2 .ensures
-    ∙ sym (heart-beats-front (l .before .before .before .args .value .now) (e .result) (e .ensures .0) (l .if1 .left) (d .read-decimal .result) (d .read-decimal .ensures) (c .before .enum-told .given .1))
+    ∙ sym (heart-beats-front (l .before .before .before .args .value .now) (e .result) (e .ensures .0) (l .if1 .left) (d .read-decimal .result)
+    (d .read-decimal .ensures) (c .before .enum-told .given .1))
 
 sub-read-decimal-2 : tie.Need-sub-read-decimal-2
 sub-read-decimal-2 c = search needs
@@ -66,13 +68,15 @@ read-decimal-requires-2 c κs = search needs
 
 -- where the first number is read, what the second comes to
 known : (c : tie.After-read-decimal2) (b : DecimalRead) → c .read-decimal2 .result ≡ b
-    → heart-beats (c .before .before .before .before .before .before .before .before .before .before .args .value .now) ≡ both (some (c .before .before .before .sends .given .0 .0)) (read-says b)
+    → heart-beats (c .before .before .before .before .before .before .before .before .before .before .args .value .now) ≡ both
+    (some (c .before .before .before .sends .given .0 .0)) (read-says b)
 known c b q =
     let s = c .before .before .before in
     let d = s .before .before in
     let l = d .before .before in
     let e = l .before .end-of in
-    heart-beats-both (l .before .before .before .args .value .now) (e .result) (e .ensures .0) (l .if1 .left) (d .read-decimal .result) (d .read-decimal .ensures)
+    heart-beats-both (l .before .before .before .args .value .now) (e .result) (e .ensures .0) (l .if1 .left) (d .read-decimal .result)
+    (d .read-decimal .ensures)
     (c .read-decimal2 .result) (c .read-decimal2 .ensures) (DecimalRead.Number (s .sends .given .0 .0)) b (s .sends .given .1) q
 
 enum-known-wants : tie.Need-enum-known-wants

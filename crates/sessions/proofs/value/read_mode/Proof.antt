@@ -20,7 +20,11 @@ equal-requires-2 : tie.Need-equal-requires-2
 equal-requires-2 c κs = search needs
 
 returns-2 : tie.Need-returns-2
-returns-2 c = rw (sym (c .before .before .before .before .equal .ensures) ∙ c .before .before .before .if1 .left, sym (c .before .equal2 .ensures) ∙ c .if2 .taken) refl
+returns-2 c = rw (
+  sym (c .before .before .before .before .equal .ensures) ∙ c .before .before .before .if1 .left,
+  sym (c .before .equal2 .ensures) ∙
+      c .if2 .taken,
+) refl
 
 slice-aggregate-equal-3 : tie.Need-slice-aggregate-equal-3
 slice-aggregate-equal-3 c = search needs
@@ -29,10 +33,22 @@ equal-requires-3 : tie.Need-equal-requires-3
 equal-requires-3 c κs = search needs
 
 returns-3 : tie.Need-returns-3
-returns-3 c = rw (sym (c .before .before .before .before .before .before .before .equal .ensures) ∙ c .before .before .before .before .before .before .if1 .left, sym (c .before .before .before .before .equal2 .ensures) ∙ c .before .before .before .if2 .left, sym (c .before .equal3 .ensures) ∙ c .if3 .taken) refl
+returns-3 c = rw (
+  sym (c .before .before .before .before .before .before .before .equal .ensures) ∙
+      c .before .before .before .before .before .before .if1 .left,
+  sym (c .before .before .before .before .equal2 .ensures) ∙
+      c .before .before .before .if2 .left,
+  sym (c .before .equal3 .ensures) ∙ c .if3 .taken,
+) refl
 
 returns-4 : tie.Need-returns-4
-returns-4 c = rw (sym (c .before .before .before .before .before .before .before .equal .ensures) ∙ c .before .before .before .before .before .before .if1 .left, sym (c .before .before .before .before .equal2 .ensures) ∙ c .before .before .before .if2 .left, sym (c .before .equal3 .ensures) ∙ c .if3 .left) refl
+returns-4 c = rw (
+  sym (c .before .before .before .before .before .before .before .equal .ensures) ∙
+      c .before .before .before .before .before .before .if1 .left,
+  sym (c .before .before .before .before .equal2 .ensures) ∙
+      c .before .before .before .if2 .left,
+  sym (c .before .equal3 .ensures) ∙ c .if3 .left,
+) refl
 
 pub read-mode-spec : {M : Type 1} → statement M
 read-mode-spec =

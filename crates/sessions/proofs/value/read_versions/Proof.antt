@@ -38,7 +38,8 @@ returns : tie.Need-returns Inv-loop μ-loop
 returns c =
     let h = c .before .before .before in
     let l = h .before .loop in
-    sym (l .inv .1 ∙ versions-stop (h .before .before .before .args .value .now) (l .at) (h .end-of .result) (l .flags) (h .end-of .ensures .0) (sym (c .before .is-item .ensures) ∙ not-true _ (c .if1 .taken)))
+    sym (l .inv .1 ∙ versions-stop (h .before .before .before .args .value .now) (l .at) (h .end-of .result) (l .flags) (h .end-of .ensures .0)
+    (sym (c .before .is-item .ensures) ∙ not-true _ (c .if1 .taken)))
 
 sub-with-item : tie.Need-sub-with-item Inv-loop μ-loop
 sub-with-item c = search needs
@@ -58,7 +59,8 @@ returns-2 c =
     let t = w .before .before in
     let h = t .before .before .before in
     let l = h .before .loop in
-    sym (l .inv .1 ∙ versions-end (h .before .before .before .args .value .now) (l .at) (h .end-of .result) (l .flags) (h .end-of .ensures .0) (sym (t .before .is-item .ensures) ∙ not-false _ (t .if1 .left)) (w .with-item .result) (w .with-item .ensures) (c .if2 .taken))
+    sym (l .inv .1 ∙ versions-end (h .before .before .before .args .value .now) (l .at) (h .end-of .result) (l .flags) (h .end-of .ensures .0)
+    (sym (t .before .is-item .ensures) ∙ not-false _ (t .if1 .left)) (w .with-item .result) (w .with-item .ensures) (c .if2 .taken))
 
 add-at : tie.Need-add-at Inv-loop μ-loop
 add-at c = search needs
@@ -71,8 +73,11 @@ loop-again c =
     let w = c .before in
     let t = w .before .before in
     let h = t .before .before .before in
-    let l = h .before .loop in
-    (search needs, l .inv .1 ∙ versions-turn (h .before .before .before .args .value .now) (l .at) (h .end-of .result) (l .flags) (h .end-of .ensures .0) (sym (t .before .is-item .ensures) ∙ not-false _ (t .if1 .left)) (w .with-item .result) (w .with-item .ensures) (c .if2 .left))
+    let l = h .before .loop in (
+      search needs,
+      l .inv .1 ∙ versions-turn (h .before .before .before .args .value .now) (l .at) (h .end-of .result) (l .flags)
+          (h .end-of .ensures .0) (sym (t .before .is-item .ensures) ∙ not-false _ (t .if1 .left)) (w .with-item .result) (w .with-item .ensures) (c .if2 .left),
+    )
 
 pub read-versions-spec : {M : Type 1} → statement M
 read-versions-spec =

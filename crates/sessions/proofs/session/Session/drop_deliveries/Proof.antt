@@ -14,7 +14,9 @@ enum-known-answer : tie.Need-enum-known-answer
 enum-known-answer c = search needs
 
 returns : tie.Need-returns
-returns c = drop-refused (c .before .before .before .before .args .self) (listed (entries (now (c .before .before .before .before .args .block)))) (c .before .before .before .before .args .named) (c .before .before .before .before .args .named) (c .before .answer .given .0 .0) (c .before .answer .given .1) refl
+returns c = drop-refused (c .before .before .before .before .args .self) (listed (entries (now (c .before .before .before .before .args .block))))
+    (c .before .before .before .before .args .named) (c .before .before .before .before .args .named) (c .before .answer .given .0 .0)
+    (c .before .answer .given .1) refl
 
 enum-told : tie.Need-enum-told
 enum-told c = search needs
@@ -32,10 +34,20 @@ part-without-deliveries-end : tie.Need-part-without-deliveries-end
 part-without-deliveries-end c = search needs
 
 without-deliveries-requires : tie.Need-without-deliveries-requires
-without-deliveries-requires c κs = (c .before .before .before .before .before .pre .0, subst (λ x. untouched x (c .before .before .before .before .before .args .self) (c .before .before .before .before .before .args .named)) (c .before .before .enum-told .given .1) (c .before .before .before .before .before .pre .3))
+without-deliveries-requires c κs = (
+  c .before .before .before .before .before .pre .0,
+  subst
+      (λ x. untouched x (c .before .before .before .before .before .args .self) (c .before .before .before .before .before .args .named))
+      (c .before .before .enum-told .given .1) (c .before .before .before .before .before .pre .3),
+)
 
 returns-2 : tie.Need-returns-2
-returns-2 c = drop-done (c .before .before .before .before .before .before .args .self) (listed (entries (now (c .before .before .before .before .before .before .args .block)))) (c .before .before .before .before .before .before .args .named) (c .without-deliveries .result) (value-at (now (c .before .before .before .before .before .before .args .block)) (c .before .before .locate .result)) (located-there (c .before .before .locate .ensures) (c .before .before .before .before .before .before .pre .2)) (c .before .before .before .enum-told .given .0 .0) (c .before .before .before .enum-told .given .1) (c .without-deliveries .ensures)
+returns-2 c = drop-done (c .before .before .before .before .before .before .args .self)
+    (listed (entries (now (c .before .before .before .before .before .before .args .block))))
+    (c .before .before .before .before .before .before .args .named) (c .without-deliveries .result)
+    (value-at (now (c .before .before .before .before .before .before .args .block)) (c .before .before .locate .result))
+    (located-there (c .before .before .locate .ensures) (c .before .before .before .before .before .before .pre .2))
+    (c .before .before .before .enum-told .given .0 .0) (c .before .before .before .enum-told .given .1) (c .without-deliveries .ensures)
 
 pub drop-deliveries-spec : {M : Type 1} → statement M
 drop-deliveries-spec =

@@ -16,19 +16,25 @@ kept-requires : tie.Need-kept-requires
 kept-requires c κs = search needs
 
 returns : tie.Need-returns
-returns c = heart-beat-gives (c .before .before .before .args .self) (c .before .before .before .args .time) _ (gives-kept _ 38 _ (ap not (sym (c .before .before .is-valid .ensures)) ∙ c .before .if1 .taken) refl (c .kept .ensures))
+returns c = heart-beat-gives (c .before .before .before .args .self) (c .before .before .before .args .time) _
+    (gives-kept _ 38 _ (ap not (sym (c .before .before .is-valid .ensures)) ∙ c .before .if1 .taken) refl (c .kept .ensures))
 
 refused-requires : tie.Need-refused-requires
 refused-requires c κs = search needs
 
 returns-2 : tie.Need-returns-2
-returns-2 c = heart-beat-gives (c .before .before .before .before .before .args .self) (c .before .before .before .before .before .args .time) _ (gives-on _ _ (ap not (sym (c .before .before .before .before .is-valid .ensures)) ∙ c .before .before .before .if1 .left) (gives-closed _ 40 _ (eq-eqb _ _ (c .before .if2 .taken)) refl (c .refused .ensures)))
+returns-2 c = heart-beat-gives (c .before .before .before .before .before .args .self) (c .before .before .before .before .before .args .time) _
+    (gives-on _ _ (ap not (sym (c .before .before .before .before .is-valid .ensures)) ∙ c .before .before .before .if1 .left)
+    (gives-closed _ 40 _ (eq-eqb _ _ (c .before .if2 .taken)) refl (c .refused .ensures)))
 
 accepted-requires : tie.Need-accepted-requires
 accepted-requires c κs = search needs
 
 returns-3 : tie.Need-returns-3
-returns-3 c = heart-beat-gives (c .before .before .before .before .before .args .self) (c .before .before .before .before .before .args .time) _ (gives-on _ _ (ap not (sym (c .before .before .before .before .is-valid .ensures)) ∙ c .before .before .before .if1 .left) (gives-on _ _ (ne-eqb _ _ (c .before .if2 .left)) (gives-accepted [] no-receipt (c .before .before .before .before .before .args .self) (c .before .before .before .before .before .args .self) (c .before .before .before .before .before .args .time) _ refl (c .accepted .ensures))))
+returns-3 c = heart-beat-gives (c .before .before .before .before .before .args .self) (c .before .before .before .before .before .args .time) _
+    (gives-on _ _ (ap not (sym (c .before .before .before .before .is-valid .ensures)) ∙ c .before .before .before .if1 .left)
+    (gives-on _ _ (ne-eqb _ _ (c .before .if2 .left)) (gives-accepted [] no-receipt (c .before .before .before .before .before .args .self)
+    (c .before .before .before .before .before .args .self) (c .before .before .before .before .before .args .time) _ refl (c .accepted .ensures))))
 
 pub heart-beat-spec : {M : Type 1} → statement M
 heart-beat-spec =

@@ -13,7 +13,9 @@ enum-known-answer : tie.Need-enum-known-answer
 enum-known-answer c = search needs
 
 returns : tie.Need-returns
-returns c = mode-refused (c .before .before .before .before .args .self) (listed (entries (now (c .before .before .before .before .args .block)))) (c .before .before .before .before .args .named) (c .before .before .before .before .args .named) (c .before .answer .given .0 .0) (c .before .answer .given .1) refl
+returns c = mode-refused (c .before .before .before .before .args .self) (listed (entries (now (c .before .before .before .before .args .block))))
+    (c .before .before .before .before .args .named) (c .before .before .before .before .args .named) (c .before .answer .given .0 .0)
+    (c .before .answer .given .1) refl
 
 enum-told : tie.Need-enum-told
 enum-told c = search needs
@@ -25,7 +27,13 @@ enum-known-mode : tie.Need-enum-known-mode
 enum-known-mode c = search needs
 
 with-mode-requires : tie.Need-with-mode-requires
-with-mode-requires c κs = (c .before .before .before .before .before .before .before .pre .0, subst (λ x. untouched x (c .before .before .before .before .before .before .before .args .self) (c .before .before .before .before .before .before .before .args .named)) (c .before .before .before .before .enum-told .given .1) (c .before .before .before .before .before .before .before .pre .2))
+with-mode-requires c κs = (
+  c .before .before .before .before .before .before .before .pre .0,
+  subst
+      (λ x. untouched x (c .before .before .before .before .before .before .before .args .self)
+      (c .before .before .before .before .before .before .before .args .named)) (c .before .before .before .before .enum-told .given .1)
+      (c .before .before .before .before .before .before .before .pre .2),
+)
 
 enum-told-2 : tie.Need-enum-told-2
 enum-told-2 c = search needs
@@ -34,10 +42,18 @@ refused-requires : tie.Need-refused-requires
 refused-requires c κs = search needs
 
 returns-2 : tie.Need-returns-2
-returns-2 c = mode-kept (c .before .before .before .before .before .before .before .before .args .self) (listed (entries (now (c .before .before .before .before .before .before .before .before .args .block)))) (c .before .before .before .before .before .before .before .before .args .named) (c .with-mode .result) (c .before .before .mode .given .0 .0) (sym (c .before .before .before .before .mode-asked .ensures) ∙ ap mode-says (c .before .before .mode .given .1)) (c .before .before .before .before .before .enum-told .given .0 .0) (c .before .before .before .before .before .enum-told .given .1) (c .with-mode .ensures)
+returns-2 c = mode-kept (c .before .before .before .before .before .before .before .before .args .self)
+    (listed (entries (now (c .before .before .before .before .before .before .before .before .args .block))))
+    (c .before .before .before .before .before .before .before .before .args .named) (c .with-mode .result) (c .before .before .mode .given .0 .0)
+    (sym (c .before .before .before .before .mode-asked .ensures) ∙ ap mode-says (c .before .before .mode .given .1))
+    (c .before .before .before .before .before .enum-told .given .0 .0) (c .before .before .before .before .before .enum-told .given .1) (c .with-mode .ensures)
 
 returns-3 : tie.Need-returns-3
-returns-3 c = mode-unknown (c .before .before .before .before .before .before .before .args .self) (listed (entries (now (c .before .before .before .before .before .before .before .args .block)))) (c .before .before .before .before .before .before .before .args .named) (c .refused .result) (sym (c .before .before .before .mode-asked .ensures) ∙ ap mode-says (c .before .enum-told2 .given .1)) (c .before .before .before .before .enum-told .given .0 .0) (c .before .before .before .before .enum-told .given .1) (c .refused .ensures)
+returns-3 c = mode-unknown (c .before .before .before .before .before .before .before .args .self)
+    (listed (entries (now (c .before .before .before .before .before .before .before .args .block))))
+    (c .before .before .before .before .before .before .before .args .named) (c .refused .result)
+    (sym (c .before .before .before .mode-asked .ensures) ∙ ap mode-says (c .before .enum-told2 .given .1))
+    (c .before .before .before .before .enum-told .given .0 .0) (c .before .before .before .before .enum-told .given .1) (c .refused .ensures)
 
 pub keep-mode-spec : {M : Type 1} → statement M
 keep-mode-spec =

@@ -33,10 +33,12 @@ returns : tie.Need-returns
 returns c =
     let s = c .before .before .before .before .before .before .before .before .before .before .before in
     let es = listed (entries (now (s .args .block))) in
-    both-refused (s .args .self) (c .before .before .before .before .before .before .before .before .before .namings-of .result) es (s .args .command) (c .before .before .before .before .before .before .before .before .before .namings-of .ensures .are)
+    both-refused (s .args .self) (c .before .before .before .before .before .before .before .before .before .namings-of .result) es (s .args .command)
+    (c .before .before .before .before .before .before .before .before .before .namings-of .ensures .are)
     (c .before .before .before .before .before .before .settle-naming .result) (c .before .before .before .before .before .settle-naming2 .result)
     (c .before .before .before .before .before .before .settle-naming .ensures) (c .before .before .before .before .before .settle-naming2 .ensures)
-    (c .before .before .lower .result) (c .before .before .lower .ensures ∙ ap₂ lower (c .before .before .before .before .number-of .ensures) (c .before .before .before .number-of2 .ensures))
+    (c .before .before .lower .result) (c .before .before .lower .ensures ∙ ap₂ lower (c .before .before .before .before .number-of .ensures)
+    (c .before .before .before .number-of2 .ensures))
     (c .before .if1 .taken) (s .args .acceptance) (s .args .time) (c .refused .result) (c .refused .ensures)
 
 with-settled-requires : tie.Need-with-settled-requires
@@ -51,10 +53,14 @@ returns-2 : tie.Need-returns-2
 returns-2 c =
     let s = c .before .before .before .before .before .before .before .before .before .before .before .before in
     let es = listed (entries (now (s .args .block))) in
-    both-accepted (s .args .self) (c .before .before .before .before .before .before .before .before .before .before .namings-of .result) es (s .args .command) (c .before .before .before .before .before .before .before .before .before .before .namings-of .ensures .are)
-    (c .before .before .before .before .before .before .before .settle-naming .result) (c .before .before .before .before .before .before .settle-naming2 .result)
-    (c .before .before .before .before .before .before .before .settle-naming .ensures) (c .before .before .before .before .before .before .settle-naming2 .ensures)
-    (c .before .before .before .lower .result) (c .before .before .before .lower .ensures ∙ ap₂ lower (c .before .before .before .before .before .number-of .ensures) (c .before .before .before .before .number-of2 .ensures))
+    both-accepted (s .args .self) (c .before .before .before .before .before .before .before .before .before .before .namings-of .result) es
+    (s .args .command) (c .before .before .before .before .before .before .before .before .before .before .namings-of .ensures .are)
+    (c .before .before .before .before .before .before .before .settle-naming .result)
+    (c .before .before .before .before .before .before .settle-naming2 .result)
+    (c .before .before .before .before .before .before .before .settle-naming .ensures)
+    (c .before .before .before .before .before .before .settle-naming2 .ensures)
+    (c .before .before .before .lower .result) (c .before .before .before .lower .ensures ∙ ap₂ lower
+    (c .before .before .before .before .before .number-of .ensures) (c .before .before .before .before .number-of2 .ensures))
     (c .before .before .before .before .before .before .before .before .before .before .namings-of .ensures .second-stays) (c .before .before .if1 .left)
     (c .before .with-settled .result) (c .before .with-settled .ensures) (s .args .acceptance) (s .args .time) (c .accepted .result) (c .accepted .ensures)
 
