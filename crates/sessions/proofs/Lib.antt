@@ -21,6 +21,7 @@ pub mod Uses
 pub mod Keeping
 pub mod Kept
 pub mod Delivering
+pub mod Deciding
 pub mod Told
 pub mod Histories
 pub mod Closing

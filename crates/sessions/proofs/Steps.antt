@@ -311,7 +311,7 @@ module _ (s : Session) (n : ℕ) (es : List Entry) (acceptance : Acceptance) (ti
   abbrev Then : ℕ → Type 0
   Then m = GivesThen (delivery-checks s m es) s (modes-effect s m es) (delivery-effect s m es) named r
 
-  then-delivery : Then n → GivesDelivery s n es acceptance time r
+  pub then-delivery : Then n → GivesDelivery s n es acceptance time r
   then-delivery h =
       gives-then (id-checks s (uses-of s n es)) (delivery-checks s n es) acceptance s (heard (id-effect s (changed-id (uses-of s n es))) time)
       (modes-effect s n es) (delivery-effect s n es) named r g h

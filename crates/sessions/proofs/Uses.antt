@@ -80,7 +80,7 @@ lower-none a = by (eqb a 0) refl
     by true e = sym (eqb-true a 0 e)
     by false e = refl
 
-lower-zero : (a b : ℕ) → lower a b ≡ 0 → a ≡ 0
+pub lower-zero : (a b : ℕ) → lower a b ≡ 0 → a ≡ 0
 lower-zero a b = by (eqb a 0) (eqb b 0) (ltb b a) refl refl
   where
     by : (t u w : Bool) → eqb a 0 ≡ t → eqb b 0 ≡ u → cond t b (cond u a (cond w b a)) ≡ 0 → a ≡ 0

@@ -14,4 +14,5 @@ pub mod Histories
 pub mod Places
 pub mod Reads
 pub mod Steps
+pub mod Changes
 pub mod Examples

@@ -6,7 +6,10 @@ ghost use Rattle.sessions.specs.Sessions.{subscriptions-max, transaction
 ghost use Rattle.sessions.specs.Sessions.{valid-offers, valid-agreed};
 ghost use Rattle.sessions.specs.Deliveries.{known-modes, idle-modes, valid-modes};
 ghost use Rattle.sessions.specs.Steps.{put-subscription, put-transaction, put-mode};
+ghost use Rattle.sessions.specs.Changes.{PutFits, ModeFits, put-sub, put-tx, set-modes};
 use crate::session::Session;
+use crate::step::Further;
+use crate::step::Put;
 use crate::value::HEART_BEAT_MAX;
 
 // What the server offers: it can send heart-beats every so many milliseconds, and wants to hear one every so many; and flags for the
@@ -99,6 +102,35 @@ impl SubscriptionStore {
         self
     }
 
+    // With what a frame puts in a place.
+    pub(crate) fn put(self, put: Put, block: &[u8]) -> SubscriptionStore
+        requires { ⌜ PutFits (now block) put ⌝ }
+        ensures { λ r. ⌜ r ≡ put-sub (now (block .entry)) put self ⌝ }
+    {
+        match put {
+            Put::Nothing => self,
+            Put::Subscription(p) => {
+                let start = p.start;
+                let end = p.end;
+                self.with_id(p.place, &block[start..end])
+            }
+            Put::Transaction(p) => self,
+        }
+    }
+
+    // With the mode that a frame sets.
+    pub(crate) fn set_mode(self, further: Further) -> SubscriptionStore
+        requires { ⌜ ModeFits further ⌝ }
+        ensures { λ r. ⌜ r ≡ set-modes further self ⌝ }
+    {
+        match further {
+            Further::Nothing => self,
+            Further::Mode(k, mode) => self.with_mode(k, mode),
+            Further::Drop(k) => self.with_mode(k, SubscriptionStore::AUTO),
+            Further::Settle(i) => self,
+        }
+    }
+
     // With a mode for the subscription in a place.
     pub(crate) fn with_mode(mut self, index: usize, mode: u8) -> SubscriptionStore
         requires { ⌜ index < subscriptions-max ⌝ }
@@ -152,6 +184,22 @@ impl TransactionStore {
         TransactionStore {
             ids: [0; Session::TRANSACTIONS * Session::ID],
             lens: [0; Session::TRANSACTIONS],
+        }
+    }
+
+    // With what a frame puts in a place.
+    pub(crate) fn put(self, put: Put, block: &[u8]) -> TransactionStore
+        requires { ⌜ PutFits (now block) put ⌝ }
+        ensures { λ r. ⌜ r ≡ put-tx (now (block .entry)) put self ⌝ }
+    {
+        match put {
+            Put::Nothing => self,
+            Put::Subscription(p) => self,
+            Put::Transaction(p) => {
+                let start = p.start;
+                let end = p.end;
+                self.with_id(p.place, &block[start..end])
+            }
         }
     }
 

@@ -1,32 +1,23 @@
 // One client's session, as a value.
 ghost use mathlib.Core.Path.{_≡_};
-ghost use mathlib.Core.Bool.{true, _&&_};
+ghost use mathlib.Core.Bool.{true, false, _&&_};
 ghost use mathlib.Core.Option.{some};
-ghost use mathlib.Core.List.{[]};
 ghost use Prim.Native.Nat.{_*_, _≤_, _<_};
-ghost use lib.ListN.{length, set};
+ghost use lib.ListN.{length};
 ghost use Rattle.headers.specs.Block.{entries, listed};
 ghost use Rattle.stores.specs.Searches.{search-says};
 ghost use Rattle.sessions.specs.Stores.{valid-store};
-ghost use Rattle.sessions.specs.Opening.{highest, interval};
-ghost use Rattle.sessions.specs.Sessions.{id-max, subscriptions-max, fresh, ids-of, closed, opened, valid-numbers};
-ghost use Rattle.sessions.specs.Sessions.{is-valid};
+ghost use Rattle.sessions.specs.Opening.{highest};
+ghost use Rattle.sessions.specs.Sessions.{id-max, subscriptions-max, fresh, closed, valid-numbers, is-valid};
 ghost use Rattle.sessions.specs.Answers.{answer-says, making-says, timed-out-says, delivery-says};
-ghost use Rattle.sessions.specs.Headers.{has, put-before, changed-id};
 ghost use Rattle.sessions.specs.Calls.{making-answer, made, frame-answer, frame-session, heart-beat-answer, heart-beat-session};
-ghost use Rattle.sessions.specs.Calls.{timed-out-answer, deliver-answer, deliver-session, free-place, place-named, label-named, uses-of, id-effect};
+ghost use Rattle.sessions.specs.Calls.{timed-out-answer, deliver-answer, deliver-session, free-place, place-named, lacks-needed};
 ghost use Rattle.sessions.specs.Deliveries.{auto-mode, with-mode, dropped, valid-modes};
 ghost use Rattle.sessions.specs.Held.{held-deliveries, nth, nothing-told, told-of, pending-answer};
-ghost use Rattle.sessions.specs.Places.{Settles};
 ghost use Rattle.sessions.specs.Notes.{AllNoted};
-ghost use Rattle.sessions.specs.Steps.{kept-by, closed-by, accepted-by, count-of, put-of, outcome-modes, outcome-deliveries, outcome-with};
-ghost use Rattle.sessions.specs.Steps.{unrecorded-by, recorded-as, recording-at};
-ghost use Rattle.sessions.specs.Steps.{SettlesUse, settled-number, use-named, GivesUses, GivesOpening, GivesEntries, GivesMode, GivesDropped};
-ghost use Rattle.sessions.specs.Steps.{GivesLabel, RecordsAt, MayRecord, Unchanged, Untouched};
-ghost use Rattle.sessions.specs.declared.command.Header.the-variants.{Id};
+ghost use Rattle.sessions.specs.Steps.{kept-by, closed-by, accepted-by, unrecorded-by, recorded-as, recording-at, RecordsAt, MayRecord};
+ghost use Rattle.sessions.specs.Changes.{Does, LooksLabel, LooksFurther, DecidesOpening, DecidesUses, DecidesEntries, DecidesFrame};
 use crate::command::Header;
-use crate::command::Kind;
-use crate::command::Naming;
 use crate::commands;
 use crate::delivery::Deliveries;
 use crate::notes::Notes;
@@ -35,10 +26,11 @@ use crate::parts::Offers;
 use crate::parts::SubscriptionStore;
 use crate::parts::TransactionStore;
 use crate::refusals;
-use crate::store::Settled;
-use crate::store::Use;
+use crate::step::Change;
+use crate::step::Further;
+use crate::step::Looked;
+use crate::step::Step;
 use crate::value::HEART_BEAT_MAX;
-use crate::value::HeartBeatsRead;
 use crate::value::ModeRead;
 use stores::Search;
 
@@ -120,30 +112,6 @@ pub enum TimedOut {
     Yes,
     No,
     Invalid,
-}
-
-impl Outcome {
-    // With a mode for the subscription in a place.
-    fn with_mode(self, place: usize, mode: u8) -> Outcome
-        requires { ⌜ place < subscriptions-max ⌝ }
-        ensures { λ r. ⌜ r ≡ outcome-modes self (set (self .session .subscriptions .modes) place mode) ⌝ }
-    {
-        let answer = self.answer;
-        let mut session = self.session;
-        let subscriptions = session.subscriptions;
-        session.subscriptions = subscriptions.with_mode(place, mode);
-        Outcome { session, answer }
-    }
-
-    // With other deliveries.
-    fn with_deliveries(self, deliveries: Deliveries) -> Outcome
-        ensures { λ r. ⌜ r ≡ outcome-deliveries self deliveries ⌝ }
-    {
-        let answer = self.answer;
-        let mut session = self.session;
-        session.deliveries = deliveries;
-        Outcome { session, answer }
-    }
 }
 
 // Nothing is told of a pending delivery.
@@ -366,183 +334,33 @@ impl Session {
         TimedOut::No
     }
 
-    // The session open, with what both sides came to.
-    fn opened(mut self, shared: [bool; 3], client: HeartBeatsRead) -> Session
-        ensures { λ r. ⌜ r ≡ opened self shared (interval (client .sends) (self .offers .wants)) (interval (self .offers .sends) (client .wants)) ⌝ }
-    {
-        let inbound = crate::value::interval(client.sends, self.offers.wants);
-        let outbound = crate::value::interval(self.offers.sends, client.wants);
-        let agreed = Agreed {
-            inbound,
-            outbound,
-            versions: shared,
-        };
-        self.agreed = agreed;
-        self.phase = Session::OPEN;
-        self
-    }
-
-    // The opening frame, with every header that it needs.
-    fn open(self, notes: Notes, block: &[u8], acceptance: Acceptance, time: u32) -> Outcome
+    // The opening frame, with every header that it needs: it opens the session with what both sides came to.
+    fn open(self, notes: Notes, block: &[u8], acceptance: Acceptance) -> Step
         requires { ⌜ AllNoted (now block) notes ⌝ }
-        ensures { λ r. ⌜ GivesOpening self (listed (entries (now (block .entry)))) acceptance time r ⌝ }
+        ensures { λ r. ⌜ DecidesOpening self (now (block .entry)) acceptance r ⌝ }
     {
         let client = crate::locate::client_versions(notes, block);
         if !client.valid {
-            return self.refused(refusals::BAD_VERSIONS);
+            return crate::step::closing(refusals::BAD_VERSIONS);
         }
         let flags = client.flags;
         let offered = self.offers.versions;
         let shared = crate::value::share(flags, offered);
         if crate::value::is_none_shared(shared) {
-            return self.refused(refusals::NO_VERSION);
+            return crate::step::closing(refusals::NO_VERSION);
         }
         let heart_beats = crate::locate::client_heart_beats(notes, block);
         if !heart_beats.valid {
-            return self.refused(refusals::BAD_HEART_BEAT);
+            return crate::step::closing(refusals::BAD_HEART_BEAT);
         }
-        self.opened(shared, heart_beats).accepted(acceptance, time)
-    }
-
-    // The session with an id in a place of a kind.
-    fn with_id(mut self, kind: Kind, index: usize, id: &[u8]) -> Session
-        requires { ⌜ (index < count-of kind) × (length (now id) ≤ id-max) ⌝ }
-        ensures { λ r. ⌜ r ≡ put-of kind self index (now (id .entry)) ⌝ }
-    {
-        match kind {
-            Kind::Subscriptions => {
-                let subscriptions = self.subscriptions;
-                self.subscriptions = subscriptions.with_id(index, id);
-            }
-            Kind::Transactions => {
-                let transactions = self.transactions;
-                self.transactions = transactions.with_id(index, id);
-            }
-        }
-        self
-    }
-
-    // What becomes of a use of an id of a kind.
-    fn settle(self, kind: Kind, id: &[u8], usage: Use) -> Settled
-        requires { ⌜ is-valid self ≡ true ⌝ }
-        ensures { λ r. ⌜ Settles id-max usage (now (id .entry)) (ids-of kind self) r ⌝ }
-    {
-        match kind {
-            Kind::Subscriptions => {
-                let ids = self.subscriptions.ids;
-                let lens = self.subscriptions.lens;
-                crate::store::settle(&ids, &lens, Session::SUBSCRIPTIONS, Session::ID, id, usage)
-            }
-            Kind::Transactions => {
-                let ids = self.transactions.ids;
-                let lens = self.transactions.lens;
-                crate::store::settle(&ids, &lens, Session::TRANSACTIONS, Session::ID, id, usage)
-            }
-        }
-    }
-
-    // What the store makes of an id that a frame may name.
-    fn settle_naming(self, naming: Naming, notes: Notes, block: &[u8]) -> Settled
-        requires { ⌜ (is-valid self ≡ true) × AllNoted (now block) notes ⌝ }
-        ensures { λ r. ⌜ SettlesUse self (use-named naming (listed (entries (now (block .entry))))) r ⌝ }
-    {
-        let usage = naming.usage;
-        if !crate::command::names_id(usage) {
-            return Settled::Kept;
-        }
-        let header = naming.header;
-        let l = crate::locate::locate(notes, block, header);
-        if !l.present {
-            return Settled::Kept;
-        }
-        let start = l.start;
-        let end = l.end;
-        let kind = naming.kind;
-        self.settle(kind, &block[start..end], usage)
-    }
-
-    // The session with an id entered or freed, as the store settled it.
-    fn with_settled(self, naming: Naming, settled: Settled, notes: Notes, block: &[u8]) -> Session
-        requires { ⌜
-            (is-valid self ≡ true) × AllNoted (now block) notes × SettlesUse self (use-named naming (listed (entries (now block)))) settled
-            ⌝ }
-        ensures { λ r. ⌜
-            (settled-number settled ≡ 0
-            → r ≡ id-effect self (changed-id (put-before (use-named naming (listed (entries (now (block .entry))))) [])))
-            ⌝ }
-    {
-        match settled {
-            Settled::Refused(n) => self,
-            Settled::Kept => self,
-            Settled::Put(k) => {
-                let header = naming.header;
-                let l = crate::locate::locate(notes, block, header);
-                let usage = naming.usage;
-                let start = l.start;
-                let end = l.end;
-                let kind = naming.kind;
-                let n = start + crate::store::stored_length(usage, end - start);
-                self.with_id(kind, k, &block[start..n])
-            }
-        }
-    }
-
-    // The ids that a frame names: the lowest number of those that are refused, or the session with an id entered or freed.
-    fn use_ids(
-        self,
-        command: u32,
-        notes: Notes,
-        block: &[u8],
-        acceptance: Acceptance,
-        time: u32,
-    ) -> Outcome
-        requires { ⌜ (is-valid self ≡ true) × AllNoted (now block) notes ⌝ }
-        ensures { λ r. ⌜ GivesUses self (uses-of self command (listed (entries (now (block .entry))))) acceptance time r ⌝ }
-    {
-        let namings = crate::command::namings_of(command);
-        let first = namings.first;
-        let second = namings.second;
-        let settled = self.settle_naming(first, notes, block);
-        let other = self.settle_naming(second, notes, block);
-        let number = crate::store::lower(
-            crate::store::number_of(settled),
-            crate::store::number_of(other),
-        );
-        if number != 0 {
-            return self.refused(number);
-        }
-        self.with_settled(first, settled, notes, block)
-            .accepted(acceptance, time)
-    }
-
-    // An outcome that was accepted, with a mode for the subscription that was entered in the first free place. A free place has auto.
-    fn with_mode(self, named: Outcome, mode: u8) -> Outcome
-        requires { ⌜ (is-valid self ≡ true) × Unchanged self (named .session) ⌝ }
-        ensures { λ r. ⌜ r ≡ outcome-with named (with-mode (free-place self) mode (self .subscriptions .modes)) (self .deliveries) ⌝ }
-    {
-        if mode == SubscriptionStore::AUTO {
-            return named;
-        }
-        let lens = self.subscriptions.lens;
-        match crate::store::find_free(&lens) {
-            Search::At(k) => named.with_mode(k, mode),
-            Search::Nowhere => named,
-        }
-    }
-
-    // A SUBSCRIBE whose id was settled: the ack mode that it asks for, or 49.
-    fn keep_mode(self, named: Outcome, notes: Notes, block: &[u8]) -> Outcome
-        requires { ⌜ (is-valid self ≡ true) × AllNoted (now block) notes × Untouched self named ⌝ }
-        ensures { λ r. ⌜ GivesMode self (listed (entries (now (block .entry)))) named r ⌝ }
-    {
-        let answer = named.answer;
-        if let SessionAnswer::Refused(n) = answer {
-            return named;
-        }
-        match crate::locate::mode_asked(notes, block) {
-            ModeRead::Mode(mode) => self.with_mode(named, mode),
-            ModeRead::Unknown => self.refused(refusals::UNKNOWN_MODE),
-        }
+        let inbound = crate::value::interval(heart_beats.sends, self.offers.wants);
+        let outbound = crate::value::interval(self.offers.sends, heart_beats.wants);
+        let agreed = Agreed {
+            inbound,
+            outbound,
+            versions: shared,
+        };
+        crate::step::opening(acceptance, agreed)
     }
 
     // The place of a subscription's id.
@@ -555,102 +373,166 @@ impl Session {
         crate::store::find(&ids, &lens, Session::SUBSCRIPTIONS, Session::ID, id)
     }
 
-    // An outcome that was accepted, with the mode and the deliveries of a subscription dropped, by its id. Most often no subscription has
-    // either, and none is looked for.
-    fn without_deliveries(self, named: Outcome, id: &[u8]) -> Outcome
-        requires { ⌜ (is-valid self ≡ true) × Unchanged self (named .session) ⌝ }
+    // A SUBSCRIBE with a mode: the first free place, which its id takes, gets it. A free place has auto.
+    fn keep_mode(self, mode: u8) -> Further
+        requires { ⌜ is-valid self ≡ true ⌝ }
+        ensures { λ r. ⌜ Does self (with-mode (free-place self) mode (self .subscriptions .modes)) (self .deliveries) r ⌝ }
+    {
+        if mode == SubscriptionStore::AUTO {
+            return Further::Nothing;
+        }
+        let lens = self.subscriptions.lens;
+        match crate::store::find_free(&lens) {
+            Search::At(k) => Further::Mode(k, mode),
+            Search::Nowhere => Further::Nothing,
+        }
+    }
+
+    // An UNSUBSCRIBE of an id: the mode and the deliveries of the subscription are dropped. Most often no subscription has either, and
+    // none is looked for.
+    fn drop_deliveries(self, id: &[u8]) -> Further
+        requires { ⌜ is-valid self ≡ true ⌝ }
         ensures { λ r. ⌜
-            r
-            ≡ outcome-with named (with-mode (place-named self (some (now (id .entry)))) auto-mode (self .subscriptions .modes))
-            (dropped (place-named self (some (now (id .entry)))) (self .deliveries))
+            Does self (with-mode (place-named self (some (now (id .entry)))) auto-mode (self .subscriptions .modes))
+            (dropped (place-named self (some (now (id .entry)))) (self .deliveries)) r
             ⌝ }
     {
-        let deliveries = self.deliveries;
         let modes = self.subscriptions.modes;
-        if (deliveries.count == 0) & stores::is_zero(&modes) {
-            return named;
+        let count = self.deliveries.count;
+        if (count == 0) & stores::is_zero(&modes) {
+            return Further::Nothing;
         }
         match self.find_subscription(id) {
-            Search::At(k) => named
-                .with_mode(k, SubscriptionStore::AUTO)
-                .with_deliveries(deliveries.dropped(k)),
-            Search::Nowhere => named,
+            Search::At(k) => Further::Drop(k),
+            Search::Nowhere => Further::Nothing,
         }
     }
 
-    // An UNSUBSCRIBE whose id was settled: the deliveries of the subscription are dropped.
-    fn drop_deliveries(self, named: Outcome, notes: Notes, block: &[u8]) -> Outcome
-        requires { ⌜ (is-valid self ≡ true) × AllNoted (now block) notes × (has Id (listed (entries (now block))) ≡ true) × Untouched self named ⌝ }
-        ensures { λ r. ⌜ GivesDropped self (listed (entries (now (block .entry)))) named r ⌝ }
+    // An ACK or NACK of a label: the delivery is settled, or 60.
+    fn settle_label(self, label: &[u8]) -> Looked
+        requires { ⌜ is-valid self ≡ true ⌝ }
+        ensures { λ r. ⌜ LooksLabel self (now (label .entry)) r ⌝ }
     {
-        let answer = named.answer;
-        if let SessionAnswer::Refused(n) = answer {
-            return named;
-        }
-        let l = crate::locate::locate(notes, block, Header::Id);
-        let start = l.start;
-        let end = l.end;
-        self.without_deliveries(named, &block[start..end])
-    }
-
-    // A pending delivery settled, by its label, in an outcome that was accepted; or 60.
-    fn settle_label(self, named: Outcome, label: &[u8]) -> Outcome
-        requires { ⌜ (is-valid self ≡ true) × Untouched self named ⌝ }
-        ensures { λ r. ⌜ GivesLabel self (some (now (label .entry))) named r ⌝ }
-    {
-        let answer = named.answer;
-        if let SessionAnswer::Refused(n) = answer {
-            return named;
-        }
         let deliveries = self.deliveries;
-        let modes = self.subscriptions.modes;
         match deliveries.find(label) {
-            Search::At(i) => named.with_deliveries(deliveries.settled(i, &modes)),
-            Search::Nowhere => self.refused(refusals::NOT_PENDING),
+            Search::At(i) => {
+                let further = Further::Settle(i);
+                Looked::Does(further)
+            }
+            Search::Nowhere => Looked::Refused(refusals::NOT_PENDING),
         }
     }
 
-    // An ACK or NACK whose transaction was settled: the delivery that its id names is settled, or 60.
-    fn settle_delivery(self, named: Outcome, notes: Notes, block: &[u8]) -> Outcome
-        requires { ⌜ (is-valid self ≡ true) × AllNoted (now block) notes × (has Id (listed (entries (now block))) ≡ true) × Untouched self named ⌝ }
-        ensures { λ r. ⌜ GivesLabel self (label-named (listed (entries (now (block .entry))))) named r ⌝ }
+    // What a frame whose ids are settled does to modes and deliveries, or 49 or 60.
+    fn further(self, command: u32, notes: Notes, block: &[u8]) -> Looked
+        requires { ⌜
+            (is-valid self ≡ true) × AllNoted (now block) notes × (lacks-needed self command (listed (entries (now block))) ≡ false)
+            ⌝ }
+        ensures { λ r. ⌜ LooksFurther self command (listed (entries (now (block .entry)))) r ⌝ }
     {
+        if command == commands::SUBSCRIBE {
+            return match crate::locate::mode_asked(notes, block) {
+                ModeRead::Mode(mode) => {
+                    let further = self.keep_mode(mode);
+                    Looked::Does(further)
+                }
+                ModeRead::Unknown => Looked::Refused(refusals::UNKNOWN_MODE),
+            };
+        }
         let l = crate::locate::locate(notes, block, Header::Id);
         let start = l.start;
         let end = l.end;
-        self.settle_label(named, &block[start..end])
+        if command == commands::UNSUBSCRIBE {
+            let further = self.drop_deliveries(&block[start..end]);
+            return Looked::Does(further);
+        }
+        if crate::command::settles(command) {
+            return self.settle_label(&block[start..end]);
+        }
+        Looked::Does(Further::Nothing)
+    }
+
+    // The ids that a frame names, and what it does to modes and deliveries: the lowest number of those that are refused, or what changes.
+    fn use_ids(self, command: u32, notes: Notes, block: &[u8], acceptance: Acceptance) -> Step
+        requires { ⌜
+            (is-valid self ≡ true) × AllNoted (now block) notes × (lacks-needed self command (listed (entries (now block))) ≡ false)
+            ⌝ }
+        ensures { λ r. ⌜ DecidesUses self command (now (block .entry)) acceptance r ⌝ }
+    {
+        let namings = crate::command::namings_of(command);
+        let first = namings.first;
+        let second = namings.second;
+        let settled = crate::step::settle_naming(
+            &self.subscriptions.ids,
+            &self.subscriptions.lens,
+            &self.transactions.ids,
+            &self.transactions.lens,
+            first,
+            notes,
+            block,
+        );
+        let other = crate::step::settle_naming(
+            &self.subscriptions.ids,
+            &self.subscriptions.lens,
+            &self.transactions.ids,
+            &self.transactions.lens,
+            second,
+            notes,
+            block,
+        );
+        let number = crate::store::lower(
+            crate::store::number_of(settled),
+            crate::store::number_of(other),
+        );
+        if number != 0 {
+            return crate::step::closing(number);
+        }
+        match self.further(command, notes, block) {
+            Looked::Refused(n) => crate::step::closing(n),
+            Looked::Does(further) => {
+                let put = crate::step::put_of(first, settled, notes, block);
+                crate::step::accepting(acceptance, crate::step::use_of(put, further))
+            }
+        }
     }
 
     // A frame of a known command in its phase, with a well-formed block, of a valid session.
-    fn act(self, command: u32, notes: Notes, block: &[u8], time: u32) -> Outcome
+    fn act(self, command: u32, notes: Notes, block: &[u8]) -> Step
         requires { ⌜ (is-valid self ≡ true) × AllNoted (now block) notes ⌝ }
-        ensures { λ r. ⌜ GivesEntries self command (listed (entries (now (block .entry)))) time r ⌝ }
+        ensures { λ r. ⌜ DecidesEntries self command (now (block .entry)) r ⌝ }
     {
         if crate::locate::lacks_needed(command, notes) {
-            return self.refused(refusals::MISSING);
+            return crate::step::closing(refusals::MISSING);
         }
         let acceptance = crate::locate::acceptance(command, notes);
         if crate::command::opens(command) {
-            return self.open(notes, block, acceptance, time);
+            return self.open(notes, block, acceptance);
         }
         if command == commands::DISCONNECT {
-            return self.closed().accepted(acceptance, time);
+            return crate::step::accepting(acceptance, Change::Disconnect);
         }
-        let named = self.use_ids(command, notes, block, acceptance, time);
-        if command == commands::SUBSCRIBE {
-            return self.keep_mode(named, notes, block);
-        }
-        if command == commands::UNSUBSCRIBE {
-            return self.drop_deliveries(named, notes, block);
-        }
-        if crate::command::settles(command) {
-            return self.settle_delivery(named, notes, block);
-        }
-        named
+        self.use_ids(command, notes, block, acceptance)
     }
 
-    // A frame: its command's number, its header block and when it came.
-    pub fn frame(self, command: u32, block: &[u8], time: u32) -> Outcome
+    // A frame of a valid session: what it is answered, and what becomes of the session.
+    fn decide(self, command: u32, block: &[u8]) -> Step
+        requires { ⌜ is-valid self ≡ true ⌝ }
+        ensures { λ r. ⌜ DecidesFrame self command (now (block .entry)) r ⌝ }
+    {
+        let notes = crate::notes::note(block);
+        if crate::command::is_unknown(command) | !notes.valid {
+            return crate::step::keeping(refusals::MALFORMED);
+        }
+        let number = crate::command::phase_refusal(self.phase, command);
+        if number != 0 {
+            return crate::step::closing(number);
+        }
+        self.act(command, notes, block)
+    }
+
+    // A frame: its command's number, its header block and when it came. All is decided first. Then the session is changed, part by part,
+    // since each time that it is passed on whole it is copied.
+    pub fn frame(mut self, command: u32, block: &[u8], time: u32) -> Outcome
         ensures { λ r. ⌜
             (answer-says (r .answer) ≡ frame-answer self command (now (block .entry)))
             × (r .session ≡ frame-session self command (now (block .entry)) time)
@@ -676,16 +558,56 @@ impl Session {
         if !(numbers & (ids & (deliveries & ((self.phase == Session::OPEN) | (count == 0))))) {
             return self.kept(refusals::INVALID);
         }
-        let notes = crate::notes::note(block);
-        if crate::command::is_unknown(command) | !notes.valid {
-            return self.kept(refusals::MALFORMED);
+        let step = self.decide(command, block);
+        let change = step.change;
+        let answer = step.answer;
+        let agreed = step.agreed;
+        match change {
+            Change::Nothing => {}
+            Change::Close => {
+                self.phase = Session::CLOSED;
+                self.deliveries = Deliveries::none();
+            }
+            Change::Disconnect => {
+                self.phase = Session::CLOSED;
+                self.deliveries = Deliveries::none();
+                self.last_heard = time;
+            }
+            Change::Open => {
+                self.agreed = agreed;
+                self.phase = Session::OPEN;
+                self.last_heard = time;
+            }
+            Change::Hear => {
+                self.last_heard = time;
+            }
+            Change::Use(put, further) => {
+                let modes = self.subscriptions.modes;
+                let subscriptions = self.subscriptions;
+                self.subscriptions = subscriptions.put(put, block).set_mode(further);
+                let transactions = self.transactions;
+                self.transactions = transactions.put(put, block);
+                self.last_heard = time;
+                match further {
+                    Further::Nothing => {}
+                    Further::Mode(k, mode) => {}
+                    Further::Drop(k) => {
+                        let pending = self.deliveries;
+                        self.deliveries = pending.dropped(k);
+                    }
+                    Further::Settle(i) => {
+                        let pending = self.deliveries;
+                        self.deliveries = pending.settled(i, &modes);
+                    }
+                }
+            }
         }
-        let number = crate::command::phase_refusal(self.phase, command);
-        if number != 0 {
-            return self.refused(number);
+        Outcome {
+            session: self,
+            answer,
         }
-        self.act(command, notes, block, time)
     }
+
     // No delivery recorded, the session as it was.
     fn unrecorded(self, number: u32) -> Recording
         ensures { λ r. ⌜ r ≡ unrecorded-by self number ⌝ }

@@ -1,64 +1,86 @@
--- `session::Session::drop_deliveries` meets its contract: refused already, or dropped. Assumes nothing.
-use mathlib.Core.Path.{refl, subst}
+-- `session::Session::drop_deliveries` meets its contract, by the place of the id. Assumes nothing.
+use mathlib.Core.Path.{_≡_, sym, ap, _∙_}
+use mathlib.Core.Bool.{true, _&&_}
+use mathlib.Core.Option.{some}
 use denote.Ref.{now}
-use Rattle.headers.specs.Block.{entries, listed}
-use Rattle.sessions.proofs.Steps.{drop-refused, drop-done}
-use Rattle.sessions.proofs.Locating.{located-there}
-use Rattle.sessions.specs.Notes.{value-at}
-use Rattle.sessions.specs.Steps.{untouched}
+use lib.Dec.{eqb}
+use borrow.Author.Tests.{eqb-true}
+use Rattle.headers.specs.Rows.{same}
+use Rattle.headers.proofs.Rows.{and-left, and-right}
+use Rattle.stores.specs.Places.{is-zero}
+use Rattle.sessions.specs.Sessions.{is-valid}
+use Rattle.sessions.specs.Deliveries.{auto-mode, with-mode, dropped}
+use Rattle.sessions.specs.Calls.{place-named}
+use Rattle.sessions.proofs.Kept.{Kept, kept-of}
+use Rattle.sessions.proofs.Delivering.{laid-of, place-inside, says-at, says-nowhere, dropped-idle, modes-idle}
+use Rattle.sessions.proofs.Deciding.{does-nothing, does-drop}
 use borrow.Author.Needs.{needs}
 use Rattle.sessions.proofs.session.Session.drop_deliveries.Statement.{statement}
 use Rattle.sessions.proofs.session.Session.drop_deliveries.Tie as tie
 
-enum-known-answer : tie.Need-enum-known-answer
-enum-known-answer c = search needs
+-- a valid session, with the sizes of its arrays
+kept : (c : tie.Start) → is-valid (c .args .self) ≡ true → Kept (c .args .self)
+kept c v =
+    let subs = c .good .0 .1 .1 .1 .1 .0 in
+    let txs = c .good .0 .1 .1 .1 .1 .1 .0 in
+    let ds = c .good .0 .1 .1 .1 .1 .1 .1 .0 in
+    kept-of (c .args .self)
+    (record {
+      subscriptions = record { ids-long = search (needs, subs); lens-long = search (needs, subs); modes-long = search (needs, subs) };
+      transactions = record { ids-long = search (needs, txs); lens-long = search (needs, txs) };
+    })
+    (record { labels-long = search (needs, ds); lens-long = search (needs, ds); places-long = search (needs, ds) }) v
+
+slice-aggregate-is-zero : tie.Need-slice-aggregate-is-zero
+slice-aggregate-is-zero c = search needs
+
+is-zero-requires : tie.Need-is-zero-requires
+is-zero-requires c κs = search needs
 
 returns : tie.Need-returns
-returns c = drop-refused (c .before .before .before .before .args .self) (listed (entries (now (c .before .before .before .before .args .block))))
-    (c .before .before .before .before .args .named) (c .before .before .before .before .args .named) (c .before .answer .given .0 .0)
-    (c .before .answer .given .1) refl
+returns c =
+    let s = c .before .before .before .before .before in
+    let a = s .args in
+    let held = kept s (s .pre) in
+    let d = a .self .deliveries in
+    let ms = a .self .subscriptions .modes in
+    let o = place-named (a .self) (some (now (a .id))) in
+    let idle : eqb (d .count) 0 && is-zero ms ≡ true = ap (eqb (d .count) 0 &&_) (sym (c .before .is-zero .ensures)) ∙ c .if1 .taken in
+    does-nothing (a .self) _ _ (sym (modes-idle ms o (and-right (eqb (d .count) 0) (is-zero ms) idle)))
+    (sym (dropped-idle d (held .holds .sized) (laid-of (a .self) held) o (eqb-true (d .count) 0 (and-left (eqb (d .count) 0) (is-zero ms) idle))))
+
+find-subscription-requires : tie.Need-find-subscription-requires
+find-subscription-requires c κs = search needs
+
+enum-known-k : tie.Need-enum-known-k
+enum-known-k c = search needs
 
 enum-told : tie.Need-enum-told
 enum-told c = search needs
 
-locate-requires : tie.Need-locate-requires
-locate-requires c κs = search needs
-
-sub-without-deliveries : tie.Need-sub-without-deliveries
-sub-without-deliveries c = search needs
-
-part-without-deliveries-start : tie.Need-part-without-deliveries-start
-part-without-deliveries-start c = search needs
-
-part-without-deliveries-end : tie.Need-part-without-deliveries-end
-part-without-deliveries-end c = search needs
-
-without-deliveries-requires : tie.Need-without-deliveries-requires
-without-deliveries-requires c κs = (
-  c .before .before .before .before .before .pre .0,
-  subst
-      (λ x. untouched x (c .before .before .before .before .before .args .self) (c .before .before .before .before .before .args .named))
-      (c .before .before .enum-told .given .1) (c .before .before .before .before .before .pre .3),
-)
-
 returns-2 : tie.Need-returns-2
-returns-2 c = drop-done (c .before .before .before .before .before .before .args .self)
-    (listed (entries (now (c .before .before .before .before .before .before .args .block))))
-    (c .before .before .before .before .before .before .args .named) (c .without-deliveries .result)
-    (value-at (now (c .before .before .before .before .before .before .args .block)) (c .before .before .locate .result))
-    (located-there (c .before .before .locate .ensures) (c .before .before .before .before .before .before .pre .2))
-    (c .before .before .before .enum-told .given .0 .0) (c .before .before .before .enum-told .given .1) (c .without-deliveries .ensures)
+returns-2 c =
+    let s = c .before .before .before .before .before .before .before .before .before in
+    let a = s .args in
+    let found = says-at _ _ _ (c .before .before .before .find-subscription .ensures) (c .before .k .given .1) in
+    does-drop (a .self) (place-named (a .self) (some (now (a .id)))) _ found
+    (place-inside (a .self) (kept s (s .pre)) (λ x. same x (now (a .id))) _ found)
+
+returns-3 : tie.Need-returns-3
+returns-3 c =
+    let a = c .before .before .before .before .before .before .before .before .args in
+    let missed = says-nowhere _ _ (c .before .before .find-subscription .ensures) (c .enum-told .given .1) in
+    does-nothing (a .self) _ _ (ap (λ o. with-mode o auto-mode (a .self .subscriptions .modes)) missed) (ap (λ o. dropped o (a .self .deliveries)) missed)
 
 pub drop-deliveries-spec : {M : Type 1} → statement M
 drop-deliveries-spec =
     tie.close
     (tie.spec
-    enum-known-answer
+    slice-aggregate-is-zero
+    is-zero-requires
     returns
+    find-subscription-requires
+    enum-known-k
     enum-told
-    locate-requires
-    sub-without-deliveries
-    part-without-deliveries-start
-    part-without-deliveries-end
-    without-deliveries-requires
-    returns-2)
+    returns-2
+    returns-3)

@@ -1,71 +1,72 @@
--- `session::Session::keep_mode` meets its contract: refused already; a mode; or 49. Assumes nothing.
-use mathlib.Core.Path.{refl, sym, _∙_, ap, subst}
-use denote.Ref.{now}
-use Rattle.headers.specs.Block.{entries, listed}
-use Rattle.sessions.proofs.Steps.{mode-refused, mode-unknown, mode-kept}
-use Rattle.sessions.specs.Reads.{mode-says}
-use Rattle.sessions.specs.Steps.{untouched}
+-- `session::Session::keep_mode` meets its contract, by the first free place. Assumes nothing.
+use mathlib.Core.Path.{_≡_, refl, sym, ap, _∙_}
+use mathlib.Core.Bool.{true}
+use Rattle.sessions.specs.Sessions.{is-valid}
+use Rattle.sessions.proofs.Kept.{Kept, kept-of}
+use Rattle.headers.specs.Rows.{empty}
+use Rattle.sessions.specs.Deliveries.{with-mode}
+use Rattle.sessions.specs.Calls.{free-place}
+use Rattle.sessions.proofs.Delivering.{free-is, place-inside, says-at, says-nowhere, entered-auto}
+use Rattle.sessions.proofs.Deciding.{does-nothing, does-mode}
 use borrow.Author.Needs.{needs}
 use Rattle.sessions.proofs.session.Session.keep_mode.Statement.{statement}
 use Rattle.sessions.proofs.session.Session.keep_mode.Tie as tie
 
-enum-known-answer : tie.Need-enum-known-answer
-enum-known-answer c = search needs
+-- a valid session, with the sizes of its arrays
+kept : (c : tie.Start) → is-valid (c .args .self) ≡ true → Kept (c .args .self)
+kept c v =
+    let subs = c .good .0 .1 .1 .1 .1 .0 in
+    let txs = c .good .0 .1 .1 .1 .1 .1 .0 in
+    let ds = c .good .0 .1 .1 .1 .1 .1 .1 .0 in
+    kept-of (c .args .self)
+    (record {
+      subscriptions = record { ids-long = search (needs, subs); lens-long = search (needs, subs); modes-long = search (needs, subs) };
+      transactions = record { ids-long = search (needs, txs); lens-long = search (needs, txs) };
+    })
+    (record { labels-long = search (needs, ds); lens-long = search (needs, ds); places-long = search (needs, ds) }) v
 
 returns : tie.Need-returns
-returns c = mode-refused (c .before .before .before .before .args .self) (listed (entries (now (c .before .before .before .before .args .block))))
-    (c .before .before .before .before .args .named) (c .before .before .before .before .args .named) (c .before .answer .given .0 .0)
-    (c .before .answer .given .1) refl
+returns c =
+    let s = c .before in
+    let a = s .args in
+    let auto = entered-auto (a .self) (kept s (s .pre)) in
+    does-nothing (a .self) _ _ (ap (λ m. with-mode (free-place (a .self)) m (a .self .subscriptions .modes)) (c .if1 .taken) ∙ sym auto) refl
+
+slice-aggregate-find-free : tie.Need-slice-aggregate-find-free
+slice-aggregate-find-free c = search needs
+
+find-free-requires : tie.Need-find-free-requires
+find-free-requires c κs = search needs
+
+enum-known-k : tie.Need-enum-known-k
+enum-known-k c = search needs
 
 enum-told : tie.Need-enum-told
 enum-told c = search needs
 
-mode-asked-requires : tie.Need-mode-asked-requires
-mode-asked-requires c κs = search needs
-
-enum-known-mode : tie.Need-enum-known-mode
-enum-known-mode c = search needs
-
-with-mode-requires : tie.Need-with-mode-requires
-with-mode-requires c κs = (
-  c .before .before .before .before .before .before .before .pre .0,
-  subst
-      (λ x. untouched x (c .before .before .before .before .before .before .before .args .self)
-      (c .before .before .before .before .before .before .before .args .named)) (c .before .before .before .before .enum-told .given .1)
-      (c .before .before .before .before .before .before .before .pre .2),
-)
-
-enum-told-2 : tie.Need-enum-told-2
-enum-told-2 c = search needs
-
-refused-requires : tie.Need-refused-requires
-refused-requires c κs = search needs
-
 returns-2 : tie.Need-returns-2
-returns-2 c = mode-kept (c .before .before .before .before .before .before .before .before .args .self)
-    (listed (entries (now (c .before .before .before .before .before .before .before .before .args .block))))
-    (c .before .before .before .before .before .before .before .before .args .named) (c .with-mode .result) (c .before .before .mode .given .0 .0)
-    (sym (c .before .before .before .before .mode-asked .ensures) ∙ ap mode-says (c .before .before .mode .given .1))
-    (c .before .before .before .before .before .enum-told .given .0 .0) (c .before .before .before .before .before .enum-told .given .1) (c .with-mode .ensures)
+returns-2 c =
+    let s = c .before .before .before .before .before .before .before in
+    let a = s .args in
+    let held = kept s (s .pre) in
+    let found = free-is (a .self) held ∙ says-at _ _ _ (c .before .before .before .find-free .ensures) (c .before .k .given .1) in
+    does-mode (a .self) (free-place (a .self)) _ (a .mode) found (place-inside (a .self) held empty _ found)
 
 returns-3 : tie.Need-returns-3
-returns-3 c = mode-unknown (c .before .before .before .before .before .before .before .args .self)
-    (listed (entries (now (c .before .before .before .before .before .before .before .args .block))))
-    (c .before .before .before .before .before .before .before .args .named) (c .refused .result)
-    (sym (c .before .before .before .mode-asked .ensures) ∙ ap mode-says (c .before .enum-told2 .given .1))
-    (c .before .before .before .before .enum-told .given .0 .0) (c .before .before .before .before .enum-told .given .1) (c .refused .ensures)
+returns-3 c =
+    let s = c .before .before .before .before .before .before in
+    let a = s .args in
+    let none-free = free-is (a .self) (kept s (s .pre)) ∙ says-nowhere _ _ (c .before .before .find-free .ensures) (c .enum-told .given .1) in
+    does-nothing (a .self) _ _ (ap (λ o. with-mode o (a .mode) (a .self .subscriptions .modes)) none-free) refl
 
 pub keep-mode-spec : {M : Type 1} → statement M
 keep-mode-spec =
     tie.close
     (tie.spec
-    enum-known-answer
     returns
+    slice-aggregate-find-free
+    find-free-requires
+    enum-known-k
     enum-told
-    mode-asked-requires
-    enum-known-mode
-    with-mode-requires
-    enum-told-2
-    refused-requires
     returns-2
     returns-3)
