@@ -12,7 +12,6 @@ use lib.Dec.{eqb, ltb}
 use borrow.Rule.Slice.PartMut.{putMid}
 use borrow.Author.Tests.{eq-eqb, ne-eqb, lt-ltb, le-ltb}
 use Rattle.headers.specs.Numbers.{numeral}
-use Rattle.headers.proofs.Rows.{or-no, or-yes}
 use Rattle.stores.specs.Places.{is-zero, padded, filled}
 use Rattle.stores.proofs.Filling.{padded-long, filled-all}
 use Rattle.stores.proofs.Walking.{drop-one, part-from, part-drop}
@@ -40,38 +39,6 @@ module _ (f : List ℕ) (n : ℕ) (read : n ≡ getD f 0 0) where
       let one : 1 + getD f 0 0 ≡ getD f 0 0 + 1 = omega arith in
       is ∙ ap (λ z. is-zero (drop (getD f 0 0) z)) (part-drop 1 f) ∙ ap is-zero (drop-drop (getD f 0 0) 1 f) ∙ ap (λ m. is-zero (drop m f)) one
       ∙ sym (rw (ne-eqb (getD f 0 0) 0 (λ e. used (read ∙ e)), lt-ltb (getD f 0 0) (length f) (omega arith)))
-
--- what is after the length
-pub part-short : (f : List ℕ) → length f ≤ 256 → {n : ℕ} → n < length f → length (part-from 1 f) < 256
-part-short f h some-octet = let long : length (part-from 1 f) ≡ length f - 1 = ap length (part-drop 1 f) ∙ length-drop 1 f in omega (arith, long)
-
--- ---- only octets 0 from place n on: what is left of the test from place i on
-
-abbrev pub zero-left : ℕ → ℕ → List ℕ → Bool
-zero-left n i s = is-zero (drop (n - i) (drop i s))
-
-pub zero-first : (n : ℕ) (s : List ℕ) → is-zero (drop n s) ≡ true && zero-left n 0 s
-zero-first n s = ap (λ m. is-zero (drop m s)) (sym (sub-zero n))
-
-pub zero-step : (n i : ℕ) (s : List ℕ) → i < length s → zero-left n i s ≡ (eqb (getD s i 0) 0 || ltb i n) && zero-left n (i + 1) s
-zero-step n i s h = ap (λ z. is-zero (drop (n - i) z)) (drop-one s i 0 h) ∙ by (n - i) refl
-  where
-    by : (m : ℕ) → n - i ≡ m → is-zero (drop m (getD s i 0 ∷ drop (i + 1) s)) ≡ (eqb (getD s i 0) 0 || ltb i n) && zero-left n (i + 1) s
-    by zero e =
-        let past : 0 ≡ n - (i + 1) = omega (arith, e) in
-        ap₂ (λ t m. t && is-zero (drop m (drop (i + 1) s)))
-        (sym (or-no (eqb (getD s i 0) 0)) ∙ ap (eqb (getD s i 0) 0 ||_) (sym (le-ltb i n (omega (arith, e))))) past
-    by (suc m) e =
-        let before : m ≡ n - (i + 1) = omega (arith, e) in
-        ap₂ (λ t k. t && is-zero (drop k (drop (i + 1) s)))
-        (sym (or-yes (eqb (getD s i 0) 0)) ∙ ap (eqb (getD s i 0) 0 ||_) (sym (lt-ltb i n (omega (arith, e))))) before
-
-pub zero-end : (n i : ℕ) (s : List ℕ) → length s ≤ i → zero-left n i s ≡ true
-zero-end n i s h = ap (λ z. is-zero (drop (n - i) z)) (drop-of-length-le s h) ∙ none (n - i)
-  where
-    none : (m : ℕ) → is-zero (drop m []) ≡ true
-    none zero = refl
-    none (suc m) = refl
 
 -- ---- where a text ends
 

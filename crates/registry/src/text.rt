@@ -12,23 +12,6 @@ pub(crate) fn wide(x: u8) -> usize
     x as usize
 }
 
-// Whether each octet from place n on is 0. No octet ends the loop, so that it is compiled to look at many at a time; the place is counted
-// in an octet as well, to be compared many at a time too.
-fn is_zero_from(s: &[u8], n: u8) -> bool
-    requires { ⌜ length (now s) < 256 ⌝ }
-    ensures { λ r. ⌜ r ≡ is-zero (drop n (now (s .entry))) ⌝ }
-{
-    let mut zero = true;
-    let mut i = 0usize;
-    let mut j = 0u8;
-    while i < s.len() {
-        zero = zero & ((s[i] == 0) | (j < n));
-        i += 1;
-        j += 1;
-    }
-    zero
-}
-
 // Whether a text is laid out in a field: at least one octet, and 0 after it.
 pub(crate) fn is_text(field: &[u8]) -> bool
     requires { ⌜ length (now field) ≤ 256 ⌝ }
@@ -44,7 +27,7 @@ pub(crate) fn is_text(field: &[u8]) -> bool
     if field.len() <= len {
         return false;
     }
-    is_zero_from(&field[1..], field[0])
+    stores::is_zero_from(&field[1..], field[0])
 }
 
 // Where the text that a row begins with ends.

@@ -20,7 +20,7 @@ use Rattle.headers.proofs.Rows.{and-left, every-step, every-drop, empty-eqb}
 use Rattle.stores.specs.Places.{is-zero}
 use Rattle.sessions.specs.Stores.{ids, clean}
 use Rattle.sessions.specs.Places.{Fits}
-use Rattle.stores.proofs.Walking.{drop-one, drop-take, part-from, part-drop, Before, next-place as next-after, room as room-at}
+use Rattle.stores.proofs.Walking.{drop-one, part-from, part-drop, Before, next-place as next-after, room as room-at}
 
 -- ---- rows
 
@@ -97,15 +97,14 @@ module _ {w n : ℕ} {s ls : List ℕ} {k at l : ℕ} {fits : Fits w n s ls} {st
       ∙ ap (λ z. take l (drop at s) ∷ ids w z (drop (k + 1) ls)) (drop-drop w at s)
       ∙ ap (λ z. take z (drop at s) ∷ ids w (drop (at + w) s) (drop (k + 1) ls)) e
 
-  pub clean-at : (b : Bool) → is-zero (take (at + w - (at + l)) (drop (at + l) s)) ≡ b → clean w (drop at s) (drop k ls) ≡ b && clean w
-      (drop (at + w) s) (drop (k + 1) ls)
+  pub clean-at : (b : Bool) → is-zero (drop l (take (at + w - at) (drop at s))) ≡ b
+      → clean w (drop at s) (drop k ls) ≡ b && clean w (drop (at + w) s) (drop (k + 1) ls)
   unfolding clean
   clean-at b is =
-      let e : w - l ≡ at + w - (at + l) = omega arith in
+      let e : w ≡ at + w - at = omega arith in
       ap (clean w (drop at s)) lens-at
       ∙ ap (λ z. is-zero (drop l (take w (drop at s))) && clean w z (drop (k + 1) ls)) (drop-drop w at s)
-      ∙ ap (λ z. is-zero z && clean w (drop (at + w) s) (drop (k + 1) ls))
-      (drop-take l w (drop at s) ∙ ap (take (w - l)) (drop-drop l at s) ∙ ap (λ z. take z (drop (at + l) s)) e)
+      ∙ ap (λ z. is-zero (drop l (take z (drop at s))) && clean w (drop (at + w) s) (drop (k + 1) ls)) e
       ∙ ap (_&& clean w (drop (at + w) s) (drop (k + 1) ls)) is
 
 -- ---- a place of 32 octets, copied

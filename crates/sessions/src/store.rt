@@ -55,9 +55,8 @@ fn is_clean(store: &[u8], lens: &[u8], count: usize, width: usize) -> bool
     let mut k = 0usize;
     let mut at = 0usize;
     while k < count {
-        let from = at + wide(lens[k]);
         let next = at + width;
-        if !stores::is_zero(&store[from..next]) {
+        if !stores::is_zero_from(&store[at..next], lens[k]) {
             return false;
         }
         at = next;

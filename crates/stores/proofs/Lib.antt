@@ -2,6 +2,7 @@
 pub mod Rows
 pub mod Searching
 pub mod Walking
+pub mod Zeros
 pub mod Filling
 pub mod Keying
 pub mod Compacting

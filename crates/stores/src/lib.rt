@@ -12,6 +12,7 @@ pub use keys::has_key;
 pub use keys::put_keys;
 pub use places::fill;
 pub use places::is_zero;
+pub use places::is_zero_from;
 pub use places::octet_at;
 pub use search::Search;
 pub use search::is_found;

@@ -2,7 +2,7 @@
 use borrow.Author.Needs.{needs}
 use native.Mathlib.Omega.{arith}
 use lib.ListN.{List·getD-eq-default}
-use Rattle.registry.proofs.Texts.{field-none, field-free, field-over, field-rest, part-short}
+use Rattle.registry.proofs.Texts.{field-none, field-free, field-over, field-rest}
 use Rattle.registry.proofs.text.is_text.Statement.{statement}
 use Rattle.registry.proofs.text.is_text.Tie as tie
 
@@ -36,9 +36,7 @@ shared-slice-read-is-zero-from : tie.Need-shared-slice-read-is-zero-from
 shared-slice-read-is-zero-from c = search needs
 
 is-zero-from-requires : tie.Need-is-zero-from-requires
-is-zero-from-requires c κs =
-    let s = c .before .before .before .before .before .before .before .before in
-    part-short (s .args .field .now) (s .pre) (c .before .before .if3 .left)
+is-zero-from-requires c κs = search needs
 
 returns-4 : tie.Need-returns-4
 returns-4 c =

@@ -4,11 +4,12 @@ use mathlib.Core.Path.{_≡_, refl, sym, _∙_}
 use mathlib.Core.Bool.{true, false}
 use Prim.Native.Nat.{_-_}
 use native.Mathlib.Omega.{arith}
-use lib.ListN.{drop}
+use lib.ListN.{drop, getD}
+use denote.Ref.{now}
 use borrow.Author.Tests.{not-true, not-false}
 use Rattle.sessions.specs.Stores.{clean}
 use Rattle.stores.proofs.Walking.{Before, first-place}
-use Rattle.sessions.proofs.Walking.{Turn, next-place, room, length-fits, id-fits, clean-at, clean-end}
+use Rattle.sessions.proofs.Walking.{Turn, next-place, room, clean-at, clean-end}
 use Rattle.sessions.proofs.store.is_clean.Statement.{statement}
 use Rattle.sessions.proofs.store.is_clean.Tie as tie
 
@@ -19,42 +20,35 @@ Inv-loop store lens count width k₀ at₀ k at =
 abbrev μ-loop : tie.MeasureT-loop
 μ-loop store lens count width k₀ at₀ k at = count - k
 
--- what a turn knows that has read the place's length
-here : (c : tie.After-wide Inv-loop μ-loop) → Turn (c .before .before .before .before .before .before .pre) (c .before .before .before .loop .inv .0)
-    (c .wide .result)
-here c = record { more = c .before .before .loop-test .taken; read = c .wide .ensures .0 }
+-- what a turn knows, with the place's length
+here : (c : tie.In-loop Inv-loop μ-loop) → Turn (c .before .before .before .before .pre) (c .before .loop .inv .0) (getD (now (c .before .before .before .before .args .lens)) (c .before .loop .k) 0)
+here c = record { more = c .loop-test .taken; read = refl }
 
 loop-holds : tie.Need-loop-holds Inv-loop μ-loop
 loop-holds c = (first-place _ _, refl)
 
-shared-slice-read-wide : tie.Need-shared-slice-read-wide Inv-loop μ-loop
-shared-slice-read-wide c = search needs
-
-wide-requires : tie.Need-wide-requires Inv-loop μ-loop
-wide-requires c κs = search needs
-
-add-from : tie.Need-add-from Inv-loop μ-loop
-add-from c = omega (arith, id-fits (here c))
-
 add-next : tie.Need-add-next Inv-loop μ-loop
 add-next c = omega (arith, room (here c))
 
-sub-is-zero : tie.Need-sub-is-zero Inv-loop μ-loop
-sub-is-zero c = omega (arith, length-fits (here c))
+sub-is-zero-from : tie.Need-sub-is-zero-from Inv-loop μ-loop
+sub-is-zero-from c = search needs
 
-part-is-zero-start : tie.Need-part-is-zero-start Inv-loop μ-loop
-part-is-zero-start c = omega (arith, length-fits (here c))
+part-is-zero-from-start : tie.Need-part-is-zero-from-start Inv-loop μ-loop
+part-is-zero-from-start c = search needs
 
-part-is-zero-end : tie.Need-part-is-zero-end Inv-loop μ-loop
-part-is-zero-end c = room (here c)
+part-is-zero-from-end : tie.Need-part-is-zero-from-end Inv-loop μ-loop
+part-is-zero-from-end c = room (here c)
 
-is-zero-requires : tie.Need-is-zero-requires Inv-loop μ-loop
-is-zero-requires c κs = search needs
+shared-slice-read-is-zero-from : tie.Need-shared-slice-read-is-zero-from Inv-loop μ-loop
+shared-slice-read-is-zero-from c = search needs
+
+is-zero-from-requires : tie.Need-is-zero-from-requires Inv-loop μ-loop
+is-zero-from-requires c κs = search needs
 
 returns : tie.Need-returns Inv-loop μ-loop
 returns c =
-    let t = c .before .before .before in
-    sym (t .before .before .before .loop .inv .1 ∙ clean-at (here t) false (sym (c .before .is-zero .ensures) ∙ not-true _ (c .if1 .taken)))
+    let t = c .before .before .before .before in
+    sym (t .before .loop .inv .1 ∙ clean-at (here t) false (sym (c .before .is-zero-from .ensures) ∙ not-true _ (c .if1 .taken)))
 
 add-k : tie.Need-add-k Inv-loop μ-loop
 add-k c = search needs
@@ -64,8 +58,8 @@ loop-less c = search needs
 
 loop-again : tie.Need-loop-again Inv-loop μ-loop
 loop-again c =
-    let t = c .before .before .before in
-    (next-place (here t), t .before .before .before .loop .inv .1 ∙ clean-at (here t) true (sym (c .before .is-zero .ensures) ∙ not-false _ (c .if1 .left)))
+    let t = c .before .before .before .before in
+    (next-place (here t), t .before .loop .inv .1 ∙ clean-at (here t) true (sym (c .before .is-zero-from .ensures) ∙ not-false _ (c .if1 .left)))
 
 returns-2 : tie.Need-returns-2 Inv-loop μ-loop
 returns-2 c =
@@ -79,14 +73,12 @@ is-clean-spec =
     Inv-loop
     μ-loop
     loop-holds
-    shared-slice-read-wide
-    wide-requires
-    add-from
     add-next
-    sub-is-zero
-    part-is-zero-start
-    part-is-zero-end
-    is-zero-requires
+    sub-is-zero-from
+    part-is-zero-from-start
+    part-is-zero-from-end
+    shared-slice-read-is-zero-from
+    is-zero-from-requires
     returns
     add-k
     loop-less

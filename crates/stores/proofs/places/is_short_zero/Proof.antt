@@ -1,4 +1,4 @@
--- `text/is_zero_from` meets its contract: what was found so far, and what is left of the test from place i on.
+-- `places::is_short_zero` meets its contract: what was found so far, and what is left of the test from place i on.
 use borrow.Author.Needs.{needs}
 use mathlib.Core.Path.{_≡_, refl, sym, ap, _∙_}
 use mathlib.Core.Bool.{_&&_, _||_}
@@ -7,11 +7,11 @@ use native.Mathlib.Omega.{arith}
 use lib.ListN.{length, drop, getD}
 use lib.Dec.{eqb, ltb}
 use Rattle.headers.proofs.Rows.{and-yes}
 use Rattle.stores.specs.Places.{is-zero}
 use Rattle.stores.proofs.Rows.{and-assoc}
-use Rattle.registry.proofs.Texts.{zero-left, zero-first, zero-step, zero-end}
-use Rattle.registry.proofs.text.is_zero_from.Statement.{statement}
-use Rattle.registry.proofs.text.is_zero_from.Tie as tie
+use Rattle.stores.proofs.Zeros.{zero-left, zero-first, zero-step, zero-end}
+use Rattle.stores.proofs.places.is_short_zero.Statement.{statement}
+use Rattle.stores.proofs.places.is_short_zero.Tie as tie
 
 abbrev Inv-loop : tie.InvT-loop
 Inv-loop s n zero₀ i₀ j₀ zero i j = (i ≤ length s) × (j ≡ i) × (is-zero (drop n s) ≡ zero && zero-left n i s)
@@ -51,6 +51,6 @@ returns c =
     let a = c .before .before .args in
     sym (l .inv .2 ∙ ap (l .zero &&_) (zero-end (a .n) (l .i) (a .s .now) (c .loop-test .left)) ∙ and-yes (l .zero))
 
-pub is-zero-from-spec : {M : Type 1} → statement M
-is-zero-from-spec =
+pub is-short-zero-spec : {M : Type 1} → statement M
+is-short-zero-spec =
     tie.close (tie.spec Inv-loop μ-loop loop-holds shared-slice-read-zero add-i add-j loop-less loop-again returns)
