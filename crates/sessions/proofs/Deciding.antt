@@ -203,17 +203,17 @@ module _ (s : Session) (n : ℕ) (block : List ℕ) (acceptance : Acceptance) wh
   es = listed (entries block)
 
   -- refused for an id
-  pub uses-closed : (k : ℕ) → ((time : ℕ) (o : Outcome) → o ≡ closed-by s k → GivesUses s (uses-of s n es) acceptance time o)
+  pub uses-closed : (k : ℕ) → ((time : ℕ) → GivesUses s (uses-of s n es) acceptance time (closed-by s k))
       → DecidesUses s n block acceptance (closing-step k)
   uses-closed k g =
-      record { gives = λ time. then-delivery s n es acceptance time (closed-by s k) (closed-by s k) (g time (closed-by s k) refl) refl; applies = tt }
+      record { gives = λ time. then-delivery s n es acceptance time (closed-by s k) (closed-by s k) (g time) refl; applies = tt }
 
   -- the ids are accepted, and leave a session
-  module _ (x : Session) (g : (time : ℕ) (o : Outcome) → o ≡ accepted-by x acceptance time → GivesUses s (uses-of s n es) acceptance time o) where
+  module _ (x : Session) (g : (time : ℕ) → GivesUses s (uses-of s n es) acceptance time (accepted-by x acceptance time)) where
     pub uses-refused-later : (k : ℕ) → LooksFurther s n es (Looked.Refused k) → DecidesUses s n block acceptance (closing-step k)
     uses-refused-later k (h, c) =
         record {
-          gives = λ time. then-delivery s n es acceptance time (accepted-by x acceptance time) (closed-by s k) (g time (accepted-by x acceptance time) refl)
+          gives = λ time. then-delivery s n es acceptance time (accepted-by x acceptance time) (closed-by s k) (g time)
               (gives-refused (delivery-checks s n es) k (settle-refused (delivery-checks s n es) [] _ k h) c refl);
           applies = tt;
         }
@@ -225,7 +225,8 @@ module _ (s : Session) (n : ℕ) (block : List ℕ) (acceptance : Acceptance) wh
           gives = λ time.
               let named = accepted-by (put-by s block p) acceptance time in
               let r = outcome-of s block time (accepting-step acceptance (use-of p f)) in
-              then-delivery s n es acceptance time named r (g time named (ap (λ z. accepted-by z acceptance time) e))
+              then-delivery s n es acceptance time named r
+              (subst (λ z. GivesUses s (uses-of s n es) acceptance time (accepted-by z acceptance time)) (sym e) (g time))
               (then-accepted (delivery-checks s n es) s (modes-effect s n es) (delivery-effect s n es) named r (h .passed) acceptance refl
               (used-outcome s block acceptance time p f
               ∙ ap₂ (outcome-with named) (sym (h .does .modes-are)) (sym (h .does .deliveries-are))));

@@ -1,22 +1,23 @@
 -- What a frame does to a session, as the code decides it: an answer and a change, and what the change makes of a session. Assumes nothing.
 use mathlib.Core.Path.{_≡_}
-use mathlib.Core.Bool.{false, _||_, not}
+use mathlib.Core.Bool.{false, _||_}
 use mathlib.Core.Option.{some}
 use mathlib.Core.List.{List, [], _∷_, _++_}
 use Prim.Native.Nat.{ℕ, _-_, _≤_, _<_}
 use lib.Dec.{eqb}
 use lib.ListN.{length, take, drop, getD, set}
 use Rattle.headers.specs.Block.{Entry, entries, listed}
-use Rattle.headers.specs.Answers.{Check, accepted, refused, settle, is-block}
-use Rattle.sessions.specs.Headers.{unknown}
+use Rattle.headers.specs.Answers.{Check, accepted, refused, settle}
+use Rattle.sessions.specs.Headers.{put-before, changed-id}
 use Rattle.stores.specs.Searches.{first-from}
 use Rattle.sessions.specs.Deliveries.{auto-mode, pending, labelled, settle-label, dropped}
 use Rattle.sessions.specs.Sessions.{subscriptions-max, transactions-max, id-max, with-subscriptions, with-transactions, with-deliveries}
 use Rattle.sessions.specs.Sessions.{nothing-agreed, opened, closed, heard}
 use Rattle.sessions.specs.declared.parts.Agreed.{Agreed}
-use Rattle.sessions.specs.Calls.{opening, uses-of, id-checks, delivery-checks, modes-effect, delivery-effect, named-effect, entry-checks, effect}
+use Rattle.sessions.specs.Calls.{id-effect, opening, uses-of, id-checks, delivery-checks, modes-effect, delivery-effect, named-effect, entry-checks, effect}
 use Rattle.sessions.specs.Calls.{acceptance-of, phase-checks}
-use Rattle.sessions.specs.Steps.{Gives, put-subscription, put-transaction, opening-only, label-checks}
+use Rattle.sessions.specs.Steps.{closed-by, accepted-by, Gives, GivesUses, SettlesUse, settled-number, use-named, put-subscription, put-transaction}
+use Rattle.sessions.specs.Steps.{opening-only, label-checks}
 use Rattle.sessions.specs.declared.parts.SubscriptionStore.{SubscriptionStore}
 use Rattle.sessions.specs.declared.parts.TransactionStore.{TransactionStore}
 use Rattle.sessions.specs.declared.delivery.Deliveries.{Deliveries}
@@ -24,6 +25,7 @@ use Rattle.sessions.specs.declared.session.Session.{Session}
 use Rattle.sessions.specs.declared.session.SessionAnswer.{SessionAnswer}
 use Rattle.sessions.specs.declared.session.Acceptance.{Acceptance}
 use Rattle.sessions.specs.declared.session.Outcome.{Outcome}
+use Rattle.sessions.specs.declared.step.Named.{Named}
 use Rattle.sessions.specs.declared.step.Placing.{Placing}
 use Rattle.sessions.specs.declared.step.Put.{Put}
 use Rattle.sessions.specs.declared.step.Further.{Further}
@@ -37,6 +39,15 @@ pub record Lends (s : Session) (subs sub-lens txs tx-lens : List ℕ) : Type 0 w
   pub sub-lens-are : s .subscriptions .lens ≡ sub-lens
   pub txs-are : s .transactions .ids ≡ txs
   pub tx-lens-are : s .transactions .lens ≡ tx-lens
+
+-- the ids that a frame names are settled: refused with the lowest number; or accepted, and then they leave the session with the first
+-- entered or freed
+pub record NamesIds (s : Session) (n : ℕ) (es : List Entry) (r : Named) : Type 0 where
+  pub first-settled : SettlesUse s (use-named (r .first) es) (r .settled)
+  pub refuses : (r .number ≡ 0 → ⊥) → (acceptance : Acceptance) (time : ℕ) → GivesUses s (uses-of s n es) acceptance time (closed-by s (r .number))
+  pub none-refused : r .number ≡ 0 → settled-number (r .settled) ≡ 0
+  pub accepts : r .number ≡ 0 → (acceptance : Acceptance) (time : ℕ)
+      → GivesUses s (uses-of s n es) acceptance time (accepted-by (id-effect s (changed-id (put-before (use-named (r .first) es) []))) acceptance time)
 
 -- ---- what is put
 
@@ -195,7 +206,7 @@ pub record Decides (checks : List Check) (acceptance : Acceptance) (s : Session)
   pub gives : (time : ℕ) → Gives checks acceptance s (heard after time) (outcome-of s block time r)
   pub applies : Applies s block (r .change)
 
--- the opening frame; a frame that may name ids and a delivery; all that depends on the entries; and all but 38
+-- the opening frame; a frame that may name ids and a delivery; and all from 40 on
 abbrev pub DecidesOpening : Session → List ℕ → Acceptance → Step → Type 0
 DecidesOpening s block acceptance r = Decides (opening-only s (listed (entries block))) acceptance s block (opening s (listed (entries block))) r
 
@@ -204,14 +215,7 @@ DecidesUses s n block acceptance r =
     Decides (id-checks s (uses-of s n (listed (entries block))) ++ delivery-checks s n (listed (entries block))) acceptance s block
     (named-effect s n (listed (entries block))) r
 
-abbrev pub DecidesEntries : Session → ℕ → List ℕ → Step → Type 0
-DecidesEntries s n block r =
-    Decides (entry-checks s n (listed (entries block))) (acceptance-of n (listed (entries block))) s block (effect s n (listed (entries block))) r
-
-abbrev pub form-check : ℕ → List ℕ → Check
-form-check n block = record { fails = unknown n || not (is-block block); number = 39 }
-
 abbrev pub DecidesFrame : Session → ℕ → List ℕ → Step → Type 0
 DecidesFrame s n block r =
-    Decides (form-check n block ∷ (phase-checks s n ++ entry-checks s n (listed (entries block)))) (acceptance-of n (listed (entries block))) s block
+    Decides (phase-checks s n ++ entry-checks s n (listed (entries block))) (acceptance-of n (listed (entries block))) s block
     (effect s n (listed (entries block))) r

@@ -16,7 +16,7 @@ ghost use Rattle.sessions.specs.Deliveries.{auto-mode, with-mode, droppe
 ghost use Rattle.sessions.specs.Held.{held-deliveries, nth, nothing-told, told-of, pending-answer};
 ghost use Rattle.sessions.specs.Notes.{AllNoted};
 ghost use Rattle.sessions.specs.Steps.{kept-by, closed-by, accepted-by, unrecorded-by, recorded-as, recording-at, RecordsAt, MayRecord};
-ghost use Rattle.sessions.specs.Changes.{Does, LooksLabel, LooksFurther, DecidesOpening, DecidesUses, DecidesEntries, DecidesFrame};
+ghost use Rattle.sessions.specs.Changes.{NamesIds, Does, LooksLabel, LooksFurther, DecidesOpening, DecidesUses, DecidesFrame};
 use crate::command::Header;
 use crate::commands;
 use crate::delivery::Deliveries;
@@ -29,6 +29,7 @@ use crate::refusals;
 use crate::step::Change;
 use crate::step::Further;
 use crate::step::Looked;
+use crate::step::Named;
 use crate::step::Step;
 use crate::value::HEART_BEAT_MAX;
 use crate::value::ModeRead;
@@ -452,41 +453,28 @@ impl Session {
         Looked::Does(Further::Nothing)
     }
 
-    // The ids that a frame names, and what it does to modes and deliveries: the lowest number of those that are refused, or what changes.
-    fn use_ids(self, command: u32, notes: Notes, block: &[u8], acceptance: Acceptance) -> Step
+    // The ids that a frame names, which are settled, and what it does to modes and deliveries: the number that it is refused with, or what
+    // changes.
+    fn use_ids(
+        self,
+        command: u32,
+        named: Named,
+        notes: Notes,
+        block: &[u8],
+        acceptance: Acceptance,
+    ) -> Step
         requires { ⌜
-            (is-valid self ≡ true) × AllNoted (now block) notes × (lacks-needed self command (listed (entries (now block))) ≡ false)
+            (is-valid self ≡ true) × AllNoted (now block) notes × NamesIds self command (listed (entries (now block))) named
+            × (lacks-needed self command (listed (entries (now block))) ≡ false)
             ⌝ }
         ensures { λ r. ⌜ DecidesUses self command (now (block .entry)) acceptance r ⌝ }
     {
-        let namings = crate::command::namings_of(command);
-        let first = namings.first;
-        let second = namings.second;
-        let settled = crate::step::settle_naming(
-            &self.subscriptions.ids,
-            &self.subscriptions.lens,
-            &self.transactions.ids,
-            &self.transactions.lens,
-            first,
-            notes,
-            block,
-        );
-        let other = crate::step::settle_naming(
-            &self.subscriptions.ids,
-            &self.subscriptions.lens,
-            &self.transactions.ids,
-            &self.transactions.lens,
-            second,
-            notes,
-            block,
-        );
-        let number = crate::store::lower(
-            crate::store::number_of(settled),
-            crate::store::number_of(other),
-        );
+        let number = named.number;
         if number != 0 {
             return crate::step::closing(number);
         }
+        let first = named.first;
+        let settled = named.settled;
         match self.further(command, notes, block) {
             Looked::Refused(n) => crate::step::closing(n),
             Looked::Does(further) => {
@@ -496,11 +484,15 @@ impl Session {
         }
     }
 
-    // A frame of a known command in its phase, with a well-formed block, of a valid session.
-    fn act(self, command: u32, notes: Notes, block: &[u8]) -> Step
-        requires { ⌜ (is-valid self ≡ true) × AllNoted (now block) notes ⌝ }
-        ensures { λ r. ⌜ DecidesEntries self command (now (block .entry)) r ⌝ }
+    // A frame of a known command, with a well-formed block, of a valid session: what it is answered, and what becomes of the session.
+    fn act(self, command: u32, named: Named, notes: Notes, block: &[u8]) -> Step
+        requires { ⌜ (is-valid self ≡ true) × AllNoted (now block) notes × NamesIds self command (listed (entries (now block))) named ⌝ }
+        ensures { λ r. ⌜ DecidesFrame self command (now (block .entry)) r ⌝ }
     {
+        let number = crate::command::phase_refusal(self.phase, command);
+        if number != 0 {
+            return crate::step::closing(number);
+        }
         if crate::locate::lacks_needed(command, notes) {
             return crate::step::closing(refusals::MISSING);
         }
@@ -511,23 +503,7 @@ impl Session {
         if command == commands::DISCONNECT {
             return crate::step::accepting(acceptance, Change::Disconnect);
         }
-        self.use_ids(command, notes, block, acceptance)
-    }
-
-    // A frame of a valid session: what it is answered, and what becomes of the session.
-    fn decide(self, command: u32, block: &[u8]) -> Step
-        requires { ⌜ is-valid self ≡ true ⌝ }
-        ensures { λ r. ⌜ DecidesFrame self command (now (block .entry)) r ⌝ }
-    {
-        let notes = crate::notes::note(block);
-        if crate::command::is_unknown(command) | !notes.valid {
-            return crate::step::keeping(refusals::MALFORMED);
-        }
-        let number = crate::command::phase_refusal(self.phase, command);
-        if number != 0 {
-            return crate::step::closing(number);
-        }
-        self.act(command, notes, block)
+        self.use_ids(command, named, notes, block, acceptance)
     }
 
     // A frame: its command's number, its header block and when it came. All is decided first. Then the session is changed, part by part,
@@ -558,7 +534,20 @@ impl Session {
         if !(numbers & (ids & (deliveries & ((self.phase == Session::OPEN) | (count == 0))))) {
             return self.kept(refusals::INVALID);
         }
-        let step = self.decide(command, block);
+        let notes = crate::notes::note(block);
+        if crate::command::is_unknown(command) | !notes.valid {
+            return self.kept(refusals::MALFORMED);
+        }
+        let named = crate::step::settle_ids(
+            &self.subscriptions.ids,
+            &self.subscriptions.lens,
+            &self.transactions.ids,
+            &self.transactions.lens,
+            command,
+            notes,
+            block,
+        );
+        let step = self.act(command, named, notes, block);
         let change = step.change;
         let answer = step.answer;
         let agreed = step.agreed;

@@ -1,8 +1,7 @@
 // What a frame does to a session, decided before anything is changed: the answer, and the change.
 ghost use mathlib.Core.Path.{_≡_};
 ghost use mathlib.Core.Bool.{true};
-ghost use mathlib.Core.List.{List, []};
-ghost use Prim.Native.Nat.{ℕ};
+ghost use mathlib.Core.List.{[]};
 ghost use Rattle.headers.specs.Block.{entries, listed};
 ghost use Rattle.sessions.specs.Headers.{put-before, changed-id};
 ghost use Rattle.sessions.specs.Sessions.{id-max, subscriptions-max, transactions-max, is-valid, Sized};
@@ -10,7 +9,7 @@ ghost use Rattle.sessions.specs.Calls.{id-effect};
 ghost use Rattle.sessions.specs.Places.{Fits};
 ghost use Rattle.sessions.specs.Notes.{AllNoted};
 ghost use Rattle.sessions.specs.Steps.{SettlesUse, settled-number, use-named};
-ghost use Rattle.sessions.specs.Changes.{Lends, PutFits, put-by, use-of, step-of, keeping-step, closing-step, opening-step, accepting-step};
+ghost use Rattle.sessions.specs.Changes.{Lends, NamesIds, PutFits, put-by, use-of, step-of, keeping-step, closing-step, opening-step, accepting-step};
 ghost use Rattle.sessions.specs.declared.session.Session.{Session as SessionValue};
 use crate::command::Kind;
 use crate::command::Naming;
@@ -59,6 +58,14 @@ pub(crate) enum Change {
     Open,
     Hear,
     Use(Put, Further),
+}
+
+// What became of the ids that a frame names: the first of them, which alone may be entered or freed, as the store settled it; and the
+// lowest number of those that are refused, or 0.
+pub(crate) struct Named {
+    pub first: Naming,
+    pub settled: Settled,
+    pub number: u32,
 }
 
 // The answer to a frame, and what becomes of the session; where it is opened, with what both sides agreed on.
@@ -172,6 +179,42 @@ pub(crate) fn settle_naming<'a>(
         Kind::Transactions => {
             crate::store::settle(txs, tx_lens, Session::TRANSACTIONS, Session::ID, id, usage)
         }
+    }
+}
+
+// What the stores make of the ids that a frame names.
+pub(crate) fn settle_ids<'a>(
+    subs: &'a [u8],
+    sub_lens: &'a [u8],
+    txs: &'a [u8],
+    tx_lens: &'a [u8],
+    command: u32,
+    notes: Notes,
+    block: &[u8],
+) -> Named
+    requires { ⌜
+        Fits id-max subscriptions-max (now subs) (now «sub_lens») × Fits id-max transactions-max (now txs) (now «tx_lens»)
+        × AllNoted (now block) notes
+        ⌝ }
+    ensures { λ r. ⌜
+        ((s : SessionValue)
+        → Lends s (now (subs .entry)) (now («sub_lens» .entry)) (now (txs .entry)) (now («tx_lens» .entry))
+        → NamesIds s command (listed (entries (now (block .entry)))) r)
+        ⌝ }
+{
+    let namings = crate::command::namings_of(command);
+    let first = namings.first;
+    let second = namings.second;
+    let settled = settle_naming(subs, sub_lens, txs, tx_lens, first, notes, block);
+    let other = settle_naming(subs, sub_lens, txs, tx_lens, second, notes, block);
+    let number = crate::store::lower(
+        crate::store::number_of(settled),
+        crate::store::number_of(other),
+    );
+    Named {
+        first,
+        settled,
+        number,
     }
 }
 

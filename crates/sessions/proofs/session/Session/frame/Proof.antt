@@ -1,14 +1,19 @@
 -- `session::Session::frame` meets its contract: the check of the record, and then what was decided, made part by part.
-use mathlib.Core.Path.{_≡_, refl, sym, ap, subst, _∙_}
-use mathlib.Core.Bool.{true, not}
+use mathlib.Core.Path.{_≡_, refl, sym, ap, ap₂, subst, _∙_}
+use mathlib.Core.Bool.{true, false, _||_, not}
 use mathlib.Core.List.{List}
 use Prim.Native.Nat.{ℕ}
 use borrow.Author.Tests.{not-false}
 use denote.Ref.{now}
 use Rattle.sessions.specs.Sessions.{closed-phase, with-phase, with-subscriptions, with-transactions, with-deliveries, heard, is-valid}
+use Rattle.headers.specs.Answers.{is-block}
+use Rattle.headers.proofs.Rows.{or-false-right}
+use Rattle.sessions.specs.Headers.{unknown}
+use Rattle.sessions.specs.Notes.{AllNoted}
 use Rattle.sessions.specs.Answers.{answer-says}
 use Rattle.sessions.specs.Calls.{frame-answer, frame-session}
-use Rattle.sessions.specs.Changes.{ModeFits, SettleFits, set-modes, deliveries-by, label-of, changed-by, Uses, Applies, outcome-of}
+use Rattle.sessions.specs.Changes.{ModeFits, SettleFits, set-modes, deliveries-by, changed-by, Uses, Applies, outcome-of}
+use Rattle.sessions.specs.declared.command.Kind.the-variants.{Subscriptions, Transactions}
 use Rattle.sessions.specs.declared.delivery.Deliveries.{Deliveries}
 use Rattle.sessions.specs.declared.session.Session.{Session}
 use Rattle.sessions.specs.declared.step.Put.{Put}
@@ -19,6 +24,7 @@ use Rattle.sessions.proofs.Steps.{gives-on, gives-kept, frame-gives}
 use Rattle.sessions.proofs.Validating.{whole-valid}
 use Rattle.sessions.proofs.Kept.{Kept, kept-of}
 use Rattle.sessions.proofs.Delivering.{laid-of}
+use Rattle.sessions.proofs.Using.{fits-of}
 use Rattle.sessions.proofs.Deciding.{used-is}
 use borrow.Author.Needs.{needs}
 use Rattle.sessions.proofs.session.Session.frame.Statement.{statement}
@@ -43,25 +49,34 @@ valid c =
     sym (whole-valid (c .before .before .before .before .before .before .before .before .before .before .before .before .before .before .before .before .before .before .before .before .before .before .before .before .before .before .before .args .t1) _ _ _ (c .before .before .before .before .before .before .before .before .before .before .before .before .before .before .before .before .before .before .before .before .before .before .before .before .before .has-valid-numbers .ensures) (c .before .before .before .before .before .before .before .before .before .before .before .before .before .are-valid-ids .ensures) (c .before .are-valid .ensures))
     ∙ not-false _ (c .if1 .left)
 
+-- a command that is known, and a block that is well formed
+formed : (c : tie.Else2) → unknown (c .before .before .before .before .before .before .before .before .before .before .before .before .before .before .before .before .before .before .before .before .before .before .before .before .before .before .before .before .before .before .before .args .command) || not (is-block (now (c .before .before .before .before .before .before .before .before .before .before .before .before .before .before .before .before .before .before .before .before .before .before .before .before .before .before .before .before .before .before .before .args .block))) ≡ false
+formed c = ap₂ (λ x y. x || not y) (sym (c .before .before .is-unknown .ensures)) (sym (c .before .before .before .note .ensures .well-formed)) ∙ c .if2 .left
+
+noted : (c : tie.Else2) → AllNoted (now (c .before .before .before .before .before .before .before .before .before .before .before .before .before .before .before .before .before .before .before .before .before .before .before .before .before .before .before .before .before .before .before .args .block)) (c .before .before .before .note .result)
+noted c =
+    let notes = c .before .before .before .note .ensures in
+    notes .noted (sym (notes .well-formed) ∙ not-false _ (or-false-right (c .before .before .is-unknown .result) _ (c .if2 .left)))
+
 -- what was decided, by the change and the session that it leaves
-module _ (c : tie.After-decide) where
+module _ (c : tie.After-act) where
   abbrev s : Session
-  s = c .before .before .before .before .before .before .before .before .before .before .before .before .before .before .before .before .before .before .before .before .before .before .before .before .before .before .before .before .args .t1
+  s = c .before .before .before .before .before .before .before .before .before .before .before .before .before .before .before .before .before .before .before .before .before .before .before .before .before .before .before .before .before .before .before .before .before .before .before .before .before .before .before .before .before .before .args .t1
 
   abbrev block : List ℕ
-  block = now (c .before .before .before .before .before .before .before .before .before .before .before .before .before .before .before .before .before .before .before .before .before .before .before .before .before .before .before .before .args .block)
+  block = now (c .before .before .before .before .before .before .before .before .before .before .before .before .before .before .before .before .before .before .before .before .before .before .before .before .before .before .before .before .before .before .before .before .before .before .before .before .before .before .before .before .before .before .args .block)
 
   abbrev time : ℕ
-  time = c .before .before .before .before .before .before .before .before .before .before .before .before .before .before .before .before .before .before .before .before .before .before .before .before .before .before .before .before .args .time
+  time = c .before .before .before .before .before .before .before .before .before .before .before .before .before .before .before .before .before .before .before .before .before .before .before .before .before .before .before .before .before .before .before .before .before .before .before .before .before .before .before .before .before .before .args .time
 
   abbrev step : Step
-  step = c .decide .result
+  step = c .act .result
 
   changed : (x : Change) → step .change ≡ x → (after : Session) → after ≡ changed-by s block time (step .agreed) x
-      → (answer-says (step .answer) ≡ frame-answer s (c .before .before .before .before .before .before .before .before .before .before .before .before .before .before .before .before .before .before .before .before .before .before .before .before .before .before .before .before .args .command) block) × (after ≡ frame-session s (c .before .before .before .before .before .before .before .before .before .before .before .before .before .before .before .before .before .before .before .before .before .before .before .before .before .before .before .before .args .command) block time)
+      → (answer-says (step .answer) ≡ frame-answer s (c .before .before .before .before .before .before .before .before .before .before .before .before .before .before .before .before .before .before .before .before .before .before .before .before .before .before .before .before .before .before .before .before .before .before .before .before .before .before .before .before .before .before .args .command) block) × (after ≡ frame-session s (c .before .before .before .before .before .before .before .before .before .before .before .before .before .before .before .before .before .before .before .before .before .before .before .before .before .before .before .before .before .before .before .before .before .before .before .before .before .before .before .before .before .before .args .command) block time)
   changed x k after e =
-      let (a, b) = frame-gives s (c .before .before .before .before .before .before .before .before .before .before .before .before .before .before .before .before .before .before .before .before .before .before .before .before .before .before .before .before .args .command) block time (outcome-of s block time step)
-      (gives-on _ _ (ap not (valid (c .before))) (c .decide .ensures .gives time)) in
+      let (a, b) = frame-gives s (c .before .before .before .before .before .before .before .before .before .before .before .before .before .before .before .before .before .before .before .before .before .before .before .before .before .before .before .before .before .before .before .before .before .before .before .before .before .before .before .before .before .before .args .command) block time (outcome-of s block time step)
+      (gives-on _ _ (ap not (valid (c .before .before .before .before .before .before .before .before .before .before .before .before .before .before .before))) (gives-on _ _ (formed (c .before .before .before .before .before .before .before .before .before .before .before)) (c .act .ensures .gives time))) in
       (a, e ∙ ap (changed-by s block time (step .agreed)) (sym k) ∙ b)
 
 -- what a change of parts asks, and the parts that it leaves
@@ -73,13 +88,13 @@ module _ (c : tie.After-known-told) where
   does = c .before .change .given .0 .1 .0
 
   asked : Uses (s (c .before .before .before .before)) (block (c .before .before .before .before)) puts does
-  asked = subst (Applies (s (c .before .before .before .before)) (block (c .before .before .before .before))) (c .before .change .given .1) (c .before .before .before .before .decide .ensures .applies)
+  asked = subst (Applies (s (c .before .before .before .before)) (block (c .before .before .before .before))) (c .before .change .given .1) (c .before .before .before .before .act .ensures .applies)
 
 module _ (c : tie.After-put2) where
   used : (d : Deliveries) → d ≡ deliveries-by (does (c .before .before .before .before .before .before)) (s (c .before .before .before .before .before .before .before .before .before .before))
-      → (answer-says (step (c .before .before .before .before .before .before .before .before .before .before) .answer) ≡ frame-answer (s (c .before .before .before .before .before .before .before .before .before .before)) (c .before .before .before .before .before .before .before .before .before .before .before .before .before .before .before .before .before .before .before .before .before .before .before .before .before .before .before .before .before .before .before .before .before .before .before .before .before .before .args .command) (block (c .before .before .before .before .before .before .before .before .before .before)))
+      → (answer-says (step (c .before .before .before .before .before .before .before .before .before .before) .answer) ≡ frame-answer (s (c .before .before .before .before .before .before .before .before .before .before)) (c .before .before .before .before .before .before .before .before .before .before .before .before .before .before .before .before .before .before .before .before .before .before .before .before .before .before .before .before .before .before .before .before .before .before .before .before .before .before .before .before .before .before .before .before .before .before .before .before .before .before .before .before .args .command) (block (c .before .before .before .before .before .before .before .before .before .before)))
       × (heard (with-deliveries (with-transactions (with-subscriptions (s (c .before .before .before .before .before .before .before .before .before .before)) (c .before .before .set-mode .result)) (c .put2 .result)) d) (time (c .before .before .before .before .before .before .before .before .before .before))
-      ≡ frame-session (s (c .before .before .before .before .before .before .before .before .before .before)) (c .before .before .before .before .before .before .before .before .before .before .before .before .before .before .before .before .before .before .before .before .before .before .before .before .before .before .before .before .before .before .before .before .before .before .before .before .before .before .args .command) (block (c .before .before .before .before .before .before .before .before .before .before)) (time (c .before .before .before .before .before .before .before .before .before .before)))
+      ≡ frame-session (s (c .before .before .before .before .before .before .before .before .before .before)) (c .before .before .before .before .before .before .before .before .before .before .before .before .before .before .before .before .before .before .before .before .before .before .before .before .before .before .before .before .before .before .before .before .before .before .before .before .before .before .before .before .before .before .before .before .before .before .before .before .before .before .before .before .args .command) (block (c .before .before .before .before .before .before .before .before .before .before)) (time (c .before .before .before .before .before .before .before .before .before .before)))
   used d e =
       changed (c .before .before .before .before .before .before .before .before .before .before) _ (c .before .before .before .before .before .before .before .change .given .1) _
       (used-is (s (c .before .before .before .before .before .before .before .before .before .before)) (block (c .before .before .before .before .before .before .before .before .before .before)) (time (c .before .before .before .before .before .before .before .before .before .before)) (puts (c .before .before .before .before .before .before)) (does (c .before .before .before .before .before .before)) _ _ d
@@ -104,8 +119,36 @@ returns c =
     frame-gives (a .t1) (a .command) (now (a .block)) (a .time) _
     (gives-kept _ 38 _ (ap not (sym w) ∙ c .before .if1 .taken) refl (c .kept .ensures))
 
-decide-requires : tie.Need-decide-requires
-decide-requires c κs = valid c
+note-requires : tie.Need-note-requires
+note-requires c κs = search needs
+
+is-unknown-requires : tie.Need-is-unknown-requires
+is-unknown-requires c κs = search needs
+
+kept-requires-2 : tie.Need-kept-requires-2
+kept-requires-2 c κs = search needs
+
+returns-2 : tie.Need-returns-2
+returns-2 c =
+    let a = c .before .before .before .before .before .before .before .before .before .before .before .before .before .before .before .before .before .before .before .before .before .before .before .before .before .before .before .before .before .before .before .before .args in
+    let fails = ap₂ (λ x y. x || not y) (sym (c .before .before .before .is-unknown .ensures)) (sym (c .before .before .before .before .note .ensures .well-formed)) ∙ c .before .if2 .taken in
+    frame-gives (a .t1) (a .command) (now (a .block)) (a .time) _
+    (gives-on _ _ (ap not (valid (c .before .before .before .before .before))) (gives-kept _ 39 _ fails refl (c .kept2 .ensures)))
+
+settle-ids-requires : tie.Need-settle-ids-requires
+settle-ids-requires c κs =
+    let s = c .before .before .before .before .before .before .before .before .before .before .before .before .before .before .before .before .before .before .before .before .before .before .before .before .before .before .before .before .before .before .before .before .before .before .before .before .before .before .before .before in
+    let v = valid (c .before .before .before .before .before .before .before .before .before .before .before .before .before) in
+    let sized = kept s v .ids .sized in
+    (fits-of (s .args .t1) sized v Subscriptions, fits-of (s .args .t1) sized v Transactions, noted (c .before .before .before .before .before .before .before .before .before))
+
+act-requires : tie.Need-act-requires
+act-requires c κs = (
+  valid (c .before .before .before .before .before .before .before .before .before .before .before .before .before .before),
+  noted (c .before .before .before .before .before .before .before .before .before .before),
+  c .settle-ids .ensures (c .before .before .before .before .before .before .before .before .before .before .before .before .before .before .before .before .before .before .before .before .before .before .before .before .before .before .before .before .before .before .before .before .before .before .before .before .before .before .before .before .before .args .t1)
+      (record { subs-are = refl; sub-lens-are = refl; txs-are = refl; tx-lens-are = refl }),
+)
 
 enum-told : tie.Need-enum-told
 enum-told c = search needs
@@ -152,47 +195,47 @@ enum-known-further-2 c = search needs
 dropped-requires : tie.Need-dropped-requires
 dropped-requires c κs =
     let d = c .before .before .before .before .before .before .before .before .before .before .before .before .before .before in
-    (laid-of (s d) (kept (c .before .before .before .before .before .before .before .before .before .before .before .before .before .before .before .before .before .before .before .before .before .before .before .before .before .before .before .before .before .before .before .before .before .before .before .before .before .before .before .before .before .before) (valid (c .before .before .before .before .before .before .before .before .before .before .before .before .before .before .before))), subst ModeFits (c .before .before .further2 .given .1) (asked (c .before .before .before .before .before .before .before .before .before .before) .mode-fits))
+    (laid-of (s d) (kept (c .before .before .before .before .before .before .before .before .before .before .before .before .before .before .before .before .before .before .before .before .before .before .before .before .before .before .before .before .before .before .before .before .before .before .before .before .before .before .before .before .before .before .before .before .before .before .before .before .before .before .before .before .before .before .before .before) (valid (c .before .before .before .before .before .before .before .before .before .before .before .before .before .before .before .before .before .before .before .before .before .before .before .before .before .before .before .before .before))), subst ModeFits (c .before .before .further2 .given .1) (asked (c .before .before .before .before .before .before .before .before .before .before) .mode-fits))
 
 enum-known-further-3 : tie.Need-enum-known-further-3
 enum-known-further-3 c = search needs
 
 slice-aggregate-settled : tie.Need-slice-aggregate-settled
-slice-aggregate-settled c = search (needs, c .before .before .before .before .before .before .before .before .before .before .before .before .before .before .before .before .before .before .before .before .before .before .before .before .before .before .before .before .before .before .before .before .before .before .before .before .before .before .before .before .before .before .before .good .0 .1 .1 .1 .1 .0)
+slice-aggregate-settled c = search (needs, c .before .before .before .before .before .before .before .before .before .before .before .before .before .before .before .before .before .before .before .before .before .before .before .before .before .before .before .before .before .before .before .before .before .before .before .before .before .before .before .before .before .before .before .before .before .before .before .before .before .before .before .before .before .before .before .before .before .good .0 .1 .1 .1 .1 .0)
 
 settled-requires : tie.Need-settled-requires
 settled-requires c κs =
     let d = c .before .before .before .before .before .before .before .before .before .before .before .before .before .before .before in
-    (laid-of (s d) (kept (c .before .before .before .before .before .before .before .before .before .before .before .before .before .before .before .before .before .before .before .before .before .before .before .before .before .before .before .before .before .before .before .before .before .before .before .before .before .before .before .before .before .before .before) (valid (c .before .before .before .before .before .before .before .before .before .before .before .before .before .before .before .before))), subst (λ f. SettleFits f (s d .deliveries)) (c .before .before .before .further3 .given .1) (asked (c .before .before .before .before .before .before .before .before .before .before .before) .settle-fits) .number-inside)
-
-returns-2 : tie.Need-returns-2
-returns-2 c = changed (c .before .before .before) _ (c .enum-told .given .1) _ refl
+    (laid-of (s d) (kept (c .before .before .before .before .before .before .before .before .before .before .before .before .before .before .before .before .before .before .before .before .before .before .before .before .before .before .before .before .before .before .before .before .before .before .before .before .before .before .before .before .before .before .before .before .before .before .before .before .before .before .before .before .before .before .before .before .before) (valid (c .before .before .before .before .before .before .before .before .before .before .before .before .before .before .before .before .before .before .before .before .before .before .before .before .before .before .before .before .before .before))), subst (λ f. SettleFits f (s d .deliveries)) (c .before .before .before .further3 .given .1) (asked (c .before .before .before .before .before .before .before .before .before .before .before) .settle-fits) .number-inside)
 
 returns-3 : tie.Need-returns-3
-returns-3 c = changed (c .before .before .before .before) _ (c .before .enum-told2 .given .1) _ (ap (with-deliveries (with-phase (s (c .before .before .before .before)) closed-phase)) (c .none .ensures))
+returns-3 c = changed (c .before .before .before) _ (c .enum-told .given .1) _ refl
 
 returns-4 : tie.Need-returns-4
-returns-4 c =
+returns-4 c = changed (c .before .before .before .before) _ (c .before .enum-told2 .given .1) _ (ap (with-deliveries (with-phase (s (c .before .before .before .before)) closed-phase)) (c .none .ensures))
+
+returns-5 : tie.Need-returns-5
+returns-5 c =
     changed (c .before .before .before .before) _ (c .before .enum-told3 .given .1) _
     (ap (λ (d : Deliveries). heard (with-deliveries (with-phase (s (c .before .before .before .before)) closed-phase) d) (time (c .before .before .before .before))) (c .none2 .ensures))
 
-returns-5 : tie.Need-returns-5
-returns-5 c = changed (c .before .before .before) _ (c .enum-told4 .given .1) _ refl
-
 returns-6 : tie.Need-returns-6
-returns-6 c = changed (c .before .before .before) _ (c .enum-told5 .given .1) _ refl
+returns-6 c = changed (c .before .before .before) _ (c .enum-told4 .given .1) _ refl
 
 returns-7 : tie.Need-returns-7
-returns-7 c = used (c .before .before) _ (ap (λ f. deliveries-by f (s (c .before .before .before .before .before .before .before .before .before .before .before .before))) (sym (c .enum-told6 .given .1)))
+returns-7 c = changed (c .before .before .before) _ (c .enum-told5 .given .1) _ refl
 
 returns-8 : tie.Need-returns-8
-returns-8 c = used (c .before .before .before) _ (ap (λ f. deliveries-by f (s (c .before .before .before .before .before .before .before .before .before .before .before .before .before))) (sym (c .before .further .given .1)))
+returns-8 c = used (c .before .before) _ (ap (λ f. deliveries-by f (s (c .before .before .before .before .before .before .before .before .before .before .before .before))) (sym (c .enum-told6 .given .1)))
 
 returns-9 : tie.Need-returns-9
-returns-9 c = used (c .before .before .before .before .before) _ (c .dropped .ensures ∙ ap (λ f. deliveries-by f (s (c .before .before .before .before .before .before .before .before .before .before .before .before .before .before .before))) (sym (c .before .before .before .further2 .given .1)))
+returns-9 c = used (c .before .before .before) _ (ap (λ f. deliveries-by f (s (c .before .before .before .before .before .before .before .before .before .before .before .before .before))) (sym (c .before .further .given .1)))
 
 returns-10 : tie.Need-returns-10
-returns-10 c =
+returns-10 c = used (c .before .before .before .before .before) _ (c .dropped .ensures ∙ ap (λ f. deliveries-by f (s (c .before .before .before .before .before .before .before .before .before .before .before .before .before .before .before))) (sym (c .before .before .before .further2 .given .1)))
+
+returns-11 : tie.Need-returns-11
+returns-11 c =
     let d = c .before .before .before .before .before .before .before .before .before .before .before .before .before .before .before .before in
     let fits = subst (λ f. SettleFits f (s d .deliveries)) (c .before .before .before .before .further3 .given .1) (asked (c .before .before .before .before .before .before .before .before .before .before .before .before) .settle-fits) in
     used (c .before .before .before .before .before .before) _ (c .settled .ensures _ (fits .first-labelled) ∙ ap (λ f. deliveries-by f (s d)) (sym (c .before .before .before .before .further3 .given .1)))
@@ -206,7 +249,12 @@ frame-spec =
     are-valid-requires
     kept-requires
     returns
-    decide-requires
+    note-requires
+    is-unknown-requires
+    kept-requires-2
+    returns-2
+    settle-ids-requires
+    act-requires
     enum-told
     enum-told-2
     none-requires
@@ -225,7 +273,6 @@ frame-spec =
     enum-known-further-3
     slice-aggregate-settled
     settled-requires
-    returns-2
     returns-3
     returns-4
     returns-5
@@ -233,4 +280,5 @@ frame-spec =
     returns-7
     returns-8
     returns-9
-    returns-10)
+    returns-10
+    returns-11)
