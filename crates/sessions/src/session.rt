@@ -554,13 +554,17 @@ impl Session {
         match change {
             Change::Nothing => {}
             Change::Close => {
-                self.phase = Session::CLOSED;
-                self.deliveries = Deliveries::none();
+                return Outcome {
+                    session: self.closed(),
+                    answer,
+                };
             }
             Change::Disconnect => {
-                self.phase = Session::CLOSED;
-                self.deliveries = Deliveries::none();
                 self.last_heard = time;
+                return Outcome {
+                    session: self.closed(),
+                    answer,
+                };
             }
             Change::Open => {
                 self.agreed = agreed;

@@ -5,7 +5,7 @@ use mathlib.Core.List.{List}
 use Prim.Native.Nat.{ℕ}
 use borrow.Author.Tests.{not-false}
 use denote.Ref.{now}
-use Rattle.sessions.specs.Sessions.{closed-phase, with-phase, with-subscriptions, with-transactions, with-deliveries, heard, is-valid}
+use Rattle.sessions.specs.Sessions.{with-subscriptions, with-transactions, with-deliveries, heard, is-valid}
 use Rattle.headers.specs.Answers.{is-block}
 use Rattle.headers.proofs.Rows.{or-false-right}
 use Rattle.sessions.specs.Headers.{unknown}
@@ -156,14 +156,20 @@ enum-told c = search needs
 enum-told-2 : tie.Need-enum-told-2
 enum-told-2 c = search needs
 
-none-requires : tie.Need-none-requires
-none-requires c κs = search needs
+closed-requires : tie.Need-closed-requires
+closed-requires c κs = search needs
+
+returns-3 : tie.Need-returns-3
+returns-3 c = changed (c .before .before .before .before) _ (c .before .enum-told2 .given .1) _ (c .closed .ensures)
 
 enum-told-3 : tie.Need-enum-told-3
 enum-told-3 c = search needs
 
-none-requires-2 : tie.Need-none-requires-2
-none-requires-2 c κs = search needs
+closed-requires-2 : tie.Need-closed-requires-2
+closed-requires-2 c κs = search needs
+
+returns-4 : tie.Need-returns-4
+returns-4 c = changed (c .before .before .before .before) _ (c .before .enum-told3 .given .1) _ (c .closed2 .ensures)
 
 enum-told-4 : tie.Need-enum-told-4
 enum-told-4 c = search needs
@@ -208,16 +214,8 @@ settled-requires c κs =
     let d = c .before .before .before .before .before .before .before .before .before .before .before .before .before .before .before in
     (laid-of (s d) (kept (c .before .before .before .before .before .before .before .before .before .before .before .before .before .before .before .before .before .before .before .before .before .before .before .before .before .before .before .before .before .before .before .before .before .before .before .before .before .before .before .before .before .before .before .before .before .before .before .before .before .before .before .before .before .before .before .before .before) (valid (c .before .before .before .before .before .before .before .before .before .before .before .before .before .before .before .before .before .before .before .before .before .before .before .before .before .before .before .before .before .before))), subst (λ f. SettleFits f (s d .deliveries)) (c .before .before .before .further3 .given .1) (asked (c .before .before .before .before .before .before .before .before .before .before .before) .settle-fits) .number-inside)
 
-returns-3 : tie.Need-returns-3
-returns-3 c = changed (c .before .before .before) _ (c .enum-told .given .1) _ refl
-
-returns-4 : tie.Need-returns-4
-returns-4 c = changed (c .before .before .before .before) _ (c .before .enum-told2 .given .1) _ (ap (with-deliveries (with-phase (s (c .before .before .before .before)) closed-phase)) (c .none .ensures))
-
 returns-5 : tie.Need-returns-5
-returns-5 c =
-    changed (c .before .before .before .before) _ (c .before .enum-told3 .given .1) _
-    (ap (λ (d : Deliveries). heard (with-deliveries (with-phase (s (c .before .before .before .before)) closed-phase) d) (time (c .before .before .before .before))) (c .none2 .ensures))
+returns-5 c = changed (c .before .before .before) _ (c .enum-told .given .1) _ refl
 
 returns-6 : tie.Need-returns-6
 returns-6 c = changed (c .before .before .before) _ (c .enum-told4 .given .1) _ refl
@@ -257,9 +255,11 @@ frame-spec =
     act-requires
     enum-told
     enum-told-2
-    none-requires
+    closed-requires
+    returns-3
     enum-told-3
-    none-requires-2
+    closed-requires-2
+    returns-4
     enum-told-4
     enum-told-5
     enum-known-change
@@ -273,8 +273,6 @@ frame-spec =
     enum-known-further-3
     slice-aggregate-settled
     settled-requires
-    returns-3
-    returns-4
     returns-5
     returns-6
     returns-7
