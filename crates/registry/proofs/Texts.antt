@@ -1,20 +1,19 @@
 -- Laws of a text in a field, by the tests of the code. Assumes nothing.
-use mathlib.Core.Path.{_≡_, refl, sym, ap, ap₂, _∙_}
-use mathlib.Core.Bool.{Bool, true, false, _&&_, _||_, not}
+use mathlib.Core.Path.{_≡_, sym, ap, ap₂, _∙_}
+use mathlib.Core.Bool.{Bool, false, _&&_, not}
 use mathlib.Core.List.{List, [], _∷_, _++_, append-nil}
-use Prim.Native.Nat.{ℕ, zero, suc, _+_, _-_, _/_, _%_, _≤_, _<_}
-use native.Mathlib.Nat.{sub-zero}
+use Prim.Native.Nat.{ℕ, suc, _+_, _-_, _/_, _%_, _≤_, _<_}
 use native.Mathlib.Numerals.{add-one}
 use native.Mathlib.Omega.{arith}
 use lib.ListN.{length, take, drop, getD, set, length-drop, drop-of-length-le}
 use lib.Seq.{take-all, drop-cons, drop-drop, append-snoc, drop-set-add, drop-length}
-use lib.Dec.{eqb, ltb}
+use lib.Dec.{ltb}
 use borrow.Rule.Slice.PartMut.{putMid}
 use borrow.Author.Tests.{eq-eqb, ne-eqb, lt-ltb, le-ltb}
 use Rattle.headers.specs.Numbers.{numeral}
 use Rattle.stores.specs.Places.{is-zero, padded, filled}
 use Rattle.stores.proofs.Filling.{padded-long, filled-all}
-use Rattle.stores.proofs.Walking.{drop-one, part-from, part-drop}
+use Rattle.stores.proofs.Walking.{part-from, part-drop}
 use Rattle.registry.specs.Records.{text-field}
 use Rattle.registry.specs.Tests.{TextEnd, is-field}
 

@@ -1,8 +1,7 @@
 // A text in a field: its length, its octets, and 0 after them.
 ghost use mathlib.Core.Path.{_≡_};
 ghost use Prim.Native.Nat.{_-_, _≤_, _<_};
-ghost use lib.ListN.{length, drop};
-ghost use Rattle.stores.specs.Places.{is-zero};
+ghost use lib.ListN.{length};
 ghost use Rattle.registry.specs.Records.{text-field};
 ghost use Rattle.registry.specs.Tests.{is-named, TextEnd, is-field};
 

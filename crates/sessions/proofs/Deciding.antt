@@ -5,16 +5,14 @@
 --     looks-..                        the same by the command
 --     decides-.., uses-..             steps
 use mathlib.Core.Path.{_≡_, refl, sym, ap, ap₂, subst, _∙_}
-use mathlib.Core.Bool.{Bool, true, false, _||_, not}
+use mathlib.Core.Bool.{true, false}
 use mathlib.Core.Option.{Option, none, some}
-use mathlib.Core.List.{List, [], _∷_, _++_}
+use mathlib.Core.List.{List, []}
 use Prim.Native.Nat.{ℕ, _+_, _-_, _≤_, _<_}
-use native.Mathlib.Omega.{arith}
-use lib.Dec.{eqb}
-use lib.ListN.{length, take, drop}
+use lib.ListN.{length}
 use Rattle.headers.specs.Rows.{same}
 use Rattle.headers.specs.Block.{Entry, entries, listed}
-use Rattle.headers.specs.Answers.{Check, accepted, refused, settle}
+use Rattle.headers.specs.Answers.{Check, settle}
 use Rattle.headers.proofs.Rows.{same-eq}
 use Rattle.frames.specs.Grammar.{number, SUBSCRIBE, UNSUBSCRIBE}
 use Rattle.stores.specs.Searches.{first-from}
@@ -22,13 +20,13 @@ use Rattle.sessions.specs.Stores.{ids}
 use Rattle.sessions.specs.Places.{Settles, stored}
 use Rattle.sessions.specs.Headers.{is, settles, value-of, mode-asked, put-before, changed-id}
 use Rattle.sessions.specs.Deliveries.{auto-mode, with-mode, pending, labelled, settle-label, dropped}
-use Rattle.sessions.specs.Sessions.{subscriptions-max, transactions-max, id-max, ids-of, with-subscriptions, with-transactions, with-deliveries}
+use Rattle.sessions.specs.Sessions.{subscriptions-max, id-max, ids-of, with-subscriptions, with-transactions, with-deliveries}
 use Rattle.sessions.specs.Sessions.{heard, is-valid, Sized}
 use Rattle.sessions.specs.Calls.{uses-of, id-effect, delivery-checks, modes-effect, delivery-effect, label-named, place-named, free-place}
 use Rattle.sessions.specs.Notes.{Locates}
 use Rattle.sessions.specs.Steps.{closed-by, accepted-by, Gives, GivesUses, SettlesUse, use-named, put-of, count-of, label-checks, outcome-with}
-use Rattle.sessions.specs.Changes.{Lends, PlacingFits, PutFits, part-of, put-by, modes-by, deliveries-by, label-of, IsPending, Does, Passes, Looks}
-use Rattle.sessions.specs.Changes.{LooksLabel, LooksFurther, use-of, changed-by, Uses, Applies, closing-step, accepting-step, outcome-of, Decides}
+use Rattle.sessions.specs.Changes.{Lends, PutFits, part-of, put-by, modes-by, deliveries-by, label-of, Does, Looks}
+use Rattle.sessions.specs.Changes.{LooksLabel, LooksFurther, use-of, Uses, Applies, closing-step, accepting-step, outcome-of, Decides}
 use Rattle.sessions.specs.Changes.{DecidesUses, put-sub, put-tx, set-modes, used-by}
 use Rattle.sessions.specs.declared.command.Header.the-variants.{Id}
 use Rattle.sessions.specs.declared.command.Kind.{Kind}
@@ -40,7 +38,6 @@ use Rattle.sessions.specs.declared.parts.SubscriptionStore.{Subscription
 use Rattle.sessions.specs.declared.parts.TransactionStore.{TransactionStore}
 use Rattle.sessions.specs.declared.session.Session.{Session}
 use Rattle.sessions.specs.declared.session.Acceptance.{Acceptance}
-use Rattle.sessions.specs.declared.session.Outcome.{Outcome}
 use Rattle.sessions.specs.declared.store.Use.{Use}
 use Rattle.sessions.specs.declared.store.Settled.{Settled}
 use Rattle.sessions.specs.declared.step.Placing.{Placing}
@@ -48,7 +45,7 @@ use Rattle.sessions.specs.declared.step.Put.{Put}
 use Rattle.sessions.specs.declared.step.Further.{Further}
 use Rattle.sessions.specs.declared.step.Looked.{Looked}
 use Rattle.sessions.specs.declared.step.Step.{Step}
-use Rattle.sessions.proofs.Steps.{keeps, gives-refused, settle-refused, then-accepted, then-delivery}
+use Rattle.sessions.proofs.Steps.{gives-refused, settle-refused, then-accepted, then-delivery}
 use Rattle.sessions.proofs.Uses.{naming-asked, naming-put}
 use Rattle.sessions.proofs.Kept.{Kept, first-passes}
 use Rattle.sessions.proofs.Delivering.{label-found, label-missed}

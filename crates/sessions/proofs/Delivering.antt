@@ -3,7 +3,6 @@
 --     settled-client, settled-individual       what an ACK or NACK leaves
 --     dropped-none, dropped-some               what an UNSUBSCRIBE leaves
 --     dropped-idle, modes-idle, entered-auto   an UNSUBSCRIBE and a SUBSCRIBE that change no mode and no delivery
---     outcome-same, outcome-entered, outcome-freed, outcome-settled    what the outcomes are, with other modes and deliveries
 --     says-at, says-nowhere                    where a search ended
 --     free-is, place-inside                    the places of subscriptions
 --     label-found, label-missed                60
@@ -33,14 +32,13 @@ use Rattle.sessions.specs.Deliveries.{record-label, acknowledging, idle-
 use Rattle.sessions.specs.Sessions.{subscriptions-max, id-max, open-phase, ids-of, with-deliveries, is-valid, SizedDeliveries}
 use Rattle.sessions.specs.Held.{delivery-of, held-deliveries, nth, nothing-told, told-of, pending-answer}
 use Rattle.sessions.specs.Calls.{free-place, place-named, is-auto, deliver-checks, deliver-answer, deliver-session, recording}
-use Rattle.sessions.specs.Steps.{outcome-modes, outcome-deliveries, outcome-with, Unchanged, Records, RecordsAt, MayRecord, unrecorded-by}
+use Rattle.sessions.specs.Steps.{Records, RecordsAt, MayRecord, unrecorded-by}
 use Rattle.sessions.specs.Steps.{recorded-as, recording-at, label-checks}
 use Rattle.sessions.specs.Answers.{delivery-says}
 use Rattle.stores.specs.declared.search.Search.{Search}
 use Rattle.sessions.specs.declared.command.Kind.the-variants.{Subscriptions}
 use Rattle.sessions.specs.declared.delivery.Deliveries.{Deliveries}
 use Rattle.sessions.specs.declared.session.Session.{Session}
-use Rattle.sessions.specs.declared.session.Outcome.{Outcome}
 use Rattle.sessions.specs.declared.session.Recording.{Recording}
 use Rattle.sessions.specs.declared.session.PendingAnswer.{PendingAnswer}
 use Rattle.sessions.specs.declared.session.PendingAt.{PendingAt}
@@ -188,32 +186,6 @@ dropped-idle d sized l (some k) e = dropped-none d sized l k e
 pub modes-idle : (ms : List ℕ) (o : Option ℕ) → is-zero ms ≡ true → ms ≡ with-mode o auto-mode ms
 modes-idle ms none h = refl
 modes-idle ms (some k) h = sym (set-same ms k auto-mode (zero-at ms k h))
-
--- ---- an outcome whose session has the modes and the deliveries that were
-
-module _ (s : Session) (named : Outcome) (same-yet : Unchanged s (named .session)) where
-  pub outcome-same : named ≡ outcome-with named (s .subscriptions .modes) (s .deliveries)
-  outcome-same = ap₂ (outcome-with named) (same-yet .modes-same) (same-yet .deliveries-same)
-
-  -- a mode set in a free place
-  pub outcome-entered : (k m : ℕ) → free-place s ≡ some k
-      → outcome-modes named (set (named .session .subscriptions .modes) k m)
-      ≡ outcome-with named (with-mode (free-place s) m (s .subscriptions .modes)) (s .deliveries)
-  outcome-entered k m f =
-      ap₂ (λ ms d. outcome-with named (set ms k m) d) (same-yet .modes-same) (same-yet .deliveries-same)
-      ∙ ap (λ o. outcome-with named (with-mode o m (s .subscriptions .modes)) (s .deliveries)) (sym f)
-
-  -- the mode and the deliveries of a place dropped
-  pub outcome-freed : (o : Option ℕ) (k : ℕ) → o ≡ some k
-      → outcome-with named (set (named .session .subscriptions .modes) k auto-mode) (dropped (some k) (s .deliveries))
-      ≡ outcome-with named (with-mode o auto-mode (s .subscriptions .modes)) (dropped o (s .deliveries))
-  outcome-freed o k f =
-      ap (λ ms. outcome-with named (set ms k auto-mode) (dropped (some k) (s .deliveries))) (same-yet .modes-same)
-      ∙ ap (λ z. outcome-with named (with-mode z auto-mode (s .subscriptions .modes)) (dropped z (s .deliveries))) (sym f)
-
-  -- other deliveries
-  pub outcome-settled : (d : Deliveries) → outcome-deliveries named d ≡ outcome-with named (s .subscriptions .modes) d
-  outcome-settled d = ap (λ ms. outcome-with named ms d) (same-yet .modes-same)
 
 -- ---- where a search ended
 

@@ -3,7 +3,6 @@
 use mathlib.Core.Path.{_≡_, refl, sym, ap, ap₂, subst, _∙_}
 use mathlib.Core.Bool.{Bool, true, false, cond, _||_, not}
 use mathlib.Core.Logic.{_⊎_, inl, inr, ⊎-elim}
-use mathlib.Core.Option.{Option, none, some}
 use mathlib.Core.List.{List, [], _∷_, _++_}
 use Prim.Native.Nat.{ℕ}
 use native.Mathlib.Omega.{arith}
@@ -14,24 +13,20 @@ use Rattle.headers.specs.Rows.{every}
 use Rattle.headers.specs.Block.{Entry, entries, listed}
 use Rattle.headers.specs.Answers.{Answer, accepted, refused, Check, settle}
 use Rattle.headers.proofs.Rows.{and-left, and-right, or-false-left}
-use Rattle.frames.specs.Grammar.{number, ACK, NACK, CONNECT, DISCONNECT, STOMP, SUBSCRIBE, UNSUBSCRIBE}
+use Rattle.frames.specs.Grammar.{number, ACK, NACK, CONNECT, DISCONNECT, STOMP, UNSUBSCRIBE}
 use Rattle.sessions.specs.Values.{heart-beat-max}
 use Rattle.sessions.specs.Opening.{may-offer}
-use Rattle.sessions.specs.Headers.{has, is, opens, settles, IdUse, changed-id, value-of, mode-asked}
-use Rattle.sessions.specs.Sessions.{fresh, ids-of, with-ids, with-modes, with-deliveries, closed, heard, is-valid}
-use Rattle.sessions.specs.Stores.{used}
+use Rattle.sessions.specs.Headers.{has, is, opens, settles, IdUse, changed-id}
+use Rattle.sessions.specs.Sessions.{fresh, with-modes, with-deliveries, closed, heard, is-valid}
 use Rattle.sessions.specs.Answers.{acceptance-says, answer-says}
-use Rattle.sessions.specs.Calls.{left-by, uses-of, id-effect, id-checks, delivery-checks, modes-effect, delivery-effect, named-effect, label-named}
-use Rattle.sessions.specs.Calls.{settle-named, place-named, free-place, mode-or-auto, lacks-needed, frame-checks, acceptance-of, no-receipt}
+use Rattle.sessions.specs.Calls.{left-by, uses-of, id-effect, id-checks, delivery-checks, modes-effect, delivery-effect, named-effect}
+use Rattle.sessions.specs.Calls.{lacks-needed, frame-checks, acceptance-of, no-receipt}
 use Rattle.sessions.specs.Calls.{frame-answer, effect, frame-session, heart-beat-checks, heart-beat-answer, heart-beat-session, making-answer, made}
 use Rattle.sessions.specs.Calls.{is-timed-out, timed-out-answer}
-use Rattle.sessions.specs.Deliveries.{auto-mode, with-mode, dropped}
 use Rattle.sessions.specs.Steps.{kept-by, closed-by, accepted-by, Gives, opening-only, GivesUses, GivesOpening, GivesDelivery, GivesEntries}
-use Rattle.sessions.specs.Steps.{after-answer, GivesThen, Unchanged, untouched, Untouched, outcome-with, mode-checks, label-checks, GivesMode}
-use Rattle.sessions.specs.Steps.{GivesDropped, GivesLabel, Records, unrecorded-by, recorded-as}
+use Rattle.sessions.specs.Steps.{after-answer, GivesThen, outcome-with}
+use Rattle.sessions.specs.Steps.{Records, unrecorded-by, recorded-as}
 use Rattle.sessions.specs.declared.command.Header.the-variants.{Id}
-use Rattle.sessions.specs.declared.command.Kind.{Kind}
-use Rattle.sessions.specs.declared.command.Kind.the-variants.{Subscriptions, Transactions}
 use Rattle.sessions.specs.declared.delivery.Deliveries.{Deliveries}
 use Rattle.sessions.specs.declared.session.SessionAnswer.{SessionAnswer}
 use Rattle.sessions.specs.declared.session.Recording.{Recording}
@@ -223,18 +218,8 @@ module _ (cs ds : List Check) (acceptance : Acceptance) (before after : Session)
             left = h .left ∙ ap₂ (λ A (x : Session). left-by A before (changed x)) (sym whole) there;
           }
 
--- what an outcome that was refused, and one that was accepted, gives then
+-- what an outcome that was accepted gives then
 module _ (checks : List Check) (before : Session) (ms : List ℕ) (d : Deliveries) (named r : Outcome) where
-  pub then-refused : (k : ℕ) → named .answer ≡ SessionAnswer.Refused k → r ≡ named → GivesThen checks before ms d named r
-  then-refused k e q = subst (λ x. after-answer x checks before ms d named r) (sym e) q
-
-  pub then-closed : (k : ℕ) → settle checks [] ≡ refused k → keeps k ≡ false → (a : Acceptance) → named .answer ≡ SessionAnswer.Accepted a
-      → r ≡ closed-by before k
-      → GivesThen checks before ms d named r
-  then-closed k h n a e q =
-      subst (λ x. after-answer x checks before ms d named r) (sym e)
-      (gives-refused checks k (settle-refused checks [] (acceptance-says a) k h) n q)
-
   pub then-accepted : ((v : List ℕ) → settle checks v ≡ accepted v) → (a : Acceptance) → named .answer ≡ SessionAnswer.Accepted a
       → r ≡ outcome-with named ms d → GivesThen checks before ms d named r
   then-accepted h a e q =
@@ -244,64 +229,6 @@ module _ (checks : List Check) (before : Session) (ms : List ℕ) (d : Deliverie
         left = ap (λ (o : Outcome). o .session) q
             ∙ ap (λ A. left-by A before (with-deliveries (with-modes (named .session) ms) d)) (sym (h (acceptance-says a)));
       })
-
-  -- other checks that settle on the same answer
-  pub then-alike : (others : List Check) → ((v : List ℕ) → settle checks v ≡ settle others v) → GivesThen checks before ms d named r
-      → GivesThen others before ms d named r
-  then-alike others same g = by (named .answer) g
-    where
-      by : (x : SessionAnswer) → after-answer x checks before ms d named r → after-answer x others before ms d named r
-      by (SessionAnswer.Refused k) q = q
-      by (SessionAnswer.Accepted a) q = gives-alike checks others (same (acceptance-says a)) q
-
--- ---- a SUBSCRIBE, an UNSUBSCRIBE, and an ACK or NACK, by the outcome that was
-
-module _ (s : Session) (es : List Entry) (named r : Outcome) where
-  -- the modes after a SUBSCRIBE, and after an UNSUBSCRIBE the modes and the deliveries
-  abbrev entered : Option ℕ → List ℕ
-  entered o = with-mode (free-place s) (mode-or-auto o) (s .subscriptions .modes)
-
-  abbrev freed : Option (List ℕ) → List ℕ
-  freed o = with-mode (place-named s o) auto-mode (s .subscriptions .modes)
-
-  abbrev left : Option (List ℕ) → Deliveries
-  left o = dropped (place-named s o) (s .deliveries)
-
-  pub mode-refused : (k : ℕ) → named .answer ≡ SessionAnswer.Refused k → r ≡ named → GivesMode s es named r
-  mode-refused k e q = then-refused (mode-checks es) s (entered (mode-asked es)) (s .deliveries) named r k e q
-
-  pub mode-unknown : mode-asked es ≡ none → (a : Acceptance) → named .answer ≡ SessionAnswer.Accepted a → r ≡ closed-by s 49 → GivesMode s es named r
-  mode-unknown h a e q = then-closed (mode-checks es) s (entered (mode-asked es)) (s .deliveries) named r 49 (rw h) refl a e q
-
-  pub mode-kept : (m : ℕ) → mode-asked es ≡ some m → (a : Acceptance) → named .answer ≡ SessionAnswer.Accepted a
-      → r ≡ outcome-with named (entered (some m)) (s .deliveries) → GivesMode s es named r
-  mode-kept m h a e q =
-      then-accepted (mode-checks es) s (entered (mode-asked es)) (s .deliveries) named r (λ v. rw h) a e
-      (q ∙ ap (λ o. outcome-with named (entered o) (s .deliveries)) (sym h))
-
-  pub drop-refused : (k : ℕ) → named .answer ≡ SessionAnswer.Refused k → r ≡ named → GivesDropped s es named r
-  drop-refused k e q = then-refused [] s (freed (value-of Id es)) (left (value-of Id es)) named r k e q
-
-  pub drop-done : (id : List ℕ) → value-of Id es ≡ some id → (a : Acceptance) → named .answer ≡ SessionAnswer.Accepted a
-      → r ≡ outcome-with named (freed (some id)) (left (some id)) → GivesDropped s es named r
-  drop-done id h a e q =
-      then-accepted [] s (freed (value-of Id es)) (left (value-of Id es)) named r (λ v. refl) a e
-      (q ∙ ap (λ o. outcome-with named (freed o) (left o)) (sym h))
-
-module _ (s : Session) (o : Option (List ℕ)) (named r : Outcome) where
-  abbrev settled : Deliveries
-  settled = settle-named (s .subscriptions .modes) o (s .deliveries)
-
-  pub label-refused : (k : ℕ) → named .answer ≡ SessionAnswer.Refused k → r ≡ named → GivesLabel s o named r
-  label-refused k e q = then-refused (label-checks o (s .deliveries)) s (s .subscriptions .modes) settled named r k e q
-
-  pub label-unknown : settle (label-checks o (s .deliveries)) [] ≡ refused 60 → (a : Acceptance) → named .answer ≡ SessionAnswer.Accepted a
-      → r ≡ closed-by s 60 → GivesLabel s o named r
-  label-unknown h a e q = then-closed (label-checks o (s .deliveries)) s (s .subscriptions .modes) settled named r 60 h refl a e q
-
-  pub label-settled : ((v : List ℕ) → settle (label-checks o (s .deliveries)) v ≡ accepted v) → (a : Acceptance)
-      → named .answer ≡ SessionAnswer.Accepted a → r ≡ outcome-with named (s .subscriptions .modes) settled → GivesLabel s o named r
-  label-settled h a e q = then-accepted (label-checks o (s .deliveries)) s (s .subscriptions .modes) settled named r h a e q
 
 -- ---- a frame whose id was settled: its delivery, or the mode that it asks for
 
@@ -315,79 +242,6 @@ module _ (s : Session) (n : ℕ) (es : List Entry) (acceptance : Acceptance) (ti
   then-delivery h =
       gives-then (id-checks s (uses-of s n es)) (delivery-checks s n es) acceptance s (heard (id-effect s (changed-id (uses-of s n es))) time)
       (modes-effect s n es) (delivery-effect s n es) named r g h
-
-  pub delivery-mode : n ≡ number SUBSCRIBE → GivesMode s es named r → GivesDelivery s n es acceptance time r
-  delivery-mode e h =
-      then-delivery (subst Then (sym e) (then-alike (mode-checks es) s (modes-effect s (number SUBSCRIBE) es) (s .deliveries) named r
-      (delivery-checks s (number SUBSCRIBE) es) (λ v. refl) h))
-
-  pub delivery-dropped : n ≡ number UNSUBSCRIBE → GivesDropped s es named r → GivesDelivery s n es acceptance time r
-  delivery-dropped e h =
-      then-delivery (subst Then (sym e) (then-alike [] s (modes-effect s (number UNSUBSCRIBE) es) (delivery-effect s (number UNSUBSCRIBE) es) named r
-      (delivery-checks s (number UNSUBSCRIBE) es) (λ v. refl) h))
-
-  module _ (a : is SUBSCRIBE n ≡ false) (b : is UNSUBSCRIBE n ≡ false) where
-    modes-stay : modes-effect s n es ≡ s .subscriptions .modes
-    modes-stay = rw (a, b)
-
-    pub delivery-label : settles n ≡ true → GivesLabel s (label-named es) named r → GivesDelivery s n es acceptance time r
-    delivery-label t h =
-        let left = settle-named (s .subscriptions .modes) (label-named es) (s .deliveries) in
-        let effect-is : delivery-effect s n es ≡ left = rw (b, t) in
-        then-delivery (rw (modes-stay, effect-is)
-        (then-alike (label-checks (label-named es) (s .deliveries)) s (s .subscriptions .modes) left named r (delivery-checks s n es) (λ v. rw (a, t)) h))
-
-    pub delivery-none : settles n ≡ false → r ≡ named → GivesDelivery s n es acceptance time r
-    delivery-none t q =
-        let cs = id-checks s (uses-of s n es) in
-        let after-is : heard (named-effect s n es) time ≡ heard (id-effect s (changed-id (uses-of s n es))) time = ap (λ x. heard x time) stays in
-        let passed : (v : List ℕ) → settle (cs ++ delivery-checks s n es) v ≡ settle cs v =
-        λ v. settle-append cs (delivery-checks s n es) v ∙ ap (then (settle cs v)) (rw (a, t)) ∙ then-own cs v in
-        subst (λ (x : Session). Gives (cs ++ delivery-checks s n es) acceptance s x r) (sym after-is)
-        (gives-alike cs (cs ++ delivery-checks s n es) (sym (passed (acceptance-says acceptance))) (rw (← q) at g))
-      where
-        unchanged : (o : Option IdUse) → with-deliveries (with-modes (id-effect s o) (s .subscriptions .modes)) (s .deliveries) ≡ id-effect s o
-        unchanged none = refl
-        unchanged (some u) = by (u .kind) (used (u .usage) (u .id) (ids-of (u .kind) s))
-          where
-            by : (k : Kind) (is : List (List ℕ)) → with-deliveries (with-modes (with-ids k s is) (s .subscriptions .modes)) (s .deliveries) ≡ with-ids k s is
-            by Subscriptions is = refl
-            by Transactions is = refl
-
-        stays : named-effect s n es ≡ id-effect s (changed-id (uses-of s n es))
-        stays =
-            let deliveries-stay : delivery-effect s n es ≡ s .deliveries = rw (b, t) in
-            ap₂ (λ ms d. with-deliveries (with-modes (id-effect s (changed-id (uses-of s n es))) ms) d) modes-stay deliveries-stay
-            ∙ unchanged (changed-id (uses-of s n es))
-
-        then-own : (cs : List Check) (v : List ℕ) → then (settle cs v) (accepted v) ≡ settle cs v
-        then-own [] v = refl
-        then-own (c ∷ cs) v = pass (c .fails) (then-own cs v)
-          where
-            pass : (t : Bool) → then (settle cs v) (accepted v) ≡ settle cs v
-                → then (cond t (refused (c .number)) (settle cs v)) (accepted v) ≡ cond t (refused (c .number)) (settle cs v)
-            pass true e = refl
-            pass false e = e
-
--- where the id was settled the modes and the deliveries are those that were
-pub uses-untouched : (s : Session) (us : List IdUse) (acceptance : Acceptance) (time : ℕ) (named : Outcome) → GivesUses s us acceptance time named
-    → Untouched s named
-uses-untouched s us acceptance time named g = by (named .answer) (settle (id-checks s us) (acceptance-says acceptance)) refl refl
-  where
-    kept : (o : Option IdUse) → Unchanged s (heard (id-effect s o) time)
-    kept none = record { modes-same = refl; deliveries-same = refl }
-    kept (some u) = of (u .kind) (used (u .usage) (u .id) (ids-of (u .kind) s))
-      where
-        of : (k : Kind) (is : List (List ℕ)) → Unchanged s (heard (with-ids k s is) time)
-        of Subscriptions is = record { modes-same = refl; deliveries-same = refl }
-        of Transactions is = record { modes-same = refl; deliveries-same = refl }
-
-    by : (x : SessionAnswer) (A : Answer) → named .answer ≡ x → settle (id-checks s us) (acceptance-says acceptance) ≡ A → untouched x s named
-    by (SessionAnswer.Refused k) A e f = tt
-    by (SessionAnswer.Accepted a) (refused j) e f =
-        absurd (let q : accepted (acceptance-says a) ≡ refused j = sym (ap answer-says e) ∙ g .answered ∙ f in let z : _≡_ {A = ℕ} 0 1 = cc in omega arith)
-    by (SessionAnswer.Accepted a) (accepted v) e f =
-        subst (Unchanged s) (sym (g .left ∙ ap (λ A. left-by A s (heard (id-effect s (changed-id us)) time)) f)) (kept (changed-id us))
 
 -- the id of an UNSUBSCRIBE, an ACK and a NACK is there
 module _ (s : Session) (n : ℕ) (es : List Entry) (there : lacks-needed s n es ≡ false) where

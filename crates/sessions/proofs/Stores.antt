@@ -296,13 +296,13 @@ module _ (w : ℕ) (u : Use) (id : List ℕ) (is : List (List ℕ)) (values v : 
   use-short = le-leb (length id) w (ltb-false w (length id) (or-false-right (empty id) (ltb w (length id)) (pass .0)))
 
   pub use-new : enters u && live id is ≡ false
-  use-new = pass .1 .0
+  use-new = let (short-enough, past-44) = pass in past-44 .0
 
   pub use-live : wants-live u && not (live id is) ≡ false
-  use-live = pass .1 .1 .0
+  use-live = let (short-enough, past-44) = pass in let (new, past-45) = past-44 in past-45 .0
 
   pub use-room : enters u && not (any empty is) ≡ false
-  use-room = pass .1 .1 .1 .0
+  use-room = let (short-enough, past-44) = pass in let (new, past-45) = past-44 in let (there, past-46) = past-45 in past-46 .0
 
 pub used-distinct : (w : ℕ) (u : Use) (id : List ℕ) (is : List (List ℕ)) (values v : List ℕ) → settle (use-checks w u id is) values ≡ accepted v
     → distinct is ≡ true → distinct (used u id is) ≡ true

@@ -11,7 +11,7 @@ use borrow.Author.Tests.{ltb-false, leb-true}
 use Rattle.headers.specs.Rows.{empty}
 use Rattle.headers.specs.Answers.{accepted, settle}
 use Rattle.headers.proofs.Rows.{and-left, and-right, or-false-right}
-use Rattle.sessions.specs.Stores.{valid-store, used, use-checks}
+use Rattle.sessions.specs.Stores.{valid-store, use-checks}
 use Rattle.sessions.specs.Values.{heart-beat-max}
 use Rattle.sessions.specs.Sessions.{subscriptions-max, transactions-max, id-max, closed-phase}
 use Rattle.sessions.specs.Sessions.{ids-of, with-subscriptions, with-transactions, with-ids, valid-offers, valid-agreed, valid-numbers}
@@ -110,16 +110,6 @@ module _ (i : ℕ) (id store : List ℕ) (m : ℕ) (l : m ≡ length id) where
   pub transaction-put : (t : TransactionStore) → store ≡ put-in id-max (t .ids) i id
       → record { ids = store; lens = set (t .lens) i m } ≡ put-transaction t i id
   transaction-put t e = rw (e, l)
-
--- a session with an id put in a place of a kind
-module _ (s : Session) (i : ℕ) (id : List ℕ) (k : Kind) where
-  pub subscription-stored : (ids : SubscriptionStore) → k ≡ Subscriptions → ids ≡ put-subscription (s .subscriptions) i id
-      → with-subscriptions s ids ≡ put-of k s i id
-  subscription-stored ids is e = rw (is, e)
-
-  pub transaction-stored : (ids : TransactionStore) → k ≡ Transactions → ids ≡ put-transaction (s .transactions) i id
-      → with-transactions s ids ≡ put-of k s i id
-  transaction-stored ids is e = rw (is, e)
 
 -- the interval of a valid session is small
 pub small-inbound : (s : Session) → is-valid s ≡ true → s .agreed .inbound ≤ heart-beat-max

@@ -2,7 +2,7 @@
 use mathlib.Core.Path.{_≡_}
 use mathlib.Core.Bool.{false, _||_}
 use mathlib.Core.Option.{some}
-use mathlib.Core.List.{List, [], _∷_, _++_}
+use mathlib.Core.List.{List, [], _++_}
 use Prim.Native.Nat.{ℕ, _-_, _≤_, _<_}
 use lib.Dec.{eqb}
 use lib.ListN.{length, take, drop, getD, set}
@@ -14,7 +14,8 @@ use Rattle.sessions.specs.Deliveries.{auto-mode, pending, labelled, sett
 use Rattle.sessions.specs.Sessions.{subscriptions-max, transactions-max, id-max, with-subscriptions, with-transactions, with-deliveries}
 use Rattle.sessions.specs.Sessions.{nothing-agreed, opened, closed, heard}
 use Rattle.sessions.specs.declared.parts.Agreed.{Agreed}
-use Rattle.sessions.specs.Calls.{id-effect, opening, uses-of, id-checks, delivery-checks, modes-effect, delivery-effect, named-effect, entry-checks, effect}
+use Rattle.sessions.specs.Calls.{id-effect, opening, uses-of, id-checks, delivery-checks, modes-effect, delivery-effect, named-effect}
+use Rattle.sessions.specs.Calls.{entry-checks, effect}
 use Rattle.sessions.specs.Calls.{acceptance-of, phase-checks}
 use Rattle.sessions.specs.Steps.{closed-by, accepted-by, Gives, GivesUses, SettlesUse, settled-number, use-named, put-subscription, put-transaction}
 use Rattle.sessions.specs.Steps.{opening-only, label-checks}

@@ -7,27 +7,25 @@ use mathlib.Core.List.{List, [], _∷_, _++_}
 use Prim.Native.Nat.{ℕ, _≤_, _<_}
 use lib.ListN.{length, set}
 use lib.Dec.{eqb, leb, ltb}
-use Rattle.headers.specs.Rows.{empty}
 use Rattle.headers.specs.Block.{Entry}
 use Rattle.headers.specs.Answers.{Check, settle}
 use Rattle.sessions.specs.Stores.{enters, wants-live, changes, bad-length}
-use Rattle.sessions.specs.Deliveries.{deliveries-max, label-max, auto-mode, mode-of, is-pending, with-mode, dropped, record-label}
+use Rattle.sessions.specs.Deliveries.{deliveries-max, label-max, auto-mode, mode-of, is-pending, record-label}
 use Rattle.sessions.specs.Deliveries.{valid-labels, valid-places}
 use Rattle.sessions.specs.Opening.{none-shared}
-use Rattle.sessions.specs.Headers.{is-some, from-server, opens, mode-asked, value-of, IdUse, id-use, changed-id}
+use Rattle.sessions.specs.Headers.{is-some, from-server, opens, value-of, IdUse, id-use, changed-id}
 use Rattle.sessions.specs.Sessions.{subscriptions-max, transactions-max, id-max, fresh-phase, open-phase, closed-phase, ids-of}
 use Rattle.sessions.specs.Sessions.{with-subscriptions, with-transactions}
 use Rattle.sessions.specs.Sessions.{with-modes, with-deliveries, closed, heard, is-valid}
 use Rattle.sessions.specs.Answers.{acceptance-says, answer-says, delivery-says}
 use Rattle.sessions.specs.Calls.{left-by, shared-by, client-versions, client-heart-beats, opening, uses-of, id-effect, id-checks}
-use Rattle.sessions.specs.Calls.{delivery-checks, named-effect, entry-checks, acceptance-of, effect, is-no-label, free-place, place-named}
-use Rattle.sessions.specs.Calls.{mode-or-auto, settle-named, recorded-by}
+use Rattle.sessions.specs.Calls.{delivery-checks, named-effect, entry-checks, acceptance-of, effect, is-no-label}
+use Rattle.sessions.specs.Calls.{recorded-by}
 use Rattle.sessions.specs.Places.{put-in, Settles}
 use Rattle.sessions.specs.declared.store.Use.{Use}
 use Rattle.sessions.specs.declared.store.Settled.{Settled}
 use Rattle.sessions.specs.declared.command.Naming.{Naming}
 use Rattle.sessions.specs.declared.command.Namings.{Namings}
-use Rattle.sessions.specs.declared.command.Header.the-variants.{Id}
 use Rattle.sessions.specs.declared.command.Kind.{Kind}
 use Rattle.sessions.specs.declared.command.Kind.the-variants.{Subscriptions, Transactions}
 use Rattle.sessions.specs.declared.parts.SubscriptionStore.{SubscriptionStore}
@@ -154,19 +152,6 @@ after-answer (SessionAnswer.Accepted acceptance) checks before ms d named r =
 abbrev pub GivesThen : List Check → Session → List ℕ → Deliveries → Outcome → Outcome → Type 0
 GivesThen checks before ms d named r = after-answer (named .answer) checks before ms d named r
 
--- it has the session's modes and deliveries still
-pub record Unchanged (s r : Session) : Type 0 where
-  pub modes-same : r .subscriptions .modes ≡ s .subscriptions .modes
-  pub deliveries-same : r .deliveries ≡ s .deliveries
-
--- so has an outcome that was accepted
-abbrev pub untouched : SessionAnswer → Session → Outcome → Type 0
-untouched (SessionAnswer.Refused k) s named = Unit {0}
-untouched (SessionAnswer.Accepted acceptance) s named = Unchanged s (named .session)
-
-abbrev pub Untouched : Session → Outcome → Type 0
-Untouched s named = untouched (named .answer) s named
-
 -- an outcome with other modes, with other deliveries, and with both
 abbrev pub outcome-modes : Outcome → List ℕ → Outcome
 outcome-modes r ms = record { session = with-modes (r .session) ms; answer = r .answer }
@@ -177,26 +162,9 @@ outcome-deliveries r d = record { session = with-deliveries (r .session) d; answ
 abbrev pub outcome-with : Outcome → List ℕ → Deliveries → Outcome
 outcome-with r ms d = outcome-deliveries (outcome-modes r ms) d
 
--- 49 of the ack mode that a SUBSCRIBE asks for, 60 of the label that an ACK or NACK names
-abbrev pub mode-checks : List Entry → List Check
-mode-checks es = record { fails = not (is-some (mode-asked es)); number = 49 } ∷ []
-
+-- 60 of the label that an ACK or NACK names
 abbrev pub label-checks : Option (List ℕ) → Deliveries → List Check
 label-checks o d = record { fails = is-no-label o d; number = 60 } ∷ []
-
--- a SUBSCRIBE, an UNSUBSCRIBE, and an ACK or NACK, after the id that each names was settled
-abbrev pub GivesMode : Session → List Entry → Outcome → Outcome → Type 0
-GivesMode s es named r =
-    GivesThen (mode-checks es) s (with-mode (free-place s) (mode-or-auto (mode-asked es)) (s .subscriptions .modes)) (s .deliveries) named r
-
-abbrev pub GivesDropped : Session → List Entry → Outcome → Outcome → Type 0
-GivesDropped s es named r =
-    GivesThen [] s (with-mode (place-named s (value-of Id es)) auto-mode (s .subscriptions .modes))
-    (dropped (place-named s (value-of Id es)) (s .deliveries)) named r
-
-abbrev pub GivesLabel : Session → Option (List ℕ) → Outcome → Outcome → Type 0
-GivesLabel s o named r =
-    GivesThen (label-checks o (s .deliveries)) s (s .subscriptions .modes) (settle-named (s .subscriptions .modes) o (s .deliveries)) named r
 
 -- a delivery that is recorded, by its checks and the session that it leaves where it is accepted
 pub record Records (checks : List Check) (before after : Session) (r : Recording) : Type 0 where
@@ -209,10 +177,6 @@ unrecorded-by s k = record { session = s; answer = DeliveryAnswer.Refused k }
 
 abbrev pub recorded-as : Session → Recording
 recorded-as s = record { session = s; answer = DeliveryAnswer.Recorded }
-
--- the place of a subscription that may be delivered to
-abbrev pub subscription-at : Session → List ℕ → Option ℕ
-subscription-at s id = cond (empty id) none (place-named s (some id))
 
 -- 62 and 61, of a delivery to the subscription in a place
 abbrev pub recording-checks : Session → ℕ → List ℕ → List Check

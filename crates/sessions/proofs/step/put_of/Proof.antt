@@ -45,12 +45,16 @@ enum-told-3 c = search needs
 returns : tie.Need-returns
 returns c =
     λ s sized valid e z.
-    absurd (refused-none s (use-named (c .before .before .before .before .args .naming) (listed (entries (now (c .before .before .before .before .args .block))))) _ _ (c .before .settled .given .1) e z)
+    absurd (refused-none s (use-named (c .before .before .before .before .args .naming) (listed (entries (now (c .before .before .before .before
+    .args .block))))) _ _ (c .before .settled .given .1) e z)
 
 returns-2 : tie.Need-returns-2
 returns-2 c =
-    λ s sized valid e z.
-    (settled-kept s sized valid (use-named (c .before .before .before .args .naming) (listed (entries (now (c .before .before .before .args .block))))) (rw (c .enum-told .given .1) at e), tt)
+    λ s sized valid e z. (
+      settled-kept s sized valid (use-named (c .before .before .before .args .naming) (listed (entries (now (c .before .before .before .args
+          .block))))) (rw (c .enum-told .given .1) at e),
+      tt,
+    )
 
 returns-3 : tie.Need-returns-3
 returns-3 c =
@@ -59,7 +63,8 @@ returns-3 c =
     let l = c .before .before .before .before .locate in
     let n = c .before .before .stored-length .ensures in
     let small = stored-small (a .naming .usage) (l .result .end - l .result .start) in
-    put-subscription-of s sized valid (a .naming) (now (a .block)) _ (l .ensures) _ (rw (c .before .before .before .before .before .before .settled2 .given .1) at e) _
+    put-subscription-of s sized valid (a .naming) (now (a .block)) _ (l .ensures) _ (rw (c .before .before .before .before .before .before .settled2
+    .given .1) at e) _
     (ap (l .result .start +_) n) (omega (arith, n), omega (arith, l .ensures .inside, n, small)) (c .enum-told2 .given .1)
 
 returns-4 : tie.Need-returns-4
@@ -69,7 +74,8 @@ returns-4 c =
     let l = c .before .before .before .before .locate in
     let n = c .before .before .stored-length .ensures in
     let small = stored-small (a .naming .usage) (l .result .end - l .result .start) in
-    put-transaction-of s sized valid (a .naming) (now (a .block)) _ (l .ensures) _ (rw (c .before .before .before .before .before .before .settled2 .given .1) at e) _
+    put-transaction-of s sized valid (a .naming) (now (a .block)) _ (l .ensures) _ (rw (c .before .before .before .before .before .before .settled2
+    .given .1) at e) _
     (ap (l .result .start +_) n) (omega (arith, n), omega (arith, l .ensures .inside, n, small)) (c .enum-told3 .given .1)
 
 pub put-of-spec : {M : Type 1} → statement M

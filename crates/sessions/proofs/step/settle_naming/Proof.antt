@@ -18,7 +18,8 @@ names-id-requires c κs = search needs
 returns : tie.Need-returns
 returns c =
     λ s lent.
-    unnamed s (c .before .before .before .before .before .before .before .args .naming) (listed (entries (now (c .before .before .before .before .before .before .before .args .block)))) (sym (c .before .names-id .ensures) ∙ not-true _ (c .if1 .taken))
+    unnamed s (c .before .before .before .before .before .before .before .args .naming) (listed (entries (now (c .before .before .before .before
+    .before .before .before .args .block)))) (sym (c .before .names-id .ensures) ∙ not-true _ (c .if1 .taken))
 
 locate-requires : tie.Need-locate-requires
 locate-requires c κs = search needs
@@ -26,7 +27,8 @@ locate-requires c κs = search needs
 returns-2 : tie.Need-returns-2
 returns-2 c =
     λ s lent.
-    missing s (c .before .before .before .before .before .before .before .before .before .before .args .naming) (listed (entries (now (c .before .before .before .before .before .before .before .before .before .before .args .block))))
+    missing s (c .before .before .before .before .before .before .before .before .before .before .args .naming) (listed (entries (now (c .before
+    .before .before .before .before .before .before .before .before .before .args .block))))
     (sym (read-located (c .before .before .locate .ensures) (λ o. o) false (not-true _ (c .if2 .taken))))
 
 sub-id : tie.Need-sub-id
@@ -55,18 +57,24 @@ returns-3 c =
     λ s lent.
     let a = c .before .before .before .before .before .before .before .before .before .before .before .before .before .before .args in
     named-settles s (a .naming) (listed (entries (now (a .block)))) _ _
-    (sym (c .before .before .before .before .before .before .before .before .names-id .ensures) ∙ not-false _ (c .before .before .before .before .before .before .before .if1 .left))
-    (sym (read-located (c .before .before .before .before .before .before .locate .ensures) (λ o. o) true (not-false _ (c .before .before .before .before .if2 .left))))
-    (lent-subscriptions lent (a .naming .usage) (value-at (now (a .block)) (c .before .before .before .before .before .before .locate .result)) (c .settle .result) _ (c .before .enum-told .given .1) (c .settle .ensures))
+    (sym (c .before .before .before .before .before .before .before .before .names-id .ensures) ∙ not-false _ (c .before .before .before .before
+    .before .before .before .if1 .left))
+    (sym (read-located (c .before .before .before .before .before .before .locate .ensures) (λ o. o) true (not-false _ (c .before .before .before
+    .before .if2 .left))))
+    (lent-subscriptions lent (a .naming .usage) (value-at (now (a .block)) (c .before .before .before .before .before .before .locate .result)) (c
+    .settle .result) _ (c .before .enum-told .given .1) (c .settle .ensures))
 
 returns-4 : tie.Need-returns-4
 returns-4 c =
     λ s lent.
     let a = c .before .before .before .before .before .before .before .before .before .before .before .before .before .before .args in
     named-settles s (a .naming) (listed (entries (now (a .block)))) _ _
-    (sym (c .before .before .before .before .before .before .before .before .names-id .ensures) ∙ not-false _ (c .before .before .before .before .before .before .before .if1 .left))
-    (sym (read-located (c .before .before .before .before .before .before .locate .ensures) (λ o. o) true (not-false _ (c .before .before .before .before .if2 .left))))
-    (lent-transactions lent (a .naming .usage) (value-at (now (a .block)) (c .before .before .before .before .before .before .locate .result)) (c .settle2 .result) _ (c .before .enum-told2 .given .1) (c .settle2 .ensures))
+    (sym (c .before .before .before .before .before .before .before .before .names-id .ensures) ∙ not-false _ (c .before .before .before .before
+    .before .before .before .if1 .left))
+    (sym (read-located (c .before .before .before .before .before .before .locate .ensures) (λ o. o) true (not-false _ (c .before .before .before
+    .before .if2 .left))))
+    (lent-transactions lent (a .naming .usage) (value-at (now (a .block)) (c .before .before .before .before .before .before .locate .result)) (c
+    .settle2 .result) _ (c .before .enum-told2 .given .1) (c .settle2 .ensures))
 
 pub settle-naming-spec : {M : Type 1} → statement M
 settle-naming-spec =

@@ -21,7 +21,8 @@ abbrev μ-loop : tie.MeasureT-loop
 μ-loop store lens count width k₀ at₀ k at = count - k
 
 -- what a turn knows, with the place's length
-here : (c : tie.In-loop Inv-loop μ-loop) → Turn (c .before .before .before .before .pre) (c .before .loop .inv .0) (getD (now (c .before .before .before .before .args .lens)) (c .before .loop .k) 0)
+here : (c : tie.In-loop Inv-loop μ-loop) → Turn (c .before .before .before .before .pre) (c .before .loop .inv .0) (getD (now (c .before .before
+    .before .before .args .lens)) (c .before .loop .k) 0)
 here c = record { more = c .loop-test .taken; read = refl }
 
 loop-holds : tie.Need-loop-holds Inv-loop μ-loop

@@ -28,7 +28,8 @@ returns-2 : tie.Need-returns-2
 returns-2 c =
     let s = c .before .before .before .before .before .before in
     let lacks = sym (c .before .before .lacks-needed .ensures (now (s .args .block)) (s .pre .1)) ∙ c .before .if2 .taken in
-    decides-closing 43 (c .closing2 .ensures) (λ time. phase-passes _ _ _ _ _ (c .before .before .before .before .phase-refusal .ensures) (c .before .before .before .if1 .left) (gives-closed _ 43 _ lacks refl refl))
+    decides-closing 43 (c .closing2 .ensures) (λ time. phase-passes _ _ _ _ _ (c .before .before .before .before .phase-refusal .ensures) (c .before
+    .before .before .if1 .left) (gives-closed _ 43 _ lacks refl refl))
 
 acceptance-requires : tie.Need-acceptance-requires
 acceptance-requires c κs = search needs
@@ -47,9 +48,11 @@ returns-3 c =
     let has = sym (c .before .before .before .before .before .lacks-needed .ensures block (s .pre .1)) ∙ c .before .before .before .before .if2 .left in
     let done = c .«open» .ensures in
     record {
-      gives = λ time. phase-passes _ _ _ _ _ (c .before .before .before .before .before .before .before .phase-refusal .ensures) (c .before .before .before .before .before .before .if1 .left)
+      gives = λ time. phase-passes _ _ _ _ _ (c .before .before .before .before .before .before .before .phase-refusal .ensures) (c .before .before
+          .before .before .before .before .if1 .left)
           (entries-opening (a .self) (a .command) (listed (entries block)) time _ (c .before .before .before .acceptance .result)
-          (c .before .before .before .acceptance .ensures block (s .pre .1)) has (sym (c .before .before .opens .ensures) ∙ c .before .if3 .taken) (done .gives time));
+          (c .before .before .before .acceptance .ensures block (s .pre .1)) has (sym (c .before .before .opens .ensures) ∙ c .before .if3 .taken)
+          (done .gives time));
       applies = done .applies;
     }
 
@@ -63,7 +66,8 @@ returns-4 c =
     let block = now (a .block) in
     decides-as (c .accepting .ensures)
     (record {
-      gives = λ time. phase-passes _ _ _ _ _ (c .before .before .before .before .before .before .before .before .phase-refusal .ensures) (c .before .before .before .before .before .before .before .if1 .left)
+      gives = λ time. phase-passes _ _ _ _ _ (c .before .before .before .before .before .before .before .before .phase-refusal .ensures) (c .before
+          .before .before .before .before .before .before .if1 .left)
           (entries-disconnect (a .self) (a .command) (listed (entries block)) time _ (c .before .before .before .before .acceptance .result)
           (c .before .before .before .before .acceptance .ensures block (s .pre .1)) (c .before .if4 .taken) refl);
       applies = tt;
@@ -71,20 +75,28 @@ returns-4 c =
 
 use-ids-requires : tie.Need-use-ids-requires
 use-ids-requires c κs =
-    let s = c .before .before .before .before .before .before .before .before .before in
-    (s .pre .0, s .pre .1, s .pre .2, sym (c .before .before .before .before .before .lacks-needed .ensures (now (s .args .block)) (s .pre .1)) ∙ c .before .before .before .before .if2 .left)
+    let s = c .before .before .before .before .before .before .before .before .before in (
+      s .pre .0,
+      s .pre .1,
+      s .pre .2,
+      sym (c .before .before .before .before .before .lacks-needed .ensures (now (s .args .block)) (s .pre .1)) ∙ c
+          .before .before .before .before .if2 .left,
+    )
 
 returns-5 : tie.Need-returns-5
 returns-5 c =
     let s = c .before .before .before .before .before .before .before .before .before .before in
     let a = s .args in
     let block = now (a .block) in
-    let has = sym (c .before .before .before .before .before .before .lacks-needed .ensures block (s .pre .1)) ∙ c .before .before .before .before .before .if2 .left in
+    let has = sym (c .before .before .before .before .before .before .lacks-needed .ensures block (s .pre .1)) ∙ c .before .before .before .before
+    .before .if2 .left in
     let done = c .use-ids .ensures in
     record {
-      gives = λ time. phase-passes _ _ _ _ _ (c .before .before .before .before .before .before .before .before .phase-refusal .ensures) (c .before .before .before .before .before .before .before .if1 .left)
+      gives = λ time. phase-passes _ _ _ _ _ (c .before .before .before .before .before .before .before .before .phase-refusal .ensures) (c .before
+          .before .before .before .before .before .before .if1 .left)
           (entries-naming (a .self) (a .command) (listed (entries block)) time _ (c .before .before .before .before .acceptance .result)
-          (c .before .before .before .before .acceptance .ensures block (s .pre .1)) has (sym (c .before .before .before .opens .ensures) ∙ c .before .before .if3 .left) (ne-eqb _ _ (c .before .if4 .left)) (done .gives time));
+          (c .before .before .before .before .acceptance .ensures block (s .pre .1)) has (sym (c .before .before .before .opens .ensures) ∙ c .before
+          .before .if3 .left) (ne-eqb _ _ (c .before .if4 .left)) (done .gives time));
       applies = done .applies;
     }
 

@@ -56,7 +56,8 @@ returns-3 c =
     let a = s .args in
     let es = listed (entries (now (a .block))) in
     looks-dropped (a .self) (a .command) es (c .before .before .if2 .taken) _ _
-    (located-there (c .before .before .before .locate .ensures) (dropping-has (a .self) (a .command) es (s .pre .2) (c .before .before .if2 .taken))) (c .drop-deliveries .ensures)
+    (located-there (c .before .before .before .locate .ensures) (dropping-has (a .self) (a .command) es (s .pre .2) (c .before .before .if2 .taken)))
+    (c .drop-deliveries .ensures)
 
 settles-requires : tie.Need-settles-requires
 settles-requires c κs = search needs
@@ -79,13 +80,16 @@ returns-4 c =
     let a = s .args in
     let es = listed (entries (now (a .block))) in
     let t = sym (c .before .before .before .settles .ensures) ∙ c .before .before .if3 .taken in
-    looks-label (a .self) (a .command) es (ne-eqb _ _ (c .before .before .before .before .before .before .if1 .left)) (ne-eqb _ _ (c .before .before .before .before .if2 .left)) t _
-    (located-there (c .before .before .before .before .before .locate .ensures) (settling-has (a .self) (a .command) es (s .pre .2) t)) (c .settle-label .result) (c .settle-label .ensures)
+    looks-label (a .self) (a .command) es (ne-eqb _ _ (c .before .before .before .before .before .before .if1 .left)) (ne-eqb _ _ (c .before .before
+    .before .before .if2 .left)) t _
+    (located-there (c .before .before .before .before .before .locate .ensures) (settling-has (a .self) (a .command) es (s .pre .2) t)) (c
+    .settle-label .result) (c .settle-label .ensures)
 
 returns-5 : tie.Need-returns-5
 returns-5 c =
     let a = c .before .before .before .before .before .before .args in
-    looks-none (a .self) (a .command) (listed (entries (now (a .block)))) (ne-eqb _ _ (c .before .before .before .before .if1 .left)) (ne-eqb _ _ (c .before .before .if2 .left))
+    looks-none (a .self) (a .command) (listed (entries (now (a .block)))) (ne-eqb _ _ (c .before .before .before .before .if1 .left)) (ne-eqb _ _ (c
+    .before .before .if2 .left))
     (sym (c .before .settles .ensures) ∙ c .if3 .left)
 
 pub further-spec : {M : Type 1} → statement M

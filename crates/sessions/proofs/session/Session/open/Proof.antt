@@ -22,7 +22,8 @@ returns c =
     let a = c .before .before .before .before .before .args in
     let v = c .before .before .before .client-versions in
     decides-closing 31 (c .closing .ensures)
-    (λ time. opening-malformed (a .self) (listed (entries (now (a .block)))) (a .acceptance) time _ (v .result) (v .ensures) (not-true _ (c .before .if1 .taken)) refl)
+    (λ time. opening-malformed (a .self) (listed (entries (now (a .block)))) (a .acceptance) time _ (v .result) (v .ensures) (not-true _ (c .before
+    .if1 .taken)) refl)
 
 share-requires : tie.Need-share-requires
 share-requires c κs = search needs
@@ -39,7 +40,8 @@ returns-2 c =
     let v = c .before .before .before .before .before .before .before .before .client-versions in
     let both = c .before .before .before .share in
     decides-closing 32 (c .closing2 .ensures)
-    (λ time. opening-unshared (a .self) (listed (entries (now (a .block)))) (a .acceptance) time _ (v .result) (v .ensures) (not-false _ (c .before .before .before .before .before .before .if1 .left))
+    (λ time. opening-unshared (a .self) (listed (entries (now (a .block)))) (a .acceptance) time _ (v .result) (v .ensures) (not-false _ (c .before
+    .before .before .before .before .before .if1 .left))
     (both .result) (both .ensures) (sym (c .before .before .is-none-shared .ensures) ∙ c .before .if2 .taken) refl)
 
 client-heart-beats-requires : tie.Need-client-heart-beats-requires
@@ -55,8 +57,10 @@ returns-3 c =
     let both = c .before .before .before .before .before .before .share in
     let b = c .before .before .before .client-heart-beats in
     decides-closing 33 (c .closing3 .ensures)
-    (λ time. opening-no-heart-beat (a .self) (listed (entries (now (a .block)))) (a .acceptance) time _ (v .result) (v .ensures) (not-false _ (c .before .before .before .before .before .before .before .before .before .if1 .left))
-    (both .result) (both .ensures) (sym (c .before .before .before .before .before .is-none-shared .ensures) ∙ c .before .before .before .before .if2 .left) (b .result) (b .ensures) (not-true _ (c .before .if3 .taken)) refl)
+    (λ time. opening-no-heart-beat (a .self) (listed (entries (now (a .block)))) (a .acceptance) time _ (v .result) (v .ensures) (not-false _ (c
+    .before .before .before .before .before .before .before .before .before .if1 .left))
+    (both .result) (both .ensures) (sym (c .before .before .before .before .before .is-none-shared .ensures) ∙ c .before .before .before .before .if2
+    .left) (b .result) (b .ensures) (not-true _ (c .before .if3 .taken)) refl)
 
 interval-requires : tie.Need-interval-requires
 interval-requires c κs = search needs
@@ -76,9 +80,12 @@ returns-4 c =
     decides-as (c .opening .ensures)
     (record {
       gives = λ time. opening-done (a .self) (listed (entries (now (a .block)))) (a .acceptance) time _ (v .result) (v .ensures)
-          (not-false _ (c .before .before .before .before .before .before .before .before .before .before .before .if1 .left)) (both .result) (both .ensures) (sym (c .before .before .before .before .before .before .before .is-none-shared .ensures) ∙ c .before .before .before .before .before .before .if2 .left)
+          (not-false _ (c .before .before .before .before .before .before .before .before .before .before .before .if1 .left)) (both .result) (both
+          .ensures) (sym (c .before .before .before .before .before .before .before .is-none-shared .ensures) ∙ c .before .before .before .before
+          .before .before .if2 .left)
           (b .result) (b .ensures) (not-false _ (c .before .before .before .if3 .left))
-          (ap₂ (λ x y. accepted-by (opened (a .self) (both .result) x y) (a .acceptance) time) (c .before .before .interval .ensures) (c .before .interval2 .ensures));
+          (ap₂ (λ x y. accepted-by (opened (a .self) (both .result) x y) (a .acceptance) time) (c .before .before .interval .ensures) (c .before
+          .interval2 .ensures));
       applies = tt;
     })
 

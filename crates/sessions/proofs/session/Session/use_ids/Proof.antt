@@ -64,7 +64,8 @@ returns-2 c =
     let s = c .before .before .before .before .before .before .before .before in
     let a = s .args in
     decides-as (c .closing2 .ensures)
-    (uses-refused-later (a .self) (a .command) (now (a .block)) (a .acceptance) (left s) (s .pre .2 .accepts (c .before .before .before .before .before .before .if1 .left) (a .acceptance)) _
+    (uses-refused-later (a .self) (a .command) (now (a .block)) (a .acceptance) (left s) (s .pre .2 .accepts (c .before .before .before .before
+    .before .before .if1 .left) (a .acceptance)) _
     (rw (c .before .before .n .given .1) at (c .before .before .before .before .further .ensures)))
 
 returns-3 : tie.Need-returns-3
