@@ -159,7 +159,6 @@ used-by s block p f =
     (deliveries-by f s)
 
 abbrev pub changed-by : Session → List ℕ → ℕ → Agreed → Change → Session
-changed-by s block time a Change.Nothing = s
 changed-by s block time a Change.Close = closed s
 changed-by s block time a Change.Disconnect = heard (closed s) time
 changed-by s block time a Change.Open = heard (opened s (a .versions) (a .inbound) (a .outbound)) time
@@ -173,7 +172,6 @@ pub record Uses (s : Session) (block : List ℕ) (p : Put) (f : Further) : Type 
   pub settle-fits : SettleFits f (s .deliveries)
 
 abbrev pub Applies : Session → List ℕ → Change → Type 0
-Applies s block Change.Nothing = Unit {0}
 Applies s block Change.Close = Unit {0}
 Applies s block Change.Disconnect = Unit {0}
 Applies s block Change.Open = Unit {0}
@@ -185,9 +183,6 @@ Applies s block (Change.Use p f) = Uses s block p f
 -- one that opens no session
 abbrev pub step-of : SessionAnswer → Change → Step
 step-of a c = record { answer = a; change = c; agreed = nothing-agreed }
-
-abbrev pub keeping-step : ℕ → Step
-keeping-step k = step-of (SessionAnswer.Refused k) Change.Nothing
 
 abbrev pub closing-step : ℕ → Step
 closing-step k = step-of (SessionAnswer.Refused k) Change.Close

@@ -552,7 +552,6 @@ impl Session {
         let answer = step.answer;
         let agreed = step.agreed;
         match change {
-            Change::Nothing => {}
             Change::Close => {
                 return Outcome {
                     session: self.closed(),

@@ -9,7 +9,7 @@ ghost use Rattle.sessions.specs.Calls.{id-effect};
 ghost use Rattle.sessions.specs.Places.{Fits};
 ghost use Rattle.sessions.specs.Notes.{AllNoted};
 ghost use Rattle.sessions.specs.Steps.{SettlesUse, settled-number, use-named};
-ghost use Rattle.sessions.specs.Changes.{Lends, NamesIds, PutFits, put-by, use-of, step-of, keeping-step, closing-step, opening-step, accepting-step};
+ghost use Rattle.sessions.specs.Changes.{Lends, NamesIds, PutFits, put-by, use-of, step-of, closing-step, opening-step, accepting-step};
 ghost use Rattle.sessions.specs.declared.session.Session.{Session as SessionValue};
 use crate::command::Kind;
 use crate::command::Naming;
@@ -49,10 +49,9 @@ pub(crate) enum Looked {
     Does(Further),
 }
 
-// What becomes of the session: it stays as it was; it is closed; or it is heard from, and closed by a DISCONNECT, opened, as it was, or
-// changed by what is put and what becomes of modes and deliveries.
+// What becomes of the session: it is closed; or it is heard from, and closed by a DISCONNECT, opened, as it was, or changed by what is
+// put and what becomes of modes and deliveries.
 pub(crate) enum Change {
-    Nothing,
     Close,
     Disconnect,
     Open,
@@ -84,13 +83,6 @@ fn plain_step(answer: SessionAnswer, change: Change) -> Step
         change,
         agreed: Agreed::nothing(),
     }
-}
-
-// Refused, the session as it was.
-pub(crate) fn keeping(number: u32) -> Step
-    ensures { λ r. ⌜ r ≡ keeping-step number ⌝ }
-{
-    plain_step(SessionAnswer::Refused(number), Change::Nothing)
 }
 
 // Refused, the session closed.

@@ -211,29 +211,26 @@ act-requires c κs = (
 enum-told : tie.Need-enum-told
 enum-told c = search needs
 
-enum-told-2 : tie.Need-enum-told-2
-enum-told-2 c = search needs
-
 closed-requires : tie.Need-closed-requires
 closed-requires c κs = search needs
 
 returns-3 : tie.Need-returns-3
-returns-3 c = changed (c .before .before .before .before) _ (c .before .enum-told2 .given .1) _ (c .closed .ensures)
+returns-3 c = changed (c .before .before .before .before) _ (c .before .enum-told .given .1) _ (c .closed .ensures)
 
-enum-told-3 : tie.Need-enum-told-3
-enum-told-3 c = search needs
+enum-told-2 : tie.Need-enum-told-2
+enum-told-2 c = search needs
 
 closed-requires-2 : tie.Need-closed-requires-2
 closed-requires-2 c κs = search needs
 
 returns-4 : tie.Need-returns-4
-returns-4 c = changed (c .before .before .before .before) _ (c .before .enum-told3 .given .1) _ (c .closed2 .ensures)
+returns-4 c = changed (c .before .before .before .before) _ (c .before .enum-told2 .given .1) _ (c .closed2 .ensures)
+
+enum-told-3 : tie.Need-enum-told-3
+enum-told-3 c = search needs
 
 enum-told-4 : tie.Need-enum-told-4
 enum-told-4 c = search needs
-
-enum-told-5 : tie.Need-enum-told-5
-enum-told-5 c = search needs
 
 enum-known-change : tie.Need-enum-known-change
 enum-known-change c = search needs
@@ -247,8 +244,8 @@ set-mode-requires c κs = asked (c .before .before .before) .mode-fits
 put-requires-2 : tie.Need-put-requires-2
 put-requires-2 c κs = asked (c .before .before .before .before .before) .put-fits
 
-enum-told-6 : tie.Need-enum-told-6
-enum-told-6 c = search needs
+enum-told-5 : tie.Need-enum-told-5
+enum-told-5 c = search needs
 
 enum-known-further : tie.Need-enum-known-further
 enum-known-further c = search needs
@@ -295,28 +292,25 @@ settled-requires c κs =
     )
 
 returns-5 : tie.Need-returns-5
-returns-5 c = changed (c .before .before .before) _ (c .enum-told .given .1) _ refl
+returns-5 c = changed (c .before .before .before) _ (c .enum-told3 .given .1) _ refl
 
 returns-6 : tie.Need-returns-6
 returns-6 c = changed (c .before .before .before) _ (c .enum-told4 .given .1) _ refl
 
 returns-7 : tie.Need-returns-7
-returns-7 c = changed (c .before .before .before) _ (c .enum-told5 .given .1) _ refl
+returns-7 c = used (c .before .before) _ (ap (λ f. deliveries-by f (s (c .before .before .before .before .before .before .before .before .before
+    .before .before .before))) (sym (c .enum-told5 .given .1)))
 
 returns-8 : tie.Need-returns-8
-returns-8 c = used (c .before .before) _ (ap (λ f. deliveries-by f (s (c .before .before .before .before .before .before .before .before .before
-    .before .before .before))) (sym (c .enum-told6 .given .1)))
-
-returns-9 : tie.Need-returns-9
-returns-9 c = used (c .before .before .before) _ (ap (λ f. deliveries-by f (s (c .before .before .before .before .before .before .before .before
+returns-8 c = used (c .before .before .before) _ (ap (λ f. deliveries-by f (s (c .before .before .before .before .before .before .before .before
     .before .before .before .before .before))) (sym (c .before .further .given .1)))
 
-returns-10 : tie.Need-returns-10
-returns-10 c = used (c .before .before .before .before .before) _ (c .dropped .ensures ∙ ap (λ f. deliveries-by f (s (c .before .before .before
+returns-9 : tie.Need-returns-9
+returns-9 c = used (c .before .before .before .before .before) _ (c .dropped .ensures ∙ ap (λ f. deliveries-by f (s (c .before .before .before
     .before .before .before .before .before .before .before .before .before .before .before .before))) (sym (c .before .before .before .further2 .given .1)))
 
-returns-11 : tie.Need-returns-11
-returns-11 c =
+returns-10 : tie.Need-returns-10
+returns-10 c =
     let d = c .before .before .before .before .before .before .before .before .before .before .before .before .before .before .before .before in
     let fits = subst (λ f. SettleFits f (s d .deliveries)) (c .before .before .before .before .further3 .given .1) (asked (c .before .before .before
     .before .before .before .before .before .before .before .before .before) .settle-fits) in
@@ -339,19 +333,18 @@ frame-spec =
     settle-ids-requires
     act-requires
     enum-told
-    enum-told-2
     closed-requires
     returns-3
-    enum-told-3
+    enum-told-2
     closed-requires-2
     returns-4
+    enum-told-3
     enum-told-4
-    enum-told-5
     enum-known-change
     put-requires
     set-mode-requires
     put-requires-2
-    enum-told-6
+    enum-told-5
     enum-known-further
     enum-known-further-2
     dropped-requires
@@ -363,5 +356,4 @@ frame-spec =
     returns-7
     returns-8
     returns-9
-    returns-10
-    returns-11)
+    returns-10)
