@@ -39,20 +39,28 @@ def opened(made, **options):
     return made, messages
 
 
-def session12(client, messages, pause=0.0):
+# What ACK and NACK name a message by: its headers, in the order in which ack() and nack() take them.
+NAMED = {"1.1": ("message-id", "subscription"), "1.2": ("ack",)}
+
+
+def settle(client, call, message, **options):
+    call(*(message[name] for name in NAMED[client.version]), **options)
+
+
+def whole(client, messages, pause=0.0, more=None):
     client.subscribe("/queue/a", id="0", ack="client-individual", receipt="s0")
     first = messages.next("message-id")
     client.subscribe("/queue/b", id="sub:1", ack="client")
     second = messages.next("message-id")
     client.begin("tx1")
     client.send("/queue/a", BODY, content_type="application/octet-stream",
-                headers={"transaction": "tx1", "note": ESCAPED, "empty": ""})
+                headers={"transaction": "tx1", "note": ESCAPED, "empty": "", **(more or {})})
     time.sleep(pause)
     client.send("/queue/é", "text é", headers={"transaction": "tx1", "naïve": "ü"})
-    client.ack(first["ack"], transaction="tx1")
+    settle(client, client.ack, first, transaction="tx1")
     client.commit("tx1", receipt="c1")
     messages.next("receipt-id")
-    client.nack(second["ack"])
+    settle(client, client.nack, second)
     client.begin("tx2")
     client.send("/queue/a", "", transaction="tx2")
     client.abort("tx2")
@@ -84,11 +92,22 @@ def session11(client, messages):
     client.disconnect(receipt="bye")
 
 
+def labels11(client, messages, labels):
+    for number, label in enumerate(labels):
+        client.subscribe("/queue/a", id=str(number), ack="client", headers={"label": label.hex()})
+        settle(client, client.ack, messages.next("message-id"))
+    client.disconnect(receipt="bye")
+
+
+def host11(**options):
+    return stomp.Connection11(AT, vhost="localhost", **options)
+
+
 if CASE == "python-12":
-    session12(*opened(stomp.Connection12(AT)))
+    whole(*opened(stomp.Connection12(AT)))
 elif CASE == "python-12-heart-beat":
-    session12(*opened(stomp.Connection12(AT, vhost="localhost", heartbeats=(200, 300)),
-                      username="user", passcode="secret", with_connect_command=True), pause=0.7)
+    whole(*opened(stomp.Connection12(AT, vhost="localhost", heartbeats=(200, 300)),
+                  username="user", passcode="secret", with_connect_command=True), pause=0.7)
 elif CASE == "python-12-no-length":
     made = stomp.Connection12(AT, auto_content_length=False)
     client, _ = opened(made)
@@ -125,6 +144,31 @@ elif CASE == "python-11":
     session11(*opened(stomp.Connection11(AT)))
 elif CASE == "python-11-host":
     session11(*opened(stomp.Connection11(AT, vhost="localhost")))
+elif CASE == "python-11-life":
+    whole(*opened(host11()), more={"last": "e\r"})
+elif CASE == "python-11-life-no-host":
+    whole(*opened(stomp.Connection11(AT)), more={"last": "e\r"})
+elif CASE == "python-11-life-heart-beat":
+    whole(*opened(host11(heartbeats=(200, 300)), username="user", passcode="a:b", with_connect_command=True),
+          pause=0.7, more={"last": "e\r"})
+elif CASE == "python-11-labels":
+    labels11(*opened(host11()), [b"m\\c1", b"m\\\\c2", b"m\\n3", b"m\r4", "mé5".encode(), b"m\\\\6", b"m" * 32])
+elif CASE == "python-11-label-return":
+    labels11(*opened(host11()), [b"m1\r"])
+elif CASE == "python-11-passcode":
+    client, _ = opened(host11(), username="user", passcode="a:b")
+    client.disconnect(receipt="bye")
+elif CASE == "python-11-name":
+    client, _ = opened(host11())
+    client.send("/queue/a", "text", headers={"a\rb": "c"})
+    client.send("/queue/a", "text", headers={"a:b": "c"})
+    client.disconnect(receipt="bye")
+elif CASE == "python-11-transaction":
+    client, _ = opened(host11())
+    made = client.begin()
+    client.send("/queue/a", "text", transaction=made)
+    client.commit(made)
+    client.disconnect(receipt="bye")
 elif CASE == "python-10":
     session10(*opened(stomp.Connection10(AT)))
 else:

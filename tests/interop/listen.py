@@ -3,10 +3,11 @@
 
     listen.py FILE COMMAND [ARGUMENT..]
 
-listens on a free port of 127.0.0.1, runs COMMAND with the arguments and the port behind them, accepts one
+listens on a free port of 127.0.0.1, runs COMMAND with the arguments and the port after them, accepts one
 connection and writes every octet the client sends to FILE. It answers just enough for the client to go on:
-CONNECTED, a RECEIPT for each receipt header, and one MESSAGE for each subscription. It is lenient where the
-library is strict: a header line ends at octet 10 and is split at its first colon.
+CONNECTED, a RECEIPT for each receipt header, and one MESSAGE for each subscription. The MESSAGE has the message-id
+message-1, message-2 and so on, or what the SUBSCRIBE frame's header `label` has in hexadecimal, put there as it is.
+The listener is lenient where the library is strict: a header line ends at octet 10 and is split at its first colon.
 """
 
 import select
@@ -78,7 +79,8 @@ class Server:
     def message(self, headers):
         self.messages += 1
         number = b"%d" % self.messages
-        answer = [(b"destination", headers.get(b"destination", b"")), (b"message-id", b"message-" + number)]
+        name = bytes.fromhex(headers[b"label"].decode()) if b"label" in headers else b"message-" + number
+        answer = [(b"destination", headers.get(b"destination", b"")), (b"message-id", name)]
         if b"id" in headers:
             answer.append((b"subscription", headers[b"id"]))
         if self.version == b"1.2":

@@ -9,16 +9,19 @@ use crate::encode::encode;
 use crate::encode_calls::{Call, COUNTED};
 use crate::item::{Command, MAX_BODY, NUL};
 use crate::random::Random;
-use crate::streams::{any_command, body_length, with_body};
+use crate::streams::{any_command, body_length, or_the_other, with_body};
+use crate::version::{Version, BOTH, OPTION};
 
 /// No slice of a call is longer.
 pub const MAX_SLICE: usize = 65_536;
 
 /// One random call.
 pub fn call(random: &mut Random) -> Call {
+    let options = options(random);
+    let version = or_the_other(random, Version::asked_for(options));
     let known = command(random);
     let length = length_of_body(random, known);
-    let entries = headers::entries(random, known, length);
+    let entries = headers::entries(random, version, known, length);
     let mut block = block::write(&entries);
     if random.once_in(8) {
         damage::damage(random, &entries, &mut block);
@@ -30,17 +33,22 @@ pub fn call(random: &mut Random) -> Call {
     } else {
         known.0 as u32
     };
-    let options = options(random);
-    let counted = options & COUNTED != 0;
-    let image = encode(command, &block, &body, MAX_SLICE, counted).ok();
-    let room = room(random, image);
-    Call {
+    let mut call = Call {
         options,
         command,
         block,
         body,
-        room,
-    }
+        room: MAX_SLICE,
+    };
+    let image = encode(
+        call.asked_for(),
+        command,
+        &call.block,
+        &call.body,
+        MAX_SLICE,
+    );
+    call.room = room(random, image.ok());
+    call
 }
 
 /// Each command; more often one that may have a body or has no escapes.
@@ -76,14 +84,20 @@ fn length_of_body(random: &mut Random, command: Command) -> usize {
     }
 }
 
-/// The mark set or not, and at times other bits, which are not looked at.
+/// The mark set or not, either version, and at times other bits, which are not looked at.
 fn options(random: &mut Random) -> u32 {
     let mark = random.pick(&[0, COUNTED]);
-    let others = random.pick(&[2, 4, 254, 256, 1 << 16, 1 << 31, u32::MAX - COUNTED]);
+    mark | version_option(random, COUNTED)
+}
+
+/// Either version, and at times other bits, but none of these.
+pub fn version_option(random: &mut Random, but: u32) -> u32 {
+    let version = random.pick(&BOTH).option();
+    let others = random.pick(&[4, 8, 252, 256, 1 << 16, 1 << 25, 1 << 31, u32::MAX]);
     if random.once_in(6) {
-        others | mark
+        version | others & !(OPTION | but)
     } else {
-        mark
+        version
     }
 }
 

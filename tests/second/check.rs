@@ -12,6 +12,7 @@ mod records;
 mod registering;
 mod replays;
 mod sessions;
+mod versions;
 mod writing;
 
 use crate::decode::decode;
@@ -19,10 +20,13 @@ use crate::item::{can_be_finished, first_item, parse, Answer, Command};
 use crate::listing;
 use crate::random::Random;
 use crate::streams;
+use crate::version::Version::{self, V1_1, V1_2};
+use crate::version::BOTH;
 use std::collections::HashSet;
 
-/// What the small rows are made of, and which of it is text where there are escapes; the rest of it is a
-/// backslash, a colon, line ends, and octets that are no characters by themselves.
+/// What the small rows are made of, and which of it is text where there are escapes in 1.2; the rest of it is a
+/// backslash, a colon, line ends, and octets that are no characters by themselves. In 1.1 octet 13 is text too,
+/// and `\r` is no escape.
 struct Small {
     octets: &'static [u8],
     plain: &'static [u8],
@@ -37,6 +41,14 @@ const SMALL: Small = Small {
     characters: &[],
 };
 
+/// With an escape that only 1.2 has.
+const RETURNS: Small = Small {
+    octets: b"r\\:\n\r\0",
+    plain: b"r\0",
+    escapes: &[b"\\r", b"\\\\"],
+    characters: &[],
+};
+
 /// Two characters are made of its octets, of two octets and of three.
 const WIDE: Small = Small {
     octets: b"a\\:\n\xc2\xe2\x82",
@@ -44,6 +56,29 @@ const WIDE: Small = Small {
     escapes: &[b"\\\\"],
     characters: &[b"\xc2\x82", b"\xe2\x82\x82"],
 };
+
+impl Small {
+    /// The octets that are text by themselves.
+    fn plain_in(&self, version: Version) -> Vec<u8> {
+        let mut plain = self.plain.to_vec();
+        plain.extend((version == V1_1 && self.octets.contains(&13)).then_some(13));
+        plain
+    }
+
+    fn escapes_in(&self, version: Version) -> Vec<&'static [u8]> {
+        let mut escapes = self.escapes.to_vec();
+        escapes.retain(|escape| version == V1_2 || *escape != b"\\r");
+        escapes
+    }
+
+    /// The line ends that its octets make, with their lengths.
+    fn line_ends_in(&self, version: Version) -> Vec<(&'static [u8], usize)> {
+        let mut ends: Vec<(&[u8], usize)> = vec![(b"\n", 1)];
+        ends.extend((version == V1_2).then_some((&b"\r\n"[..], 2)));
+        ends.retain(|(end, _)| end.iter().all(|octet| self.octets.contains(octet)));
+        ends
+    }
+}
 
 fn one_by_one(octets: &[u8]) -> Vec<Vec<u8>> {
     octets.iter().map(|&octet| vec![octet]).collect()
@@ -74,30 +109,31 @@ fn is_connect(command: Command) -> bool {
 }
 
 /// All names of so many octets: sound octets, whole escapes and whole characters.
-fn names(small: &Small, command: Command, length: usize) -> Vec<Vec<u8>> {
+fn names(version: Version, small: &Small, command: Command, length: usize) -> Vec<Vec<u8>> {
+    let plain = small.plain_in(version);
     if command.escapes() {
-        texts(small, b"", small.escapes, length)
+        texts(small, &plain, &small.escapes_in(version), length)
     } else {
-        texts(small, b"\\", &[], length)
+        texts(small, &[&plain[..], b"\\"].concat(), &[], length)
     }
 }
 
 /// All values of so many octets: in CONNECT and CONNECTED a colon is an octet like any other.
-fn values(small: &Small, command: Command, length: usize) -> Vec<Vec<u8>> {
+fn values(version: Version, small: &Small, command: Command, length: usize) -> Vec<Vec<u8>> {
     if is_connect(command) {
-        texts(small, b"\\:", &[], length)
+        let plain = small.plain_in(version);
+        texts(small, &[&plain[..], b"\\:"].concat(), &[], length)
     } else {
-        names(small, command, length)
+        names(version, small, command, length)
     }
 }
 
-/// All texts of so many octets, made of the small row's plain octets and characters, of these octets and of
-/// these escapes.
+/// All texts of so many octets, made of these octets, of these escapes and of the small row's characters.
 fn texts(small: &Small, singles: &[u8], escapes: &[&[u8]], length: usize) -> Vec<Vec<u8>> {
     if length == 0 {
         return vec![Vec::new()];
     }
-    let mut fronts = one_by_one(&[small.plain, singles].concat());
+    let mut fronts = one_by_one(singles);
     fronts.extend(escapes.iter().map(|escape| escape.to_vec()));
     fronts.extend(small.characters.iter().map(|character| character.to_vec()));
     let mut all = Vec::new();
@@ -109,44 +145,38 @@ fn texts(small: &Small, singles: &[u8], escapes: &[&[u8]], length: usize) -> Vec
 }
 
 /// All header lines of so many octets, their line end counted.
-fn lines(small: &Small, command: Command, length: usize) -> Vec<Vec<u8>> {
+fn lines(version: Version, small: &Small, command: Command, length: usize) -> Vec<Vec<u8>> {
     let mut all = Vec::new();
-    for (end, width) in line_ends(small) {
+    for (end, width) in small.line_ends_in(version) {
         for name in 1..length.saturating_sub(width) {
             let value = length - width - 1 - name;
-            let named = product(&names(small, command, name), &[b":".to_vec()]);
-            let whole = product(&named, &values(small, command, value));
+            let named = product(&names(version, small, command, name), &[b":".to_vec()]);
+            let whole = product(&named, &values(version, small, command, value));
             all.extend(product(&whole, &[end.to_vec()]));
         }
     }
     all
 }
 
-/// The line ends that these octets make, with their lengths.
-fn line_ends(small: &Small) -> Vec<(&'static [u8], usize)> {
-    let both: [(&[u8], usize); 2] = [(b"\n", 1), (b"\r\n", 2)];
-    let made = |end: &&[u8]| end.iter().all(|octet| small.octets.contains(octet));
-    both.iter().copied().filter(|(end, _)| made(end)).collect()
-}
-
 /// All header blocks of so many octets, with the empty line.
-fn blocks(small: &Small, command: Command, length: usize) -> Vec<Vec<u8>> {
-    let mut all: Vec<_> = line_ends(small)
+fn blocks(version: Version, small: &Small, command: Command, length: usize) -> Vec<Vec<u8>> {
+    let mut all: Vec<_> = small
+        .line_ends_in(version)
         .into_iter()
         .filter(|(_, width)| *width == length)
         .map(|(end, _)| end.to_vec())
         .collect();
     for first in 1..length {
         all.extend(product(
-            &lines(small, command, first),
-            &blocks(small, command, length - first),
+            &lines(version, small, command, first),
+            &blocks(version, small, command, length - first),
         ));
     }
     all
 }
 
 /// All that can follow the command's line in a frame, of so many octets, and octet 0.
-fn tails(small: &Small, command: Command, length: usize) -> Vec<Vec<u8>> {
+fn tails(version: Version, small: &Small, command: Command, length: usize) -> Vec<Vec<u8>> {
     let mut all = Vec::new();
     for body in 0..length.saturating_sub(1) {
         if body > 0 && !command.has_body() {
@@ -156,7 +186,7 @@ fn tails(small: &Small, command: Command, length: usize) -> Vec<Vec<u8>> {
             .into_iter()
             .filter(|row| !row.contains(&0))
             .collect();
-        let fronts = product(&blocks(small, command, length - body - 1), &bodies);
+        let fronts = product(&blocks(version, small, command, length - body - 1), &bodies);
         all.extend(product(&fronts, &[vec![0]]));
     }
     all
@@ -169,31 +199,46 @@ fn small_commands() -> Vec<Command> {
         .collect()
 }
 
-fn is_item(row: &[u8]) -> bool {
-    first_item(row).is_some_and(|item| item.length() == row.len())
+fn is_item(version: Version, row: &[u8]) -> bool {
+    first_item(version, row).is_some_and(|item| item.length() == row.len())
 }
 
 #[test]
 fn items_are_those_of_the_grammar() {
-    items_are_made(&SMALL, b"");
+    items_are_made(V1_2, &SMALL, b"");
+}
+
+#[test]
+fn items_of_1_1_are_those_of_the_grammar() {
+    items_are_made(V1_1, &SMALL, b"");
+}
+
+/// The same with `\r`, in both versions.
+#[test]
+fn items_with_escaped_13_are_those_of_the_grammar() {
+    for version in BOTH {
+        items_are_made(version, &RETURNS, b"");
+    }
 }
 
 /// The same with characters; octet 0, which ends a frame, stands behind each row.
 #[test]
 fn items_of_characters_are_those_of_the_grammar() {
-    items_are_made(&WIDE, b"\0");
+    for version in BOTH {
+        items_are_made(version, &WIDE, b"\0");
+    }
 }
 
 /// Of all rows up to seven octets, with this end behind them, the items are those put together.
-fn items_are_made(small: &Small, end: &[u8]) {
+fn items_are_made(version: Version, small: &Small, end: &[u8]) {
     for command in small_commands() {
         let head = [command.name(), b"\n"].concat();
         for length in 0..=7 {
-            let made = tails(small, command, length + end.len());
+            let made = tails(version, small, command, length + end.len());
             let made: HashSet<Vec<u8>> = made.into_iter().collect();
             for tail in product(&rows(small, length), &[end.to_vec()]) {
                 assert_eq!(
-                    is_item(&[&head[..], &tail].concat()),
+                    is_item(version, &[&head[..], &tail].concat()),
                     made.contains(&tail),
                     "{tail:?}"
                 );
@@ -204,27 +249,32 @@ fn items_are_made(small: &Small, end: &[u8]) {
 
 #[test]
 fn unfinished_are_the_beginnings_of_items() {
-    are_beginnings(&SMALL, 4, 9);
+    for version in BOTH {
+        are_beginnings(version, &SMALL, 4, 9);
+        are_beginnings(version, &RETURNS, 4, 9);
+    }
 }
 
 /// The same with characters.
 #[test]
 fn unfinished_characters_are_the_beginnings_of_items() {
-    are_beginnings(&WIDE, 3, 9);
+    for version in BOTH {
+        are_beginnings(version, &WIDE, 3, 9);
+    }
 }
 
 /// Of all rows up to so many octets, those that can be finished are the beginnings of items up to so many.
-fn are_beginnings(small: &Small, most: usize, most_of_item: usize) {
+fn are_beginnings(version: Version, small: &Small, most: usize, most_of_item: usize) {
     for command in small_commands() {
         let head = [command.name(), b"\n"].concat();
         let mut beginnings = HashSet::new();
-        for tail in (0..=most_of_item).flat_map(|length| tails(small, command, length)) {
+        for tail in (0..=most_of_item).flat_map(|length| tails(version, small, command, length)) {
             for end in 0..tail.len().min(most + 1) {
                 beginnings.insert(tail[..end].to_vec());
             }
         }
         for tail in (0..=most).flat_map(|length| rows(small, length)) {
-            let found = can_be_finished(&[&head[..], &tail].concat());
+            let found = can_be_finished(version, &[&head[..], &tail].concat());
             assert_eq!(found, beginnings.contains(&tail), "{head:?} {tail:?}");
         }
     }
@@ -273,20 +323,38 @@ fn check_content_length(command: Command, block: &[(&str, &str)], body: &[u8]) {
         None => !body.contains(&0),
     };
     let allowed = body.is_empty() || command.has_body();
-    assert_eq!(
-        is_item(&frame),
-        sound && allowed,
-        "{:?}",
-        String::from_utf8_lossy(&frame)
-    );
+    for version in BOTH {
+        assert_eq!(
+            is_item(version, &frame),
+            sound && allowed,
+            "{:?}",
+            String::from_utf8_lossy(&frame)
+        );
+    }
+}
+
+/// The letters of escapes.
+fn letters(version: Version) -> &'static [u8] {
+    match version {
+        V1_1 => b"nc\\",
+        V1_2 => b"rnc\\",
+    }
+}
+
+/// The octets that end a line, or begin its end.
+fn stops(version: Version) -> &'static [u8] {
+    match version {
+        V1_1 => b"\n",
+        V1_2 => b"\n\r",
+    }
 }
 
 /// Whether a header line can go on, counted octet by octet with what it owes.
-fn can_go_on(command: Command, line: &[u8]) -> bool {
+fn can_go_on(version: Version, command: Command, line: &[u8]) -> bool {
     let (mut colon, mut escape) = (false, false);
     for (index, &octet) in line.iter().enumerate() {
-        let letter = escape && b"rnc\\".contains(&octet);
-        if (escape && !letter) || octet == b'\n' || octet == b'\r' {
+        let letter = escape && letters(version).contains(&octet);
+        if (escape && !letter) || stops(version).contains(&octet) {
             return false;
         }
         if octet == b':' {
@@ -309,6 +377,7 @@ fn lines_owe_what_is_missing() {
     let mut random = Random::new(1);
     for round in 0..30_000 {
         let command = small_commands()[round % 4];
+        let version = random.pick(&BOTH);
         let mut line = vec![b'v'; random.between(500, 514)];
         if random.once_in(2) {
             let colon = random.between(1, line.len() - 1);
@@ -316,12 +385,13 @@ fn lines_owe_what_is_missing() {
         }
         for _ in 0..random.between(0, 3) {
             let place = line.len() - 1 - random.below(6);
-            line[place] = random.pick(b"\\\\c:\n\ra");
+            line[place] = random.pick(b"\\\\cr:\n\ra");
         }
         let row = [command.name(), b"\n", &line].concat();
-        let whole = line.contains(&b'\n') || line.ends_with(b"\r");
+        let whole = line.contains(&b'\n') || (version == V1_2 && line.ends_with(b"\r"));
         if !whole {
-            assert_eq!(can_be_finished(&row), can_go_on(command, &line), "{line:?}");
+            let goes_on = can_go_on(version, command, &line);
+            assert_eq!(can_be_finished(version, &row), goes_on, "{line:?}");
         }
     }
 }
@@ -330,13 +400,16 @@ fn lines_owe_what_is_missing() {
 #[test]
 fn decoded_lines_are_no_longer() {
     let mut shorter = 0;
-    for small in [&SMALL, &WIDE] {
+    for version in BOTH {
+        let all =
+            |small, command| (3..=7).flat_map(move |length| lines(version, small, command, length));
         for command in small_commands() {
-            for line in (3..=7).flat_map(|length| lines(small, command, length)) {
+            for line in all(&SMALL, command).chain(all(&WIDE, command)) {
                 let row = [command.name(), b"\n", &line, b"\n\0"].concat();
-                let entry = &decode(&row).expect("a frame").entries[0];
-                let end = if line.ends_with(b"\r\n") { 2 } else { 1 };
-                let (raw, decoded) = (line.len() - end, entry.name.len() + 1 + entry.value.len());
+                let entry = &decode(version, &row).expect("a frame").entries[0];
+                let long_end = version == V1_2 && line.ends_with(b"\r\n");
+                let raw = line.len() - if long_end { 2 } else { 1 };
+                let decoded = entry.name.len() + 1 + entry.value.len();
                 assert!(decoded <= raw, "{:?}", line);
                 shorter += usize::from(decoded < raw);
             }
@@ -347,17 +420,17 @@ fn decoded_lines_are_no_longer() {
 
 /// The number of an octet that spoils a header line, read octet by octet: whether there was a colon, and
 /// whether an escape is open.
-fn spoils(command: Command, line: &[u8], octet: u8) -> Option<usize> {
+fn spoils(version: Version, command: Command, line: &[u8], octet: u8) -> Option<usize> {
     let (mut colon, mut escape) = (false, false);
     for &before in line {
         colon |= before == b':';
         escape = !escape && before == b'\\' && command.escapes();
     }
     match octet {
-        _ if escape => (!b"rnc\\".contains(&octet)).then_some(10),
+        _ if escape => (!letters(version).contains(&octet)).then_some(10),
         b':' if line.is_empty() => Some(3),
         b':' if colon && !is_connect(command) => Some(8),
-        b'\n' | b'\r' if !colon && !line.is_empty() => Some(9),
+        _ if stops(version).contains(&octet) && !colon && !line.is_empty() => Some(9),
         _ => None,
     }
 }
@@ -365,22 +438,30 @@ fn spoils(command: Command, line: &[u8], octet: u8) -> Option<usize> {
 /// Every octet after every small beginning of a line: where it is refused, then with that number.
 #[test]
 fn spoiled_lines_have_their_number() {
-    for command in small_commands() {
-        let head = [command.name(), b"\n"].concat();
-        for line in (0..=4).flat_map(|length| rows(&SMALL, length)) {
-            let before = [&head[..], &line].concat();
-            let ended = line.iter().any(|octet| b"\n\r".contains(octet));
-            if ended || !can_be_finished(&before) {
-                continue;
+    for version in BOTH {
+        for small in [&SMALL, &RETURNS] {
+            for command in small_commands() {
+                lines_are_spoiled(version, small, command);
             }
-            for &octet in SMALL.octets {
-                let refused = match parse(&[&before[..], &[octet]].concat()) {
-                    Answer::Invalid { code, .. } => Some(code),
-                    _ => None,
-                };
-                let number = spoils(command, &line, octet);
-                assert_eq!(refused, number, "{line:?} {octet}");
-            }
+        }
+    }
+}
+
+fn lines_are_spoiled(version: Version, small: &Small, command: Command) {
+    let head = [command.name(), b"\n"].concat();
+    for line in (0..=4).flat_map(|length| rows(small, length)) {
+        let before = [&head[..], &line].concat();
+        let ended = line.iter().any(|octet| stops(version).contains(octet));
+        if ended || !can_be_finished(version, &before) {
+            continue;
+        }
+        for &octet in small.octets {
+            let refused = match parse(version, &[&before[..], &[octet]].concat()) {
+                Answer::Invalid { code, .. } => Some(code),
+                _ => None,
+            };
+            let number = spoils(version, command, &line, octet);
+            assert_eq!(refused, number, "{line:?} {octet}");
         }
     }
 }
@@ -441,15 +522,17 @@ fn later_colons_of_connect_belong_to_the_value() {
 #[test]
 fn the_offset_is_the_first_octet_that_no_item_has() {
     let mut random = Random::new(2);
-    for _ in 0..3_000 {
-        let stream = streams::stream(&mut random);
-        let row = &stream[listing::read(&stream).reached..];
+    for _ in 0..4_000 {
+        let version = random.pick(&BOTH);
+        let stream = streams::stream(&mut random, version);
+        let row = &stream[listing::read(version, &stream).reached..];
         if row.len() > 200 {
             continue;
         }
-        if let Answer::Invalid { offset, .. } = parse(row) {
-            assert!((0..=offset).all(|end| can_be_finished(&row[..end])));
-            assert!((offset + 1..=row.len()).all(|end| !can_be_finished(&row[..end])));
+        if let Answer::Invalid { offset, .. } = parse(version, row) {
+            let viable = |end: usize| can_be_finished(version, &row[..end]);
+            assert!((0..=offset).all(viable));
+            assert!((offset + 1..=row.len()).all(|end| !viable(end)));
         }
     }
 }
@@ -488,5 +571,7 @@ fn examples() {
     for (stream, listed) in examples {
         assert_eq!(listing::of(stream), listed);
     }
-    assert_eq!(parse(b""), Answer::Incomplete);
+    for version in BOTH {
+        assert_eq!(parse(version, b""), Answer::Incomplete);
+    }
 }

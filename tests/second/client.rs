@@ -10,11 +10,12 @@ use self::values::{any_value, id, near_id, text};
 use crate::block::Entry;
 use crate::item::{Command, COMMANDS};
 use crate::random::Random;
-use crate::session::frame::{naming, needed, opens, Frame, Kind};
+use crate::session::frame::{label_header, namings, needed, opens, settles, Frame, Kind};
 use crate::session::{Places, Session};
+use crate::version::Version;
 
 /// The headers that a session looks at in some command.
-const KNOWN: [&[u8]; 9] = [
+const KNOWN: [&[u8]; 10] = [
     b"accept-version",
     b"host",
     b"heart-beat",
@@ -24,10 +25,11 @@ const KNOWN: [&[u8]; 9] = [
     b"receipt",
     b"ack",
     b"subscription",
+    b"message-id",
 ];
 
 /// Names that are almost those.
-const ALMOST: [&[u8]; 15] = [
+const ALMOST: [&[u8]; 19] = [
     b"i",
     b"ID",
     b"id ",
@@ -43,6 +45,10 @@ const ALMOST: [&[u8]; 15] = [
     b"ac",
     b"Ack",
     b"ack\0",
+    b"message-i",
+    b"message_id",
+    b"Subscription",
+    b"subscription\0",
 ];
 
 /// The command of a name.
@@ -61,15 +67,16 @@ fn command_that(random: &mut Random, test: impl Fn(Command) -> bool) -> Command 
 }
 
 /// The headers that decide what a session does with the command, the receipt apart.
-fn deciding(command: Command) -> Vec<&'static [u8]> {
-    let mut names = needed(command).to_vec();
-    names.extend(naming(command).map(|naming| naming.header));
+fn deciding(version: Version, command: Command) -> Vec<&'static [u8]> {
+    let mut names = needed(version, command).to_vec();
+    let namings = namings(version, command).into_iter();
+    names.extend(namings.map(|naming| naming.header));
     if opens(command) {
         names.push(b"heart-beat");
     }
     match command.name() {
         b"SUBSCRIBE" => names.push(b"ack"),
-        b"MESSAGE" => names.extend([&b"subscription"[..], b"ack"]),
+        b"MESSAGE" => names.extend([&b"subscription"[..], b"ack", b"message-id"]),
         _ => {}
     }
     names
@@ -81,34 +88,56 @@ pub fn set(frame: &mut Frame, name: &[u8], value: &[u8]) {
     frame.entries.push(Entry::new(name, value));
 }
 
-/// A frame with the headers that its command needs, each with a value that is accepted; it names this
-/// id, if its command names one. SUBSCRIBE has a known mode; whether the label of ACK or NACK is pending is
-/// the caller's to see to.
-fn frame(random: &mut Random, command: Command, id: Option<&[u8]>) -> Frame {
+/// A frame with the headers that its command needs in the session's version, each with a value that is accepted,
+/// but for ids and labels: those are the caller's to set. SUBSCRIBE has a known mode.
+fn frame(random: &mut Random, session: &Session, command: Command) -> Frame {
     let value = |name: &&'static [u8]| match *name {
-        b"accept-version" => Entry::new(name, &values::versions(random)),
+        b"accept-version" => Entry::new(name, &values::versions(random, session.state.offered)),
         _ => Entry::new(name, &any_value(random, name)),
     };
-    let mut entries: Vec<Entry> = needed(command).iter().map(value).collect();
-    if let Some((naming, id)) = naming(command).zip(id) {
-        entries.retain(|entry| entry.name != naming.header);
-        entries.push(Entry::new(naming.header, id));
-    }
+    let needed = needed(session.version(), command);
+    let mut entries: Vec<Entry> = needed.iter().map(value).collect();
     if command.name() == b"SUBSCRIBE" && !random.once_in(5) {
         entries.push(Entry::new(b"ack", values::mode(random)));
     }
     Frame { command, entries }
 }
 
+/// A frame of a command that names one id, this one.
+fn naming(random: &mut Random, session: &Session, command: Command, id: &[u8]) -> Frame {
+    let mut frame = frame(random, session, command);
+    for naming in namings(session.version(), command) {
+        set(&mut frame, naming.header, id);
+    }
+    frame
+}
+
+/// Gives ACK and NACK at times the headers by which the other version names a delivery, which are not looked at.
+fn with_other_names(random: &mut Random, session: &Session, frame: &mut Frame) {
+    if !settles(frame.command) || !random.once_in(3) {
+        return;
+    }
+    let other = session.version().other();
+    let mut names = vec![label_header(other)];
+    names.extend((other == Version::V1_1).then_some(&b"subscription"[..]));
+    for name in names {
+        let pending = messages::pending(random, session).map(|(_, label)| label);
+        let any = any_value(random, name);
+        let value = pending.filter(|_| random.once_in(2)).unwrap_or(any);
+        frame.entries.push(Entry::new(name, &value));
+    }
+}
+
 /// The frame with a receipt and entries that do not matter, all in any order, and with later entries
 /// of names that it has.
-fn dressed(random: &mut Random, mut frame: Frame) -> Frame {
+fn dressed(random: &mut Random, session: &Session, mut frame: Frame) -> Frame {
+    with_other_names(random, session, &mut frame);
     if random.once_in(3) {
         let value = any_value(random, b"receipt");
         frame.entries.push(Entry::new(b"receipt", &value));
     }
     for _ in 0..random.pick(&[0, 0, 0, 1, 2]) {
-        let stray = stray(random, frame.command);
+        let stray = stray(random, session.version(), frame.command);
         frame.entries.push(stray);
     }
     shuffle(random, &mut frame.entries);
@@ -133,13 +162,13 @@ fn repeat(random: &mut Random, entries: &mut Vec<Entry>, index: usize, count: us
 
 /// An entry that does not matter for the command: of a name that matters for others, or almost so, or
 /// any.
-fn stray(random: &mut Random, command: Command) -> Entry {
+fn stray(random: &mut Random, version: Version, command: Command) -> Entry {
     let name = match random.below(3) {
         0 => random.pick(&KNOWN).to_vec(),
         1 => random.pick(&ALMOST).to_vec(),
         _ => [b"x", &text(random)[..]].concat(),
     };
-    if deciding(command).contains(&&name[..]) {
+    if deciding(version, command).contains(&&name[..]) {
         return Entry::new(b"stray", b"");
     }
     let value = any_value(random, &name);

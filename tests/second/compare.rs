@@ -7,6 +7,7 @@ use crate::program::{self, Ran};
 use crate::random::Random;
 use crate::streams;
 use crate::table;
+use crate::version::Version::V1_2;
 use std::io::{self, Write};
 
 /// How many octets the streams compared had, and how often each outcome came up.
@@ -43,8 +44,8 @@ impl comparison::Tally for Tally {
         let mut random = Random::new(seed);
         let mut tally = Tally::default();
         for number in 0..count {
-            let stream = streams::stream(&mut random);
-            let listing = listing::read(&stream);
+            let stream = streams::stream(&mut random, V1_2);
+            let listing = listing::read(V1_2, &stream);
             let ours = listing::write(&listing);
             let ran = program::run(program, &[], &stream)?;
             io::stderr().write_all(&ran.errors)?;

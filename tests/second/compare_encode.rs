@@ -1,33 +1,70 @@
 //! Hands random calls to another program, many at a time, and compares its answers and targets with
 //! those of the encoder here.
 
+use crate::block::{self, Entry};
 use crate::calls;
 use crate::comparison;
+use crate::encode::Options;
 use crate::encode_calls::{Call, Reply};
+use crate::item::CR;
 use crate::program;
 use crate::random::Random;
+use crate::version::BOTH;
+use std::collections::BTreeMap;
 use std::io;
 
 /// The number of the first refusal.
 const FIRST_CODE: usize = 50;
 
-/// How many octets the calls compared had, and how often each answer came up, without the mark and with it:
-/// images, and each refusal.
+/// The number of the last one.
+const LAST_CODE: usize = 56;
+
+/// How many octets the calls compared had, and how often each answer came up, in each version, without the mark
+/// and with it: images, of which those that hold 13 are counted too, and each refusal by its number.
 #[derive(Default)]
 pub struct Tally {
     octets: usize,
-    images: [usize; 2],
-    refused: [[usize; 2]; 7],
+    answers: BTreeMap<(String, &'static str, bool), usize>,
 }
 
 impl Tally {
     fn count(&mut self, call: &Call, reply: &Reply) {
-        let way = usize::from(call.counted());
-        match reply.answer / 65_536 {
-            0 => self.images[way] += 1,
-            code => self.refused[code - FIRST_CODE][way] += 1,
-        }
+        let name = match reply.answer / 65_536 {
+            0 if holds_13(call) => WITH_13.to_string(),
+            0 => WITHOUT_13.to_string(),
+            code => refused(code),
+        };
+        let Options { counted, version } = call.asked_for();
+        let key = (name, version.name(), counted);
+        *self.answers.entry(key).or_default() += 1;
     }
+
+    /// How often an answer came up, in the order in which it is printed.
+    fn counts(&self, name: &str) -> Vec<String> {
+        let mut counts = Vec::new();
+        for version in BOTH {
+            for counted in [false, true] {
+                let key = (name.to_string(), version.name(), counted);
+                let count = self.answers.get(&key).unwrap_or(&0);
+                let mark = if counted { " with the mark" } else { "" };
+                counts.push(format!("{}{mark} {count}", version.name()));
+            }
+        }
+        counts
+    }
+}
+
+const WITHOUT_13: &str = "image of headers without 13";
+const WITH_13: &str = "image of headers with 13";
+
+/// Whether a name or a value of the call holds 13.
+fn holds_13(call: &Call) -> bool {
+    let holds = |entry: &Entry| [&entry.name[..], &entry.value].concat().contains(&CR);
+    block::read(&call.block).is_some_and(|entries| entries.iter().any(holds))
+}
+
+fn refused(code: usize) -> String {
+    format!("refused {code}")
 }
 
 impl comparison::Tally for Tally {
@@ -48,13 +85,10 @@ impl comparison::Tally for Tally {
     }
 
     fn print(&self) {
-        let [without, with] = self.images;
-        println!("image {without}, with the mark {with}");
-        for (index, [without, with]) in self.refused.iter().enumerate() {
-            println!(
-                "refused {} {without}, with the mark {with}",
-                FIRST_CODE + index
-            );
+        let mut names = vec![WITHOUT_13.to_string(), WITH_13.to_string()];
+        names.extend((FIRST_CODE..=LAST_CODE).map(refused));
+        for name in names {
+            println!("{name}: {}", self.counts(&name).join(", "));
         }
     }
 }

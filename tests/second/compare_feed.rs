@@ -1,34 +1,59 @@
-//! Hands streams in pieces to another program, many at a time, and compares its answers, records and
-//! buffers with those of the stream parser here.
+//! Hands streams in pieces to another program, many at a time, and versions between them, and compares its
+//! answers, records and buffers with those of the stream parser here.
 
 use crate::comparison;
+use crate::feed::record::version_of;
 use crate::feed::{Fed, INVALID_RECORD, SHORT_BUFFER};
 use crate::feed_calls::sequence::{sequence, Step};
-use crate::feed_calls::{Call, Due, Reply};
+use crate::feed_calls::{Call, Due, Reply, Told};
 use crate::item::{Answer, Item};
 use crate::program;
 use crate::random::Random;
 use crate::table::NUMBERS;
+use crate::version::{Version, BOTH};
 use std::collections::BTreeMap;
 use std::io;
 
-/// How many octets the calls compared had, and how often each answer came up. The answers to records that
-/// no call leaves are not counted apart.
+/// How many octets the calls compared had, and how often each answer came up, in each version; a version that is
+/// no version of a record is none. The answers to records that no call leaves are not counted apart.
 #[derive(Default)]
 pub struct Tally {
     octets: usize,
-    answers: BTreeMap<String, usize>,
+    answers: BTreeMap<(String, Option<Version>), usize>,
 }
 
 impl Tally {
     fn count(&mut self, step: &Step) {
-        let name = match &step.due {
-            Due::Nothing => return,
-            Due::Exactly { fed, .. } => name(*fed),
-            Due::Any(_) => "any".to_string(),
-        };
-        *self.answers.entry(name).or_default() += 1;
+        if let Some(outcome) = outcome(&step.due) {
+            *self.answers.entry(outcome).or_default() += 1;
+        }
     }
+
+    fn counted(&self, name: &str, version: Option<Version>) -> usize {
+        let key = (name.to_string(), version);
+        self.answers.get(&key).copied().unwrap_or(0)
+    }
+}
+
+/// What is due, in words, and in which version.
+pub fn outcome(due: &Due) -> Option<(String, Option<Version>)> {
+    Some(match due {
+        Due::Nothing => return None,
+        Due::Exactly { fed, reply } => (name(*fed), version_of(&reply.record)),
+        Due::Told(told) => (name_of_told(told), version_of(&told.record)),
+        Due::Any(_) => (ANY.to_string(), None),
+        Due::AnyTold(_) => (ANY_TOLD.to_string(), None),
+    })
+}
+
+const ANY: &str = "any answer";
+const ANY_TOLD: &str = "told, any answer";
+const TAKEN: &str = "told, taken";
+const NOT_TAKEN: &str = "told, not taken";
+
+fn name_of_told(told: &Told) -> String {
+    let name = if told.taken { TAKEN } else { NOT_TAKEN };
+    name.to_string()
 }
 
 fn name(fed: Fed) -> String {
@@ -57,13 +82,17 @@ impl comparison::Tally for Tally {
     }
 
     fn print(&self) {
-        let mut names = ["beat", "frame", "more", "any"]
-            .map(str::to_string)
-            .to_vec();
+        let mut names = ["beat", "frame", "more"].map(str::to_string).to_vec();
         names.extend((1..=NUMBERS).map(|code| format!("refused {code}")));
         names.extend([SHORT_BUFFER, INVALID_RECORD].map(|code| format!("refused {code}")));
+        names.extend([TAKEN, NOT_TAKEN].map(str::to_string));
         for name in names {
-            println!("{name} {}", self.answers.get(&name).unwrap_or(&0));
+            let [new, old] = BOTH.map(|version| self.counted(&name, Some(version)));
+            let none = self.counted(&name, None);
+            println!("{name}: 1.2 {new}, 1.1 {old}, of no version {none}");
+        }
+        for name in [ANY, ANY_TOLD] {
+            println!("{name}: {}", self.counted(name, None));
         }
     }
 }
@@ -86,7 +115,8 @@ impl comparison::Batch for Batch {
     fn replies(&self) -> Vec<Vec<u8>> {
         let reply = |step: &Step| match &step.due {
             Due::Exactly { reply, .. } => reply.octets(),
-            Due::Nothing | Due::Any(_) => Vec::new(),
+            Due::Told(told) => told.octets(),
+            Due::Nothing | Due::Any(_) | Due::AnyTold(_) => Vec::new(),
         };
         self.0.iter().map(reply).collect()
     }
@@ -96,6 +126,10 @@ impl comparison::Batch for Batch {
             Due::Any(bounds) => {
                 let (reply, length) = Reply::read(output)?;
                 bounds.allow(&reply).then_some(length)
+            }
+            Due::AnyTold(bounds) => {
+                let (told, length) = Told::read(output)?;
+                bounds.allow(&told).then_some(length)
             }
             _ => output.starts_with(reply).then_some(reply.len()),
         }
@@ -147,7 +181,11 @@ fn print_call(call: &Call) {
 fn print_both(due: &Due, theirs: &[u8]) {
     let Due::Exactly { fed, reply } = due else {
         println!("due: {due:?}");
-        program::print_difference("the reply", b"", theirs);
+        let octets = match due {
+            Due::Told(told) => told.octets(),
+            _ => Vec::new(),
+        };
+        program::print_difference("the reply", &octets, theirs);
         return;
     };
     println!("due: {fed:?}");

@@ -33,7 +33,7 @@ const COMPARISONS: [Comparison; 9] = [
         mode: "compare-rewrite",
         program: "rewrite",
         what: "streams",
-        batch: 200,
+        batch: 100,
         run: quietly::<compare_rewrite::Tally>,
     },
     Comparison {

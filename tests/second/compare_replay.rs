@@ -7,9 +7,11 @@ use crate::listing::End;
 use crate::lives::{life, Life};
 use crate::program::{self, Ran};
 use crate::random::Random;
-use crate::replay::{self, Replay, Said};
+use crate::replay::{self, Replay, Said, Step};
 use crate::session::delivery::Recorded;
 use crate::session::{Answer, COUNTED};
+use crate::version::{Version, BOTH};
+use std::collections::BTreeMap;
 use std::io::{self, Write};
 
 /// The refusals of a session that is made and gets frames.
@@ -18,16 +20,24 @@ pub const NUMBERS: [usize; 13] = [31, 32, 33, 40, 41, 42, 43, 44, 45, 46, 47, 49
 /// The refusals of such a session that is told of a delivery.
 pub const RECORDING: [usize; 4] = [61, 62, 63, 64];
 
-/// How many octets the streams compared had, and how often each outcome came up; of accepted frames,
-/// first those without a receipt, then those with one, and those with later entries of each name counted.
+/// How many octets the streams compared had, how many were logs, how often each version was chosen, and what came
+/// up in items that were read in each.
 #[derive(Default)]
 pub struct Tally {
     octets: usize,
+    logs: usize,
+    opened: BTreeMap<Version, usize>,
+    outcomes: BTreeMap<Version, Outcomes>,
+}
+
+/// How often each outcome came up; of accepted frames, first those without a receipt, then those with one, and
+/// those with later entries of each name counted.
+#[derive(Default)]
+struct Outcomes {
     beats: [usize; 2],
     accepted: [[usize; 2]; COMMANDS.len()],
     overwritten: [usize; COUNTED.len()],
     refused: [[usize; NUMBERS.len()]; COMMANDS.len()],
-    logs: usize,
     delivered: usize,
     unrecorded: [usize; RECORDING.len()],
     ends: [usize; 3],
@@ -41,11 +51,13 @@ fn count_in(numbers: &[usize], counts: &mut [usize], number: usize) {
 
 impl Tally {
     fn count(&mut self, replay: &Replay) {
+        let mut version = Version::V1_2;
         for step in &replay.steps {
-            match (step.command, step.said) {
-                (_, Said::Recorded(recorded)) => self.count_delivery(recorded),
-                (None, Said::Answer(answer)) => self.beats[usize::from(answer.is_err())] += 1,
-                (Some(command), Said::Answer(answer)) => self.count_frame(command.0 - 1, answer),
+            let outcomes = self.outcomes.entry(step.version).or_default();
+            outcomes.count(step);
+            if let Some((chosen, ..)) = step.opened {
+                version = chosen;
+                *self.opened.entry(chosen).or_default() += 1;
             }
         }
         let end = match replay.listing.end {
@@ -53,7 +65,17 @@ impl Tally {
             End::More => 1,
             End::Nothing => 2,
         };
-        self.ends[end] += 1;
+        self.outcomes.entry(version).or_default().ends[end] += 1;
+    }
+}
+
+impl Outcomes {
+    fn count(&mut self, step: &Step) {
+        match (step.command, step.said) {
+            (_, Said::Recorded(recorded)) => self.count_delivery(recorded),
+            (None, Said::Answer(answer)) => self.beats[usize::from(answer.is_err())] += 1,
+            (Some(command), Said::Answer(answer)) => self.count_frame(command.0 - 1, answer),
+        }
     }
 
     fn count_frame(&mut self, index: usize, answer: Answer) {
@@ -72,6 +94,32 @@ impl Tally {
             Ok(()) => self.delivered += 1,
             Err(number) => count_in(&RECORDING, &mut self.unrecorded, number),
         }
+    }
+
+    fn print(&self, version: Version) {
+        let version = version.name();
+        let [accepted, refused] = self.beats;
+        println!("{version} beat accepted {accepted}, refused 40 {refused}");
+        for (index, [without, with]) in self.accepted.iter().enumerate() {
+            let name = String::from_utf8_lossy(COMMANDS[index]);
+            print!("{version} frame {} {name} accepted {without}", index + 1);
+            print!(", with a receipt {with}, refused");
+            let counts = NUMBERS.iter().zip(&self.refused[index]);
+            print_counts(counts.filter(|(_, &count)| count > 0));
+        }
+        let [destinations, ids, transactions] = self.overwritten;
+        print!("{version} frames accepted with a later destination {destinations}, ");
+        println!("id {ids}, transaction {transactions}");
+        let mut all = [0; NUMBERS.len()];
+        for row in &self.refused {
+            (0..all.len()).for_each(|column| all[column] += row[column]);
+        }
+        print!("{version} frames refused");
+        print_counts(NUMBERS.iter().zip(&all));
+        print!("{version} delivered {}, refused", self.delivered);
+        print_counts(RECORDING.iter().zip(&self.unrecorded));
+        let [refused, more, end] = self.ends;
+        println!("{version} stream refused {refused}, more {more}, end {end}");
     }
 }
 
@@ -106,34 +154,13 @@ impl comparison::Tally for Tally {
     }
 
     fn print(&self) {
-        println!(
-            "beat accepted {}, refused 40 {}",
-            self.beats[0], self.beats[1]
-        );
-        for (index, [without, with]) in self.accepted.iter().enumerate() {
-            let name = String::from_utf8_lossy(COMMANDS[index]);
-            print!("frame {} {name} accepted {without}", index + 1);
-            print!(", with a receipt {with}, refused");
-            print_counts(
-                NUMBERS
-                    .iter()
-                    .zip(&self.refused[index])
-                    .filter(|(_, &count)| count > 0),
-            );
+        for version in BOTH {
+            if let Some(outcomes) = self.outcomes.get(&version) {
+                outcomes.print(version);
+            }
         }
-        let [destinations, ids, transactions] = self.overwritten;
-        print!("frames accepted with a later destination {destinations}, ");
-        println!("id {ids}, transaction {transactions}");
-        let mut all = [0; NUMBERS.len()];
-        for row in &self.refused {
-            (0..all.len()).for_each(|column| all[column] += row[column]);
-        }
-        print!("frames refused");
-        print_counts(NUMBERS.iter().zip(&all));
-        print!("logs {}, delivered {}, refused", self.logs, self.delivered);
-        print_counts(RECORDING.iter().zip(&self.unrecorded));
-        let [refused, more, end] = self.ends;
-        println!("stream refused {refused}, more {more}, end {end}");
+        let [new, old] = BOTH.map(|version| self.opened.get(&version).unwrap_or(&0));
+        println!("logs {}, opened in 1.2 {new}, in 1.1 {old}", self.logs);
     }
 }
 

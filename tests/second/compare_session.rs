@@ -3,10 +3,13 @@
 
 use crate::block;
 use crate::comparison;
+use crate::item::Command;
 use crate::program;
 use crate::random::Random;
+use crate::session::frame::{opens, settles};
+use crate::session::opening::{Flags, VERSIONS};
 use crate::session::record::{Record, LENGTH};
-use crate::session::MAX_ID;
+use crate::session::{Phase, MAX_ID};
 use crate::session_calls::accounts::{self, Totals};
 use crate::session_calls::sequence::{sequence, Step};
 use crate::session_calls::{Call, NAMES};
@@ -96,12 +99,13 @@ const PARTS: [(usize, &str); 17] = [
     (2_879, "count"),
 ];
 
-/// How many octets the calls compared had, how often each answer came up, of each kind of call, and the
-/// accounts of the deliveries.
+/// How many octets the calls compared had, how often each answer came up, of each kind of call, what came up in
+/// each version, and the accounts of the deliveries.
 #[derive(Default)]
 pub struct Tally {
     octets: usize,
     answers: BTreeMap<(&'static str, String), usize>,
+    versions: BTreeMap<String, usize>,
     totals: Totals,
 }
 
@@ -109,7 +113,70 @@ impl Tally {
     fn count(&mut self, step: &Step) {
         let key = (step.call.name(), in_short(&step.reply.answer));
         *self.answers.entry(key).or_default() += 1;
+        if let Some(name) = of_version(step) {
+            *self.versions.entry(name).or_default() += 1;
+        }
     }
+}
+
+/// What a call tells of versions, if it does: those that are offered where a session is made, the one chosen where
+/// it is opened, that of an open session that gets ACK or NACK, and a record that is invalid by those shared alone.
+pub fn of_version(step: &Step) -> Option<String> {
+    let answer = in_short(&step.reply.answer);
+    if invalid_by_shared(&step.before) && answer == "refused 38" {
+        return Some("refused 38 for the versions shared".to_string());
+    }
+    match &step.call {
+        Call::Make { offered, .. } => Some(format!("{answer}, offering {}", names(*offered))),
+        Call::Frame { command, block, .. } => {
+            let command = Command::numbered(*command)?;
+            let version = step.reply.record.version()?;
+            if opens(command) && answer.starts_with("accepted") {
+                let offered = names(step.before.state.offered);
+                return Some(format!("opened in {version} of {offered}"));
+            }
+            confirmed(step, command, block)
+        }
+        _ => None,
+    }
+}
+
+/// What an open session of each version answers to ACK and NACK; of 60 it is told where the label is that of
+/// another subscription than the one named.
+fn confirmed(step: &Step, command: Command, block: &[u8]) -> Option<String> {
+    let session = step.before.session()?;
+    if session.phase != Phase::Open || !settles(command) {
+        return None;
+    }
+    let entries = block::read(block)?;
+    let named = |name: &[u8]| entries.iter().find(|entry| entry.name == name);
+    let pending = named(b"message-id").and_then(|entry| session.pending(&entry.value));
+    let other = pending.is_some_and(|place| {
+        let owner = &session.deliveries[place].subscription;
+        named(b"subscription").is_some_and(|entry| entry.value != *owner)
+    });
+    let answer = in_short(&step.reply.answer);
+    let version = session.version().name();
+    let others = if other && answer == "refused 60" && version == "1.1" {
+        " for another subscription's label"
+    } else {
+        ""
+    };
+    Some(format!("ACK and NACK in {version}: {answer}{others}"))
+}
+
+/// Whether nothing else makes the record invalid than the versions shared.
+fn invalid_by_shared(record: &Record) -> bool {
+    let mut other = record.clone();
+    other.state.shared = other.state.offered;
+    record.session().is_none() && other.session().is_some()
+}
+
+/// The versions that are marked.
+fn names(flags: Flags) -> String {
+    let marked = VERSIONS.iter().zip(flags).filter(|(_, flag)| *flag);
+    let names: Vec<&str> = marked.map(|(name, _)| *name).collect();
+    format!("[{}]", names.join(","))
 }
 
 impl comparison::Tally for Tally {
@@ -135,6 +202,9 @@ impl comparison::Tally for Tally {
                 let count = self.answers.get(&(*kind, answer.to_string())).unwrap_or(&0);
                 println!("{kind}: {answer} {count}");
             }
+        }
+        for (name, count) in &self.versions {
+            println!("{name} {count}");
         }
         let totals = &self.totals;
         print!("accounts of {} sessions made: ", totals.lives);

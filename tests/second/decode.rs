@@ -1,9 +1,8 @@
 //! Decoding: what a frame holds, read from its whole lines.
 
 use crate::block::Entry;
-use crate::item::{
-    command_line, first_item, header_block, Command, Item, BACKSLASH, ESCAPED, ESCAPE_LETTERS,
-};
+use crate::item::{command_line, first_item, header_block, Command, Item, BACKSLASH};
+use crate::version::{Escape, Version};
 
 /// What a frame holds: its entries are decoded.
 #[derive(Clone, PartialEq, Eq, Debug)]
@@ -13,17 +12,17 @@ pub struct Content {
     pub body: Vec<u8>,
 }
 
-/// The content of a row "that is exactly one frame", and nothing for any other row.
-pub fn decode(row: &[u8]) -> Option<Content> {
-    let frame = match first_item(row)? {
+/// The content of a row "that is exactly one frame" of the version, and nothing for any other row.
+pub fn decode(version: Version, row: &[u8]) -> Option<Content> {
+    let frame = match first_item(version, row)? {
         Item::Frame(frame) if frame.length == row.len() => frame,
         _ => return None,
     };
-    let (command, start) = command_line(row)?;
-    let block = header_block(command, &row[start..])?;
+    let (command, start) = command_line(version, row)?;
+    let block = header_block(version, command, &row[start..])?;
     let entry = |&(name, value): &(&[u8], &[u8])| Entry {
-        name: decoded(command, name),
-        value: decoded(command, value),
+        name: decoded(version, command, name),
+        value: decoded(version, command, value),
     };
     let body_end = frame.body_start + frame.body_length;
     Some(Content {
@@ -35,12 +34,13 @@ pub fn decode(row: &[u8]) -> Option<Content> {
 
 /// Sound raw text decoded. Escapes are taken from the left, one at a time, and what an escape stands
 /// for is not looked at again.
-pub fn decoded(command: Command, raw: &[u8]) -> Vec<u8> {
+pub fn decoded(version: Version, command: Command, raw: &[u8]) -> Vec<u8> {
+    let escapes = command.escapes_in(version);
     let mut text = Vec::new();
     let mut octets = raw.iter();
     while let Some(&octet) = octets.next() {
-        text.push(if octet == BACKSLASH && command.escapes() {
-            stands_for(octets.next())
+        text.push(if octet == BACKSLASH && !escapes.is_empty() {
+            stands_for(escapes, octets.next())
         } else {
             octet
         });
@@ -49,9 +49,7 @@ pub fn decoded(command: Command, raw: &[u8]) -> Vec<u8> {
 }
 
 /// The octet that the escape with this letter stands for.
-fn stands_for(letter: Option<&u8>) -> u8 {
-    let index = ESCAPE_LETTERS
-        .iter()
-        .position(|known| Some(known) == letter);
-    ESCAPED[index.expect("a whole escape")]
+fn stands_for(escapes: &[Escape], letter: Option<&u8>) -> u8 {
+    let escape = escapes.iter().find(|(known, _)| Some(known) == letter);
+    escape.expect("a whole escape").1
 }

@@ -1,12 +1,13 @@
 //! The calls that the program `encode_calls` reads, and what it writes of each: the answer and the target.
 
-use crate::encode::encode;
+use crate::encode::{encode, Options};
 use crate::reader::Reader;
+use crate::version::Version;
 
 /// The octet that a target is filled with before the call.
 const FILLED: u8 = 170;
 
-/// The option that asks for a length line: C-16's mark.
+/// The option that asks for a length line: C-16's mark. The version has one too (`version::OPTION`).
 pub const COUNTED: u32 = 1;
 
 /// A call: the target is known by its length.
@@ -20,9 +21,12 @@ pub struct Call {
 }
 
 impl Call {
-    /// Whether the mark is set; other options are not looked at.
-    pub fn counted(&self) -> bool {
-        self.options & COUNTED != 0
+    /// What the options ask for; other bits are not looked at.
+    pub fn asked_for(&self) -> Options {
+        Options {
+            counted: self.options & COUNTED != 0,
+            version: Version::asked_for(self.options),
+        }
     }
 
     /// The call as the program reads it.
@@ -76,11 +80,11 @@ impl Reply {
     pub fn of(call: &Call) -> Reply {
         let mut target = vec![FILLED; call.room];
         let image = encode(
+            call.asked_for(),
             call.command,
             &call.block,
             &call.body,
             call.room,
-            call.counted(),
         );
         let answer = match image {
             Ok(image) => {

@@ -1,10 +1,11 @@
 //! Reading a stream as it arrives, document 02, C-13: the octets of the unfinished item are kept, and
-//! with each piece all of them are parsed again.
+//! with each piece all of them are parsed again, in the version that was told (C-18).
 
 pub mod record;
 
 use self::record::Record;
 use crate::item::{parse, Answer, Item};
+use crate::version::Version;
 
 /// "70 hold shorter than 49,228", "71 unsound reader record"
 pub const SHORT_BUFFER: usize = 70;
@@ -14,11 +15,12 @@ pub const INVALID_RECORD: usize = 71;
 pub const LEAST_BUFFER: usize = 49_228;
 
 /// A stream parser (the document's reader): the octets of the unfinished item; after a refusal those
-/// before the octet refused, and the number.
+/// before the octet refused, and the number; and the version, which is 1.2 in a fresh one.
 #[derive(Clone, Default, PartialEq, Eq, Debug)]
 pub struct StreamParser {
     pub held: Vec<u8>,
     pub refused: Option<usize>,
+    pub version: Version,
 }
 
 /// What a call answers: the reply to the item's octets so far, and how many octets of the piece are
@@ -64,6 +66,24 @@ impl Fed {
 }
 
 impl StreamParser {
+    /// A fresh one that was told the version.
+    pub fn told(version: Version) -> StreamParser {
+        StreamParser {
+            version,
+            ..StreamParser::default()
+        }
+    }
+
+    /// Tells the version of what comes, and whether it was taken: "C-13's reader is told it between items; told
+    /// inside an item, after its refusal or with an unsound record, it changes nothing".
+    pub fn tell(&mut self, version: Version) -> bool {
+        let between_items = self.held.is_empty() && self.refused.is_none();
+        if between_items {
+            self.version = version;
+        }
+        between_items
+    }
+
     /// One piece. The buffer is long enough.
     pub fn feed(&mut self, buffer: &mut [u8], piece: &[u8]) -> Fed {
         let before = self.held.len();
@@ -75,7 +95,7 @@ impl StreamParser {
             return Fed { reply, taken: 0 };
         }
         self.held.extend_from_slice(piece);
-        let reply = parse(&self.held);
+        let reply = parse(self.version, &self.held);
         let reached = match reply {
             Answer::Complete(item) => item.length(),
             Answer::Incomplete => self.held.len(),

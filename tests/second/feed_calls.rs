@@ -1,11 +1,13 @@
-//! The calls that the program `feed_calls` reads, and what it writes of each piece: the answer, the sum of
-//! the buffer's octets, the record, and the buffer's front.
+//! The calls that the program `feed_calls` reads, and what it writes: of each piece the answer, the sum of
+//! the buffer's octets, the record, and the buffer's front; of each version told whether it was taken, and the
+//! record.
 
 pub mod sequence;
 
 use crate::feed::record::{self, Record};
 use crate::feed::{Fed, StreamParser, INVALID_RECORD, LEAST_BUFFER, SHORT_BUFFER};
 use crate::reader::Reader;
+use crate::version::Version;
 use std::convert::TryInto;
 
 /// The octets of the buffer, of which calls are given the first ones; no piece is longer.
@@ -14,13 +16,14 @@ pub const BUFFER: usize = 65_536;
 /// The octet that a fresh buffer is filled with.
 const FILLED: u8 = 170;
 
-/// A call. A room is how many octets of the buffer the calls are given from then on.
+/// A call. A room is how many octets of the buffer the calls are given from then on; options say a version.
 #[derive(Clone, PartialEq, Eq, Debug)]
 pub enum Call {
     Fresh { room: usize },
     Feed { piece: Vec<u8> },
     Record(Record),
     Room { room: usize },
+    Tell { options: u32 },
 }
 
 impl Call {
@@ -32,6 +35,7 @@ impl Call {
             Call::Feed { piece } => [&[1], &number(piece.len())[..], piece].concat(),
             Call::Record(record) => [&[2], &record[..]].concat(),
             Call::Room { room } => [&[3], &number(*room)[..]].concat(),
+            Call::Tell { options } => [&[4], &options.to_be_bytes()[..]].concat(),
         }
     }
 
@@ -50,6 +54,9 @@ impl Call {
             2 => Call::Record(reader.octets(record::LENGTH)?.try_into().ok()?),
             3 => Call::Room {
                 room: reader.number()? as usize,
+            },
+            4 => Call::Tell {
+                options: reader.number()?,
             },
             _ => return None,
         })
@@ -113,12 +120,41 @@ fn front(answer: u64, record: &Record) -> usize {
     length as usize
 }
 
+/// What the program writes where a version is told.
+#[derive(Clone, Copy, PartialEq, Eq, Debug)]
+pub struct Told {
+    pub taken: bool,
+    pub record: Record,
+}
+
+impl Told {
+    pub fn octets(&self) -> Vec<u8> {
+        let line: &[u8] = if self.taken { b"1\n" } else { b"0\n" };
+        [line, &self.record, b"\n"].concat()
+    }
+
+    /// The reply that an output begins with, and its length, whatever it says.
+    pub fn read(output: &[u8]) -> Option<(Told, usize)> {
+        let mut reader = Reader(output);
+        let taken = match reader.octets(2)? {
+            b"0\n" => false,
+            b"1\n" => true,
+            _ => return None,
+        };
+        let record = reader.octets(record::LENGTH)?.try_into().ok()?;
+        let told = Told { taken, record };
+        (reader.octet()? == b'\n').then_some((told, output.len() - reader.0.len()))
+    }
+}
+
 /// What is due to a call: nothing, this reply, or any reply within what is said of such a record.
 #[derive(Clone, PartialEq, Eq, Debug)]
 pub enum Due {
     Nothing,
     Exactly { fed: Fed, reply: Reply },
+    Told(Told),
     Any(Bounds),
+    AnyTold(ToldBounds),
 }
 
 /// What a reply to a piece of so many octets keeps to where nothing else is said: where the call itself is
@@ -144,6 +180,24 @@ impl Bounds {
         let kept = self.record.is_none_or(|record| record == reply.record)
             && self.sum.is_none_or(|sum| sum == reply.sum);
         taken <= self.piece as u64 && !(refuses && (!kept || self.is_left))
+    }
+}
+
+/// What a reply to a version told keeps to where nothing else is said: it was taken, and is in the record, or
+/// it was not; nothing else of the record changes, if that is known.
+#[derive(Clone, PartialEq, Eq, Debug)]
+pub struct ToldBounds {
+    version: Version,
+    record: Option<Record>,
+}
+
+impl ToldBounds {
+    pub fn allow(&self, told: &Told) -> bool {
+        let mut due = self.record.unwrap_or(told.record);
+        if told.taken {
+            due[record::VERSION] = record::number_of(self.version);
+        }
+        due == told.record
     }
 }
 
@@ -188,19 +242,20 @@ impl Calls {
             Call::Feed { piece } => return self.feed(piece),
             Call::Record(record) => self.set(*record, false),
             Call::Room { room } => self.room = *room,
+            Call::Tell { options } => return self.tell(Version::asked_for(*options)),
         }
         Due::Nothing
     }
 
-    /// A record that is set. All 0 is a fresh parser; of any other, the buffer need not be as it was left.
+    /// A record that is set. That of a fresh parser is known in either version; of any other, the buffer need not
+    /// be as it was left.
     fn set(&mut self, record: Record, is_left: bool) {
         if matches!(self.known, Known::Nothing) {
             return;
         }
-        self.known = if record == [0; record::LENGTH] {
-            Known::Left(StreamParser::default())
-        } else {
-            Known::Set { record, is_left }
+        self.known = match record::fresh(&record) {
+            Some(version) => Known::Left(StreamParser::told(version)),
+            None => Known::Set { record, is_left },
         };
     }
 
@@ -208,6 +263,35 @@ impl Calls {
     pub fn is_left(&mut self) {
         if let Known::Set { record, .. } = self.known {
             self.set(record, true);
+        }
+    }
+
+    /// Tells the version, whatever the buffer. A record that was set and is not that of a fresh parser is invalid,
+    /// or is that of an item under way or of a refusal; but of one that is at the start and has other octets that are
+    /// not 0, it is not known whether it is refused.
+    fn tell(&mut self, version: Version) -> Due {
+        match &mut self.known {
+            Known::Left(parser) => Due::Told(Told {
+                taken: parser.tell(version),
+                record: parser.record(),
+            }),
+            Known::Set { record, .. }
+                if record::is_refused(record) || record[record::PHASE] != record::START =>
+            {
+                Due::Told(Told {
+                    taken: false,
+                    record: *record,
+                })
+            }
+            Known::Set { record, .. } => {
+                let record = Some(*record);
+                self.known = Known::Nothing;
+                Due::AnyTold(ToldBounds { version, record })
+            }
+            Known::Nothing => Due::AnyTold(ToldBounds {
+                version,
+                record: None,
+            }),
         }
     }
 

@@ -8,6 +8,7 @@ pub mod matching;
 pub mod planning;
 mod records;
 pub mod registering;
+mod versions;
 
 use self::deliveries::holding;
 use self::records::{invalid, making, valid};
@@ -18,10 +19,19 @@ use crate::session::opening::{Flags, MAX_INTERVAL, ONLY_1_2};
 use crate::session::record::{make, Record};
 use crate::session::{MAX_ID, SUBSCRIPTIONS, TRANSACTIONS};
 use crate::session_calls::{first_record, Call, Reply, Way};
+use crate::version::Version;
 
-/// A client's life as a log: what is accepted up to DISCONNECT, messages that are recorded or not, frames and
-/// a heart-beat after it, and octets that are refused.
-pub fn stream() -> Vec<u8> {
+/// A client's life as a log, in this version.
+pub fn stream(version: Version) -> Vec<u8> {
+    match version {
+        Version::V1_1 => versions::stream(),
+        Version::V1_2 => stream_of_1_2(),
+    }
+}
+
+/// What is accepted up to DISCONNECT, messages that are recorded or not, frames and a heart-beat after it, and
+/// octets that are refused.
+fn stream_of_1_2() -> Vec<u8> {
     let parts: [&[u8]; 28] = [
         b"\n",
         b"MESSAGE\nsubscription:b\nack:early\n\n\0",
@@ -87,6 +97,12 @@ fn by_value() -> Vec<Call> {
         deliveries::invalid(),
         deliveries::valid(),
         overwritten(),
+        versions::openings(),
+        versions::settling(),
+        versions::lacking(),
+        versions::wrong_ids(),
+        versions::not_pending(),
+        versions::by_id(),
     ]
     .concat()
 }

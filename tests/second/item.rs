@@ -1,11 +1,13 @@
-//! The rules of document 01, "Items on the wire", with those of document 02's C-12 for colons and C-17 for
-//! characters, read over whole items and whole lines.
+//! The rules of document 01, "Items on the wire", with those of document 02's C-12 for colons, C-17 for
+//! characters and C-18 for both versions, read over whole items and whole lines.
 //!
-//! `first_item` is the only place that knows the format. Whether octets can still be finished is
-//! asked as the document asks it: is there a row of octets after them that makes the whole an item?
+//! `first_item` is the only place that knows the format; what differs in a version is asked of it. Whether
+//! octets can still be finished is asked as the document asks it: is there a row of octets after them that
+//! makes the whole an item?
 
 use crate::characters::{self, is_utf8};
 use crate::table;
+use crate::version::{Escape, Version};
 
 /// The sizes.
 pub const MAX_LINES: usize = 32;
@@ -17,12 +19,6 @@ pub const LF: u8 = 10;
 pub const CR: u8 = 13;
 pub const COLON: u8 = 58;
 pub const BACKSLASH: u8 = 92;
-
-/// The octets that may follow a backslash, where there are escapes.
-pub const ESCAPE_LETTERS: &[u8] = b"rnc\\";
-
-/// The octets that these escapes stand for, in the same order.
-pub const ESCAPED: [u8; 4] = [CR, LF, COLON, BACKSLASH];
 
 pub const CONTENT_LENGTH: &[u8] = b"content-length";
 
@@ -71,6 +67,15 @@ impl Command {
     /// "In CONNECT and CONNECTED there are no escapes." STOMP has them.
     pub fn escapes(self) -> bool {
         self.name() != b"CONNECT" && self.name() != b"CONNECTED"
+    }
+
+    /// The escapes of the command's header text.
+    pub fn escapes_in(self, version: Version) -> &'static [Escape] {
+        if self.escapes() {
+            version.escapes()
+        } else {
+            &[]
+        }
     }
 
     /// Document 02, C-12: "For CONNECT and CONNECTED the first colon now divides, and later ones belong to
@@ -128,44 +133,34 @@ pub enum Answer {
     Invalid { code: usize, offset: usize },
 }
 
-/// Parses the first item of a row. The offset is the length of the longest viable beginning: that
+/// Parses the first item of a row in a version. The offset is the length of the longest viable beginning: that
 /// many octets can be had by an item, and with the octet that follows them they cannot.
-pub fn parse(row: &[u8]) -> Answer {
-    if let Some(item) = first_item(row) {
+pub fn parse(version: Version, row: &[u8]) -> Answer {
+    if let Some(item) = first_item(version, row) {
         return Answer::Complete(item);
     }
-    if can_be_finished(row) {
+    if can_be_finished(version, row) {
         return Answer::Incomplete;
     }
-    let offset = longest_viable(row);
-    let code = table::code(&row[..offset], row[offset]);
+    let offset = longest_viable(version, row);
+    let code = table::code(version, &row[..offset], row[offset]);
     Answer::Invalid { code, offset }
 }
 
 /// The item that a beginning of the row is, if there is one. There is at most one, because no item
 /// is the beginning of a longer item.
-pub fn first_item(row: &[u8]) -> Option<Item> {
-    match line_end(row) {
-        Some(length) => Some(Item::HeartBeat { length }),
-        None => first_frame(row).map(Item::Frame),
-    }
-}
-
-/// "A line end is octet 10, or 13 then 10": the length of the one that the row begins with.
-fn line_end(row: &[u8]) -> Option<usize> {
-    if row.starts_with(&[LF]) {
-        Some(1)
-    } else if row.starts_with(&[CR, LF]) {
-        Some(2)
-    } else {
-        None
+pub fn first_item(version: Version, row: &[u8]) -> Option<Item> {
+    let mut ends = version.line_ends().iter();
+    match ends.find(|end| row.starts_with(end)) {
+        Some(end) => Some(Item::HeartBeat { length: end.len() }),
+        None => first_frame(version, row).map(Item::Frame),
     }
 }
 
 /// "command, line end, header lines each with a line end, an empty line, body, octet 0"
-fn first_frame(row: &[u8]) -> Option<Frame> {
-    let (command, block_start) = command_line(row)?;
-    let block = header_block(command, &row[block_start..])?;
+fn first_frame(version: Version, row: &[u8]) -> Option<Frame> {
+    let (command, block_start) = command_line(version, row)?;
+    let block = header_block(version, command, &row[block_start..])?;
     let body_start = block_start + block.length;
     let body_length = body(command, block.content_length, &row[body_start..])?;
     Some(Frame {
@@ -178,19 +173,20 @@ fn first_frame(row: &[u8]) -> Option<Frame> {
 }
 
 /// The command that the row begins with, and the length of its line with the line end.
-pub fn command_line(row: &[u8]) -> Option<(Command, usize)> {
-    let (line, length) = first_line(row)?;
+pub fn command_line(version: Version, row: &[u8]) -> Option<(Command, usize)> {
+    let (line, length) = first_line(version, row)?;
     Some((Command::named(line)?, length))
 }
 
-/// The row's first line without its line end, and its length with the line end. No line of an item
-/// holds a raw 10 or 13, so the line reaches up to the first 10, and a 13 before that belongs to the
-/// line end. A line longer than the limit is not looked at further than the limit.
-pub fn first_line(row: &[u8]) -> Option<(&[u8], usize)> {
+/// The row's first line without its line end, and its length with the line end. Every line end has the one
+/// 10 of its line, so the line reaches up to the first 10, and the longest line end that it has is taken from
+/// it: in 1.2 no line holds a raw 13. A line longer than the limit is not looked at further than the limit.
+pub fn first_line(version: Version, row: &[u8]) -> Option<(&[u8], usize)> {
     let reach = row.len().min(MAX_LINE + 2);
-    let end = row[..reach].iter().position(|&octet| octet == LF)?;
-    let line = &row[..end];
-    Some((line.strip_suffix(&[CR]).unwrap_or(line), end + 1))
+    let length = 1 + row[..reach].iter().position(|&octet| octet == LF)?;
+    let mut ends = version.line_ends().iter();
+    let line = ends.find_map(|end| row[..length].strip_suffix(*end))?;
+    Some((line, length))
 }
 
 /// A frame's header lines and the empty line: name and value of each line, both raw, what the first
@@ -202,14 +198,14 @@ pub struct HeaderBlock<'a> {
 }
 
 /// The header lines and the empty line that the row begins with.
-pub fn header_block(command: Command, row: &[u8]) -> Option<HeaderBlock<'_>> {
+pub fn header_block(version: Version, command: Command, row: &[u8]) -> Option<HeaderBlock<'_>> {
     let mut block = HeaderBlock {
         lines: Vec::new(),
         content_length: None,
         length: 0,
     };
     loop {
-        let (line, length) = first_line(&row[block.length..])?;
+        let (line, length) = first_line(version, &row[block.length..])?;
         block.length += length;
         if line.is_empty() {
             return Some(block);
@@ -217,7 +213,7 @@ pub fn header_block(command: Command, row: &[u8]) -> Option<HeaderBlock<'_>> {
         if block.lines.len() == MAX_LINES {
             return None;
         }
-        let (name, value) = header_line(command, line)?;
+        let (name, value) = header_line(version, command, line)?;
         block.lines.push((name, value));
         // "The first entry named content-length decides ... Later entries are not examined."
         if name == CONTENT_LENGTH && block.content_length.is_none() {
@@ -229,31 +225,37 @@ pub fn header_block(command: Command, row: &[u8]) -> Option<HeaderBlock<'_>> {
 /// "A header line is a name of at least one octet, a colon, a value that may be empty." Gives name
 /// and value, both raw. The first colon divides; whether the value may have more, the command says.
 /// Document 02, C-17: "Names and values must be UTF-8 as RFC 3629 defines it."
-pub fn header_line(command: Command, line: &[u8]) -> Option<(&[u8], &[u8])> {
+pub fn header_line(version: Version, command: Command, line: &[u8]) -> Option<(&[u8], &[u8])> {
     let colon = line.iter().position(|&octet| octet == COLON)?;
     let (name, value) = (&line[..colon], &line[colon + 1..]);
     let sound = line.len() <= MAX_LINE
         && !name.is_empty()
-        && is_text(command, name)
-        && is_text(command, value)
+        && is_text(version, command, name)
+        && is_text(version, command, value)
         && is_utf8(name)
         && is_utf8(value)
         && (command.has_colons() || !value.contains(&COLON));
     sound.then_some((name, value))
 }
 
-/// Raw header text, its colons apart: no 10 or 13; where the command escapes, whole escapes only, and a
-/// colon is no escape's letter.
-fn is_text(command: Command, text: &[u8]) -> bool {
+/// Raw header text, its colons apart: no octet that begins a line end; where the command escapes, whole
+/// escapes only, and a colon is no escape's letter.
+fn is_text(version: Version, command: Command, text: &[u8]) -> bool {
     match text {
         [] => true,
-        [LF | CR, ..] => false,
+        [octet, ..] if version.ends_line(*octet) => false,
         [BACKSLASH, rest @ ..] if command.escapes() => match rest {
-            [letter, rest @ ..] => ESCAPE_LETTERS.contains(letter) && is_text(command, rest),
+            [letter, rest @ ..] => is_letter(version, *letter) && is_text(version, command, rest),
             [] => false,
         },
-        [_, rest @ ..] => is_text(command, rest),
+        [_, rest @ ..] => is_text(version, command, rest),
     }
+}
+
+/// Whether the octet may follow a backslash, where there are escapes.
+pub fn is_letter(version: Version, octet: u8) -> bool {
+    let mut escapes = version.escapes().iter();
+    escapes.any(|(letter, _)| *letter == octet)
 }
 
 /// "one or more digits, leading zeros allowed, at most 32,768, and 0 where no body is allowed"
@@ -294,7 +296,8 @@ fn body(command: Command, declared: Option<usize>, row: &[u8]) -> Option<usize> 
 
 /// What may be missing from an unfinished item behind its command's letters, up to its body: nothing,
 /// the empty line, a line end and the empty line; before those, in a header line, a colon, an escape's
-/// letter, a digit of a content-length. The rest of a character may be missing too, before the colon or the
+/// letter, a digit of a content-length. All of it is the same in both versions, which have octet 10 as line
+/// end and `\c` as escape. The rest of a character may be missing too, before the colon or the
 /// line end: `AFTER_CHARACTER`.
 const ENDINGS: [&[u8]; 8] = [
     b"", b"\n", b"\n\n", b":\n\n", b"c\n\n", b"c:\n\n", b"0\n\n", b":0\n\n",
@@ -306,14 +309,14 @@ const AFTER_CHARACTER: [&[u8]; 2] = [b"\n\n", b":\n\n"];
 /// "Octets are an unfinished beginning, and can still be finished, exactly if one or more octets
 /// after them make the whole an item." The endings tried are the shortest ones for each case; where
 /// a longer ending makes an item, one of these does too.
-pub fn can_be_finished(row: &[u8]) -> bool {
-    let finishes_here = |ending: &&[u8]| finishes(row, ending);
+pub fn can_be_finished(version: Version, row: &[u8]) -> bool {
+    let finishes_here = |ending: &&[u8]| finishes(version, row, ending);
     let finishes_command = |name: &&[u8]| match name.strip_prefix(row) {
-        Some(letters) => finishes(row, &[letters, b"\n\n"].concat()),
+        Some(letters) => finishes(version, row, &[letters, b"\n\n"].concat()),
         None => false,
     };
     let finishes_character = |rest: &&[u8]| {
-        let with = |ending: &&[u8]| finishes(row, &[*rest, *ending].concat());
+        let with = |ending: &&[u8]| finishes(version, row, &[*rest, *ending].concat());
         AFTER_CHARACTER.iter().any(with)
     };
     // A cut character ends in an octet above those that are characters by themselves.
@@ -325,22 +328,22 @@ pub fn can_be_finished(row: &[u8]) -> bool {
 
 /// Whether the row, the ending and then some octets 0 make an item that is longer than the row. The
 /// octets 0 fill up the longest body and end the frame; those that are not needed stay behind it.
-fn finishes(row: &[u8], ending: &[u8]) -> bool {
+fn finishes(version: Version, row: &[u8], ending: &[u8]) -> bool {
     let mut whole = Vec::with_capacity(row.len() + ending.len() + MAX_BODY + 1);
     whole.extend_from_slice(row);
     whole.extend_from_slice(ending);
     whole.resize(whole.len() + MAX_BODY + 1, NUL);
-    first_item(&whole).is_some_and(|item| item.length() > row.len())
+    first_item(version, &whole).is_some_and(|item| item.length() > row.len())
 }
 
 /// The length of the longest beginning that can still be finished, of a row that holds no item and
 /// cannot be finished itself. Every beginning of an unfinished beginning can be finished too, so the
 /// search may halve: `low` octets always can be finished, `high` octets never.
-fn longest_viable(row: &[u8]) -> usize {
+fn longest_viable(version: Version, row: &[u8]) -> usize {
     let (mut low, mut high) = (0, row.len());
     while high - low > 1 {
         let middle = (low + high) / 2;
-        if can_be_finished(&row[..middle]) {
+        if can_be_finished(version, &row[..middle]) {
             low = middle;
         } else {
             high = middle;

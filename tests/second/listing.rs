@@ -1,6 +1,7 @@
 //! The listing of a stream: its items one after another, and how it ends.
 
 use crate::item::{parse, Answer, Item};
+use crate::version::Version;
 use std::fmt::Write;
 
 /// How a stream ends, behind its last item.
@@ -18,36 +19,38 @@ pub struct Listing {
     pub end: End,
 }
 
-/// Takes a stream apart, item by item.
-pub fn read(stream: &[u8]) -> Listing {
+/// Takes a stream apart, item by item, in one version.
+pub fn read(version: Version, stream: &[u8]) -> Listing {
+    read_told(version, stream, |_, _| version)
+}
+
+/// Takes a stream apart, item by item. Each item is told, with its start, and what is told back is the version
+/// of what comes after it.
+pub fn read_told(
+    mut version: Version,
+    stream: &[u8],
+    mut tell: impl FnMut(usize, Item) -> Version,
+) -> Listing {
     let mut items = Vec::new();
     let mut reached = 0;
-    while reached < stream.len() {
-        match parse(&stream[reached..]) {
+    let end = loop {
+        if reached == stream.len() {
+            break End::Nothing;
+        }
+        match parse(version, &stream[reached..]) {
             Answer::Complete(item) => {
+                version = tell(reached, item);
                 items.push((reached, item));
                 reached += item.length();
             }
-            Answer::Incomplete => {
-                return Listing {
-                    items,
-                    reached,
-                    end: End::More,
-                }
-            }
-            Answer::Invalid { code, offset } => {
-                return Listing {
-                    items,
-                    reached,
-                    end: End::Refused { code, offset },
-                };
-            }
+            Answer::Incomplete => break End::More,
+            Answer::Invalid { code, offset } => break End::Refused { code, offset },
         }
-    }
+    };
     Listing {
         items,
         reached,
-        end: End::Nothing,
+        end,
     }
 }
 
@@ -84,7 +87,7 @@ fn write_item(text: &mut String, start: usize, item: &Item) {
     written.expect("writing into a string");
 }
 
-/// The listing of a stream, written.
+/// The listing of a stream, written; "the listing stays with 1.2".
 pub fn of(stream: &[u8]) -> String {
-    write(&read(stream))
+    write(&read(Version::V1_2, stream))
 }

@@ -1,5 +1,6 @@
 //! Random streams of a client's life: heart-beats and frames that are accepted for a good while, most
-//! often one that is not, and some after it. A log has the MESSAGE frames too that the client was sent.
+//! often one that is not, and some after it. A log has the MESSAGE frames too that the client was sent. What
+//! comes after the opening frame is written in the version that it chooses.
 
 use crate::block::Entry;
 use crate::characters::is_utf8;
@@ -9,13 +10,15 @@ use crate::client::set;
 use crate::client::wrong::wrong;
 use crate::decode::decode;
 use crate::encode;
-use crate::item::{Command, COLON, CR, LF, NUL};
+use crate::item::{Command, COLON, NUL};
 use crate::random::Random;
-use crate::session::frame::{Frame, Kind};
-use crate::session::opening::{MAX_INTERVAL, ONLY_1_2};
+use crate::replay::delivery;
+use crate::session::frame::{label_header, Frame, Kind};
+use crate::session::opening::{BOTH, MAX_INTERVAL};
 use crate::session::record::make;
 use crate::session::{Phase, Session};
-use crate::streams::{body, damage, length_line, line_end};
+use crate::streams::{body, damage, length_line, line_end, or_the_other};
+use crate::version::Version;
 
 /// A stream, the server's heart-beat numbers, which are 0 without them, and whether it is a log.
 pub struct Life {
@@ -104,9 +107,11 @@ fn ends_fresh(random: &mut Random, plan: Plan) -> bool {
     }
 }
 
-/// A client that keeps its own session, so that it knows what is accepted, and the labels that it was sent.
+/// A client that keeps its own session, so that it knows what is accepted, the version that it writes in, and the
+/// labels that it was sent.
 struct Client {
     session: Session,
+    version: Version,
     log: bool,
     labels: Vec<Vec<u8>>,
     stream: Vec<u8>,
@@ -114,9 +119,10 @@ struct Client {
 
 impl Client {
     fn new((sends, wants): (u32, u32), log: bool) -> Client {
-        let (_, record) = make(sends, wants, ONLY_1_2);
+        let (_, record) = make(sends, wants, BOTH);
         Client {
             session: record.session().expect("a session that was made"),
+            version: Version::V1_2,
             log,
             labels: Vec::new(),
             stream: Vec::new(),
@@ -125,16 +131,18 @@ impl Client {
 
     /// Sends the frame, or gets it where it is a MESSAGE of a log. The session gets what is read of it.
     fn send(&mut self, random: &mut Random, frame: &Frame) {
-        let image = image(random, frame);
-        let content = decode(&image).expect("a frame");
-        let (command, entries) = (content.command, content.entries);
-        let frame = Frame { command, entries };
-        let text = |name: &[u8]| frame.first(name).unwrap_or_default();
-        if self.log && command.name() == b"MESSAGE" {
-            let recorded = self.session.deliver(text(b"subscription"), text(b"ack"));
-            self.labels.extend(recorded.map(|()| text(b"ack").to_vec()));
-        } else {
-            let _ = self.session.frame(&frame, 0);
+        let image = image(random, self.version, frame);
+        let content = decode(self.version, &image).expect("a frame");
+        let frame = Frame {
+            command: content.command,
+            entries: content.entries,
+        };
+        if self.log && frame.command.name() == b"MESSAGE" {
+            let (subscription, label) = delivery(self.version, &frame);
+            let recorded = self.session.deliver(subscription, label);
+            self.labels.extend(recorded.map(|()| label.to_vec()));
+        } else if self.session.frame(&frame, 0).is_ok() && frame.opens() {
+            self.version = self.session.version();
         }
         self.stream.extend(image);
     }
@@ -160,7 +168,7 @@ impl Client {
 
     fn beats(&mut self, random: &mut Random) {
         for _ in 0..random.pick(&[0, 1, 2]) {
-            line_end(random, &mut self.stream);
+            line_end(random, self.version, &mut self.stream);
         }
     }
 
@@ -199,9 +207,9 @@ impl Client {
     /// Ends as planned, if the session has the ids for it.
     fn ends(&mut self, random: &mut Random, plan: Plan) {
         let frame = match plan {
-            Plan::Refused(60) if random.once_in(2) => self.settles_again(random),
+            Plan::Refused(60) if random.once_in(3) => self.settles_again(random),
             Plan::Refused(number) => wrong(random, &self.session, number),
-            Plan::Leaves => Some(leaving(random)),
+            Plan::Leaves => Some(leaving(random, &self.session)),
             Plan::Stays => None,
         };
         if let Some(frame) = frame {
@@ -216,7 +224,7 @@ impl Client {
         let mut frame = wrong(random, &self.session, 60)?;
         if !labels.is_empty() {
             let label = labels[random.below(labels.len())];
-            set(&mut frame, b"id", label);
+            set(&mut frame, label_header(self.version), label);
         }
         Some(frame)
     }
@@ -229,7 +237,7 @@ impl Client {
             let number = random.pick(&[41, 43, 46]);
             let frame = match random.below(4) {
                 0 => wrong(random, &session, number),
-                1 => Some(leaving(random)),
+                1 => Some(leaving(random, &session)),
                 _ => Some(right(random, &session)),
             };
             self.beats(random);
@@ -242,56 +250,64 @@ impl Client {
         }
     }
 
-    /// Sends a frame that is cut off or damaged.
+    /// Sends a frame that is cut off or damaged, or is written in the other version.
     fn breaks_off(&mut self, random: &mut Random) {
         let frame = right(random, &self.session);
-        let mut image = image(random, &frame);
-        if random.once_in(2) {
-            damage(random, &mut image);
-        } else {
-            let length = random.below(image.len());
-            image.truncate(length);
+        let version = or_the_other(random, self.version);
+        let mut image = image(random, version, &frame);
+        match random.below(5) {
+            0 | 1 => damage(random, &mut image),
+            2 | 3 => {
+                let length = random.below(image.len());
+                image.truncate(length);
+            }
+            _ => {
+                line_end(random, self.version.other(), &mut self.stream);
+                image = self::image(random, self.version.other(), &frame);
+            }
         }
         self.stream.extend(image);
     }
 }
 
 /// The frame on the wire, with a body if the command may have one, with and without its length.
-fn image(random: &mut Random, frame: &Frame) -> Vec<u8> {
+fn image(random: &mut Random, version: Version, frame: &Frame) -> Vec<u8> {
     let command = frame.command;
     let mut image = command.name().to_vec();
-    line_end(random, &mut image);
+    line_end(random, version, &mut image);
     let length = random.between(0, 9).min(command.max_body());
     let declared = random.once_in(if command.has_body() { 2 } else { 16 });
     let place = random.between(0, frame.entries.len());
     for (index, entry) in frame.entries.iter().enumerate() {
         if declared && index == place {
-            length_line(random, length, &mut image);
+            length_line(random, version, length, &mut image);
         }
-        image.extend(encode::line(command, &writable(command, entry)));
-        line_end(random, &mut image);
+        let entry = writable(version, command, entry);
+        image.extend(encode::line(version, command, &entry));
+        line_end(random, version, &mut image);
     }
     if declared && place == frame.entries.len() {
-        length_line(random, length, &mut image);
+        length_line(random, version, length, &mut image);
     }
-    line_end(random, &mut image);
+    line_end(random, version, &mut image);
     body(random, length, declared, &mut image);
     image.push(NUL);
     image
 }
 
-/// The entry as the command can have it: without escapes there is no 10 or 13, and in the name no colon; and
-/// all is UTF-8.
-fn writable(command: Command, entry: &Entry) -> Entry {
+/// The entry as the command can have it: without escapes there is nothing that ends a line, and in the name no
+/// colon; and all is UTF-8.
+fn writable(version: Version, command: Command, entry: &Entry) -> Entry {
     let without = |stops: &[u8], text: &[u8]| -> Vec<u8> {
         let wide = is_utf8(text);
-        let stands = |octet: &u8| command.escapes() || !stops.contains(octet);
+        let stops = |octet: &u8| version.ends_line(*octet) || stops.contains(octet);
+        let stands = |octet: &u8| command.escapes() || !stops(octet);
         let writable = |octet: &u8| stands(octet) && (wide || octet.is_ascii());
         let octet = |octet: &u8| if writable(octet) { *octet } else { b';' };
         text.iter().map(octet).collect()
     };
     Entry {
-        name: without(&[LF, CR, COLON], &entry.name),
-        value: without(&[LF, CR], &entry.value),
+        name: without(&[COLON], &entry.name),
+        value: without(&[], &entry.value),
     }
 }

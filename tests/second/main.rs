@@ -43,10 +43,12 @@ mod table;
 mod topic;
 mod topic_calls;
 mod vectors;
+mod version;
 
 #[cfg(test)]
 mod check;
 
+use encode::Options;
 use encode_calls::Reply;
 use feed_calls::Due;
 use session::opening::MAX_INTERVAL;
@@ -55,9 +57,10 @@ use std::io::{self, Read, Write};
 use std::path::Path;
 use std::process::ExitCode;
 use std::time::Duration;
+use version::Version::{self, V1_1, V1_2};
 
 const USAGE: &str = "second list
-second rewrite [counted]
+second rewrite [counted] [1.1]
 second encode
 second replay [SENDS WANTS] [log]
 second session
@@ -77,7 +80,7 @@ second compare-registry PROGRAM COUNT SEED
 second compare-for SECONDS SEED PROGRAMS
 second make DIR
 second make-encode FILE
-second make-replay FILE
+second make-replay FILE [1.2]
 second make-session FILE
 second make-feed FILE
 second make-match FILE
@@ -90,8 +93,10 @@ fn main() -> ExitCode {
     let arguments: Vec<&str> = arguments.iter().map(String::as_str).collect();
     let done = match arguments[..] {
         ["list"] => list(),
-        ["rewrite"] => rewrite(false),
-        ["rewrite", "counted"] => rewrite(true),
+        ["rewrite"] => rewrite(false, V1_2),
+        ["rewrite", "counted"] => rewrite(true, V1_2),
+        ["rewrite", "1.1"] => rewrite(false, V1_1),
+        ["rewrite", "counted", "1.1"] => rewrite(true, V1_1),
         ["encode"] => encode(),
         ["replay"] => replay("0", "0", false),
         ["replay", "log"] => replay("0", "0", true),
@@ -109,7 +114,8 @@ fn main() -> ExitCode {
         },
         ["make", folder] => vectors::make(Path::new(folder)).map(|()| true),
         ["make-encode", file] => fs::write(file, fixed::encoding::calls()).map(|()| true),
-        ["make-replay", file] => fs::write(file, fixed::stream()).map(|()| true),
+        ["make-replay", file] => fs::write(file, fixed::stream(V1_1)).map(|()| true),
+        ["make-replay", file, "1.2"] => fs::write(file, fixed::stream(V1_2)).map(|()| true),
         ["make-session", file] => fs::write(file, fixed::calls()).map(|()| true),
         ["make-feed", file] => fs::write(file, fixed::feeding::calls()).map(|()| true),
         ["make-match", file] => fs::write(file, fixed::matching::calls()).map(|()| true),
@@ -136,11 +142,11 @@ fn list() -> io::Result<bool> {
     Ok(true)
 }
 
-/// Reads a stream from standard input and writes it again, with C-16's mark or without.
-fn rewrite(counted: bool) -> io::Result<bool> {
+/// Reads a stream from standard input and writes it again in this version, with C-16's mark or without.
+fn rewrite(counted: bool, version: Version) -> io::Result<bool> {
     let mut stream = Vec::new();
     io::stdin().read_to_end(&mut stream)?;
-    let rewritten = rewrite::rewrite(&stream, counted);
+    let rewritten = rewrite::rewrite(&stream, Options { counted, version });
     let mut output = io::stdout().lock();
     output.write_all(&rewritten.octets)?;
     output.flush()?;
@@ -200,7 +206,8 @@ fn feed() -> io::Result<bool> {
         match due {
             Due::Nothing => {}
             Due::Exactly { reply, .. } => output.write_all(&reply.octets())?,
-            Due::Any(_) => {
+            Due::Told(told) => output.write_all(&told.octets())?,
+            Due::Any(_) | Due::AnyTold(_) => {
                 return Err(io::Error::other(
                     "feed: what such a record gives is not said",
                 ))

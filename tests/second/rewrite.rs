@@ -3,7 +3,7 @@
 
 use crate::block;
 use crate::decode::decode;
-use crate::encode::{encode, written, Refusal};
+use crate::encode::{encode, written, Options, Refusal};
 use crate::item::{Command, Item, LF};
 use crate::listing::{self, End};
 
@@ -32,12 +32,12 @@ pub struct Rewritten {
     pub stop: Stop,
 }
 
-/// Writes a stream again, with C-16's mark or without.
-pub fn rewrite(stream: &[u8], counted: bool) -> Rewritten {
-    let listing = listing::read(stream);
+/// Reads a stream in a version, and writes it again in that version, with C-16's mark or without.
+pub fn rewrite(stream: &[u8], options: Options) -> Rewritten {
+    let listing = listing::read(options.version, stream);
     let (mut items, mut octets) = (Vec::new(), Vec::new());
     for (start, item) in listing.items {
-        match rewritten(&stream[start..start + item.length()], item, counted) {
+        match rewritten(&stream[start..start + item.length()], item, options) {
             Ok((item, image)) => {
                 items.push(item);
                 octets.extend(image);
@@ -67,15 +67,16 @@ pub fn rewrite(stream: &[u8], counted: bool) -> Rewritten {
 
 /// One item written again, from its row of octets; a frame by way of its header block, with as much
 /// room as it takes.
-fn rewritten(row: &[u8], item: Item, counted: bool) -> Result<(Written, Vec<u8>), Refusal> {
+fn rewritten(row: &[u8], item: Item, options: Options) -> Result<(Written, Vec<u8>), Refusal> {
     let Item::Frame(frame) = item else {
         return Ok((Written::HeartBeat, vec![LF]));
     };
     let command = frame.command;
-    let content = decode(row).expect("the row is a frame");
+    let content = decode(options.version, row).expect("the row is a frame");
     let block = block::write(&content.entries);
-    let image = encode(command.0 as u32, &block, &content.body, usize::MAX, counted)?;
-    let added = written(&content, counted).len() > content.entries.len();
+    let number = command.0 as u32;
+    let image = encode(options, number, &block, &content.body, usize::MAX)?;
+    let added = written(&content, options.counted).len() > content.entries.len();
     Ok((Written::Frame { command, added }, image))
 }
 

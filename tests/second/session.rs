@@ -1,5 +1,5 @@
-//! One client's session, document 01, with the deliveries of document 02's C-15: ids are held whole, each in
-//! its place, and each refusal is one question, asked in the document's order.
+//! One client's session, document 01, with the deliveries of document 02's C-15 and the versions of its C-18: ids
+//! are held whole, each in its place, and each refusal is one question, asked in the document's order.
 
 pub mod delivery;
 pub mod frame;
@@ -7,8 +7,9 @@ pub mod opening;
 pub mod record;
 
 use self::delivery::{Delivery, Mode};
-use self::frame::{is_servers, naming, needed, Frame, Kind, Naming, Use};
-use self::opening::{interval, passed, shared, Flags, NO_VERSION};
+use self::frame::{is_servers, needed, Frame, Kind, Naming, Settled, Use};
+use self::opening::{highest, interval, passed, shared, Flags, NO_VERSION};
+use crate::version::Version;
 use std::collections::BTreeMap;
 
 /// The sizes.
@@ -95,9 +96,9 @@ fn out_of_phase(session: &Session, frame: &Frame) -> bool {
 }
 
 /// "43 header missing"
-fn header_missing(_: &Session, frame: &Frame) -> bool {
+fn header_missing(session: &Session, frame: &Frame) -> bool {
     let missing = |name: &&[u8]| frame.first(name).is_none();
-    needed(frame.command).iter().any(missing)
+    needed(session.version(), frame.command).iter().any(missing)
 }
 
 /// "32 none shared"
@@ -106,39 +107,46 @@ fn no_version_shared(session: &Session, frame: &Frame) -> bool {
     frame.opens() && shared(session.state.offered, versions) == NO_VERSION
 }
 
-/// "44 the id that names a subscription or transaction is empty or over 32"
-fn wrong_length(_: &Session, frame: &Frame) -> bool {
-    frame
-        .id()
-        .is_some_and(|id| id.is_empty() || id.len() > MAX_ID)
+/// "44 the id that names a subscription or transaction is empty or over 32"; C-18: "44 and 46 also check that
+/// subscription".
+fn wrong_length(session: &Session, frame: &Frame) -> bool {
+    let named = frame.named(session.version());
+    named
+        .iter()
+        .any(|(_, id)| id.is_empty() || id.len() > MAX_ID)
 }
 
 /// "45 id already live"
 fn already_live(session: &Session, frame: &Frame) -> bool {
-    uses(frame, &[Use::Takes]) && session.is_live(frame)
+    let mut taken = session.named(frame, &[Use::Takes]).into_iter();
+    taken.any(|(naming, id)| session.is_live(naming.kind, id))
 }
 
 /// "46 not live"
 fn not_live(session: &Session, frame: &Frame) -> bool {
-    uses(frame, &[Use::Frees, Use::Mentions]) && !session.is_live(frame)
+    let mut used = session
+        .named(frame, &[Use::Frees, Use::Mentions])
+        .into_iter();
+    used.any(|(naming, id)| !session.is_live(naming.kind, id))
 }
 
-/// "60 the id of ACK or NACK is no outstanding label"
+/// "60 the id of ACK or NACK is no outstanding label", and "60 also for another subscription's label".
 fn not_pending(session: &Session, frame: &Frame) -> bool {
-    let pending = |label: &[u8]| session.pending(label).is_some();
-    frame.settles().is_some_and(|label| !pending(label))
+    let of_it = |settled: &Settled, delivery: &Delivery| {
+        let named = settled.subscription;
+        delivery.label == settled.label && named.is_none_or(|named| named == delivery.subscription)
+    };
+    let pending = |settled: &Settled| session.deliveries.iter().any(|one| of_it(settled, one));
+    frame
+        .settled(session.version())
+        .is_some_and(|settled| !pending(&settled))
 }
 
 /// "47 all places live"
 fn all_places_live(session: &Session, frame: &Frame) -> bool {
     let full = |naming: Naming| session.places(naming.kind).iter().all(Option::is_some);
-    uses(frame, &[Use::Takes]) && naming(frame.command).is_some_and(full)
-}
-
-/// Whether the frame names an id for one of these uses.
-fn uses(frame: &Frame, wanted: &[Use]) -> bool {
-    let used = naming(frame.command).map(|naming| naming.used);
-    frame.id().is_some() && used.is_some_and(|used| wanted.contains(&used))
+    let mut taken = session.named(frame, &[Use::Takes]).into_iter();
+    taken.any(|(naming, _)| full(naming))
 }
 
 impl Session {
@@ -156,13 +164,26 @@ impl Session {
         }
     }
 
-    /// Whether the id that the frame names is live.
-    fn is_live(&self, frame: &Frame) -> bool {
-        let live = |naming: Naming| {
-            let mut ids = self.places(naming.kind).iter().flatten();
-            ids.any(|id| Some(&id[..]) == frame.id())
-        };
-        naming(frame.command).is_some_and(live)
+    /// The version of an open session, which is "the highest" shared. In another one none is chosen, and no rule
+    /// asks for it: 1.2.
+    pub fn version(&self) -> Version {
+        let chosen = highest(self.state.shared).and_then(Version::named);
+        chosen
+            .filter(|_| self.phase == Phase::Open)
+            .unwrap_or_default()
+    }
+
+    /// The ids that the frame names for one of these uses.
+    fn named<'a>(&self, frame: &'a Frame, uses: &[Use]) -> Vec<(Naming, &'a [u8])> {
+        let mut named = frame.named(self.version());
+        named.retain(|(naming, _)| uses.contains(&naming.used));
+        named
+    }
+
+    /// Whether the id is live.
+    fn is_live(&self, kind: Kind, id: &[u8]) -> bool {
+        let mut ids = self.places(kind).iter().flatten();
+        ids.any(|live| live == id)
     }
 
     /// Answers a frame of a known command with a well-formed header block. A refusal "closes it and
@@ -200,22 +221,21 @@ impl Session {
 
     /// "A new id takes the first free place"; UNSUBSCRIBE, COMMIT and ABORT free one.
     fn take_or_free(&mut self, frame: &Frame) {
-        let Some((Naming { kind, used, .. }, id)) = naming(frame.command).zip(frame.id()) else {
-            return;
-        };
-        let (there, left) = match used {
-            Use::Takes => (None, Some(id.to_vec())),
-            Use::Frees => (Some(id.to_vec()), None),
-            Use::Mentions => return,
-        };
-        let place = self.places(kind).iter().position(|place| *place == there);
-        self.places_mut(kind)[place.expect("a place")] = left;
+        for (Naming { kind, used, .. }, id) in self.named(frame, &[Use::Takes, Use::Frees]) {
+            let id = Some(id.to_vec());
+            let (there, left) = match used {
+                Use::Takes => (None, id),
+                _ => (id, None),
+            };
+            let place = self.places(kind).iter().position(|place| *place == there);
+            self.places_mut(kind)[place.expect("a place")] = left;
+        }
     }
 
     /// What the frame changes of modes and deliveries: SUBSCRIBE sets a mode, UNSUBSCRIBE drops it with the
     /// deliveries, ACK and NACK settle, "whatever ABORT does later".
     fn account(&mut self, frame: &Frame) {
-        let id = frame.id().unwrap_or_default();
+        let id = frame.first(b"id").unwrap_or_default();
         match frame.command.name() {
             b"SUBSCRIBE" => {
                 let mode = frame.mode().expect("a known mode");
@@ -227,8 +247,8 @@ impl Session {
             }
             _ => {}
         }
-        if let Some(label) = frame.settles() {
-            self.settle(label);
+        if let Some(settled) = frame.settled(self.version()) {
+            self.settle(settled.label);
         }
     }
 

@@ -1,13 +1,15 @@
 //! The table of refusals, document 01, "The judge's three replies", with row 3 divided by document 02's
 //! C-11, and row 11 of its C-17: one predicate for each row, asked about the octet at the place. "At one
 //! octet the order is 1, 2, 10, 3, 8, 9, 4 to 7", and 11 is "between 2 and 10", so the first row in that
-//! order that fits gives the number.
+//! order that fits gives the number. The rows are the same in both versions, over what each has as line end
+//! and escapes.
 
 use crate::characters;
 use crate::item::{
-    command_line, content_length, first_line, header_block, Command, BACKSLASH, COLON, COMMANDS,
-    CONTENT_LENGTH, CR, ESCAPE_LETTERS, LF, MAX_BODY, MAX_LINE, MAX_LINES, NUL,
+    command_line, content_length, first_line, header_block, is_letter, Command, BACKSLASH, COLON,
+    COMMANDS, CONTENT_LENGTH, CR, LF, MAX_BODY, MAX_LINE, MAX_LINES, NUL,
 };
+use crate::version::Version;
 
 /// Where in an item the octet at the place stands.
 pub enum Part<'a> {
@@ -30,9 +32,17 @@ pub enum Part<'a> {
 
 /// The octet at the place with what stands before it in its item.
 struct Place<'a> {
+    version: Version,
     before: &'a [u8],
     octet: u8,
     part: Part<'a>,
+}
+
+impl Place<'_> {
+    /// Whether the octet begins a line end of the version.
+    fn ends_line(&self) -> bool {
+        self.version.ends_line(self.octet)
+    }
 }
 
 /// A row: its number, and whether it fits.
@@ -58,11 +68,12 @@ const ROWS: [Row; 11] = [
 
 /// The number of the refusal at an octet, where `before` can still be finished and cannot with the
 /// octet behind it.
-pub fn code(before: &[u8], octet: u8) -> usize {
+pub fn code(version: Version, before: &[u8], octet: u8) -> usize {
     let place = Place {
+        version,
         before,
         octet,
-        part: part_after(before),
+        part: part_after(version, before),
     };
     let row = ROWS.iter().find(|(_, fits)| fits(&place));
     let (number, _) = row.expect("a row of the table fits every refused octet");
@@ -70,12 +81,12 @@ pub fn code(before: &[u8], octet: u8) -> usize {
 }
 
 /// Finds the part of the item that the octet after `before` stands in, by whole lines.
-pub fn part_after(before: &[u8]) -> Part<'_> {
-    let Some((command, start)) = command_line(before) else {
+pub fn part_after(version: Version, before: &[u8]) -> Part<'_> {
+    let Some((command, start)) = command_line(version, before) else {
         return Part::Command;
     };
     let mut rest = &before[start..];
-    if let Some(block) = header_block(command, rest) {
+    if let Some(block) = header_block(version, command, rest) {
         let read = rest.len() - block.length;
         return Part::Body {
             command,
@@ -84,7 +95,7 @@ pub fn part_after(before: &[u8]) -> Part<'_> {
         };
     }
     let mut earlier = Vec::new();
-    while let Some((line, length)) = first_line(rest) {
+    while let Some((line, length)) = first_line(version, rest) {
         earlier.push(line);
         rest = &rest[length..];
     }
@@ -95,15 +106,12 @@ pub fn part_after(before: &[u8]) -> Part<'_> {
     }
 }
 
-fn is_line_end(octet: u8) -> bool {
-    octet == LF || octet == CR
-}
-
-/// Whether a 13 that begins a line end stands just before the place. In command and header lines
-/// every 13 does; in a body a 13 is an octet like any other.
+/// Whether a 13 that begins a line end is just before the place. In command and header lines of 1.2
+/// every 13 does, in 1.1 none; in a body a 13 is an octet like any other.
 fn after_13(place: &Place) -> bool {
     let in_body = matches!(place.part, Part::Body { .. });
-    !in_body && place.before.last() == Some(&CR)
+    let begins_line_end = place.version.ends_line(CR);
+    begins_line_end && !in_body && place.before.last() == Some(&CR)
 }
 
 /// "1 | leaves no command, and is not the start of a beat; never after a 13"
@@ -113,12 +121,12 @@ fn leaves_no_command(place: &Place) -> bool {
     }
     let with = [place.before, &[place.octet]].concat();
     let begins = |name: &&[u8]| name.starts_with(&with);
-    let ends = is_line_end(place.octet) && Command::named(place.before).is_some();
-    let is_beat = is_line_end(place.octet) && place.before.is_empty();
+    let ends = place.ends_line() && Command::named(place.before).is_some();
+    let is_beat = place.ends_line() && place.before.is_empty();
     !COMMANDS.iter().any(begins) && !ends && !is_beat
 }
 
-/// "2 | follows 13 and is not 10"
+/// "2 | follows 13 and is not 10"; C-18: "2 is never given in 1.1"
 fn follows_13(place: &Place) -> bool {
     after_13(place) && place.octet != LF
 }
@@ -138,7 +146,7 @@ fn spoils_escape(place: &Place) -> bool {
     let Part::Line { command, line, .. } = &place.part else {
         return false;
     };
-    in_escape(*command, line) && !ESCAPE_LETTERS.contains(&place.octet)
+    in_escape(*command, line) && !is_letter(place.version, place.octet)
 }
 
 /// "Keep 3 for a colon with an empty name": the line begins with it.
@@ -158,13 +166,13 @@ fn is_second_colon(place: &Place) -> bool {
     !command.has_colons() && line.contains(&COLON) && place.octet == COLON
 }
 
-/// "9 line end before the colon", and document 01: "A 13 in a header line can only begin a line end." In
-/// an empty line the line end is in place.
+/// "9 line end before the colon", and document 01: "A 13 in a header line can only begin a line end", which
+/// is so in 1.2. In an empty line the line end is in place.
 fn ends_line_before_colon(place: &Place) -> bool {
     let Part::Line { line, .. } = &place.part else {
         return false;
     };
-    !line.is_empty() && !line.contains(&COLON) && is_line_end(place.octet)
+    !line.is_empty() && !line.contains(&COLON) && place.ends_line()
 }
 
 /// "4 | makes the line, with what it still owes, longer than 512; a missing colon owes 1, an
@@ -173,7 +181,7 @@ fn makes_line_too_long(place: &Place) -> bool {
     let Part::Line { command, line, .. } = &place.part else {
         return false;
     };
-    if is_line_end(place.octet) {
+    if place.ends_line() {
         return false;
     }
     let with = [line, &[place.octet][..]].concat();
@@ -188,7 +196,7 @@ fn begins_line_too_many(place: &Place) -> bool {
     let Part::Line { earlier, line, .. } = &place.part else {
         return false;
     };
-    earlier.len() == MAX_LINES && line.is_empty() && !is_line_end(place.octet)
+    earlier.len() == MAX_LINES && line.is_empty() && !place.ends_line()
 }
 
 /// "6 | spoils the first content-length: not a digit, line end with no digit, value too large"
@@ -210,7 +218,7 @@ fn spoils_content_length(place: &Place) -> bool {
     {
         return false;
     }
-    if is_line_end(place.octet) {
+    if place.ends_line() {
         return digits.is_empty();
     }
     // With the octet behind them the digits are no number, or one that is too large.

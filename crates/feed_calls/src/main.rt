@@ -1,8 +1,9 @@
 // Calls of the stream parser, read from standard input, each as an octet, its kind, and what the kind asks; numbers have four octets,
 // high first. 0 fresh: the record all 0, the buffer's 65,536 octets all 170, and how many of these the calls are given; 1 feed: the
 // length of a piece, and the piece; 2 record: 16 octets, which become the record; 3 room: how many octets of the buffer the calls are
-// given. For each piece a line with the answer, as stomp_feed gives it, and the sum of the buffer's 65,536 octets, both in decimal; then
-// the record, the buffer's front, and a line end. The front is the item found, or what was taken of the item.
+// given; 4 tell: options, which say the protocol version. For each piece a line with the answer, as stomp_feed gives it, and the sum of
+// the buffer's 65,536 octets, both in decimal; then the record, the buffer's front, and a line end. The front is the item found, or what
+// was taken of the item. For each version told a line with the answer, as stomp_feed_tell gives it, then the record and a line end.
 ghost use mathlib.Core.Path.{_≡_};
 ghost use Prim.Native.Nat.{_≤_, _<_};
 ghost use lib.ListN.{length};
@@ -104,7 +105,7 @@ fn write_front(buffer: &[u8], n: u64) {
 }
 
 // What a piece gives.
-fn tell(answer: u64, state: &[u8], buffer: &[u8]) {
+fn show(answer: u64, state: &[u8], buffer: &[u8]) {
     io::print_decimal(STDOUT_FILENO, answer);
     io::write_all(STDOUT_FILENO, b" ");
     io::print_decimal(STDOUT_FILENO, sum(buffer));
@@ -153,7 +154,7 @@ fn feed(given: usize, state: &mut [u8], buffer: &mut [u8], space: &mut [u8]) -> 
         return cut(given);
     }
     let answer = frames::stream_calls::stomp_feed(state, &mut buffer[0..g], &space[0..n]);
-    tell(answer, state, buffer);
+    show(answer, state, buffer);
     Next { given, more: true }
 }
 
@@ -161,6 +162,20 @@ fn set(given: usize, state: &mut [u8]) -> Next {
     if !read_front(state, 16) {
         return cut(given);
     }
+    Next { given, more: true }
+}
+
+// The version of the options is told: whether it was taken, and the record.
+fn tell(given: usize, state: &mut [u8]) -> Next {
+    let number = read_number();
+    if !number.whole {
+        return cut(given);
+    }
+    let answer = frames::stream_calls::stomp_feed_tell(state, number.value);
+    io::print_decimal(STDOUT_FILENO, answer);
+    io::write_all(STDOUT_FILENO, b"\n");
+    io::write_all(STDOUT_FILENO, state);
+    io::write_all(STDOUT_FILENO, b"\n");
     Next { given, more: true }
 }
 
@@ -175,6 +190,7 @@ fn call(given: usize, state: &mut [u8], buffer: &mut [u8], space: &mut [u8]) -> 
         1 => feed(given, state, buffer, space),
         2 => set(given, state),
         3 => room(given),
+        4 => tell(given, state),
         _ => stopped(given, b"a call has an unknown kind"),
     }
 }

@@ -20,7 +20,8 @@ use lib.Dec.{ltb}
 use Rattle.headers.specs.Rows.{every, is-octet}
 use Rattle.headers.specs.Block.{Entry, image}
 use Rattle.headers.specs.Answers.{Answer, accepted, refused, left-in}
-use Rattle.frames.specs.Grammar.{Version, number, word, style, lines-max, Head, head, end}
+use Rattle.frames.specs.Grammar.{number, word, style, lines-max, Head, head, end}
+use Rattle.frames.specs.declared.version.Version.{Version}
 use Rattle.frames.specs.Replies.{Complete}
 use Rattle.frames.specs.Parsing.{parsed}
 use Rattle.frames.specs.Decoding.{decode-answer, head-entries, Decodes}

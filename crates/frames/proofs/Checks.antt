@@ -141,7 +141,7 @@ valid-decides st =
     (unless (st .sized) (otherwise _ (phase 9) (is-eq (st .size) 0))))
     (given _ (phase 12) (is-off (st .sized))))
     (otherwise _ (phase 6) (otherwise _ (phase 8) (is-eq (st .rest) 0))))
-    (given _ (is-on (eqb (st .phase) 6 || eqb (st .phase) 8)) (is-on (is-begun (style-of (st .command)) (st .rest)))) in
+    (given _ (is-on (eqb (st .phase) 6 || eqb (st .phase) 8)) (is-on (is-begun (style-of (st .crlf) (st .command)) (st .rest)))) in
     turned (both (both small-numbers so-far) clean)
     (λ ((((((k, f), s), z), p), (((w, r), b), c)), ((((((n, o), m), u), d), q), w′)).
     record {
@@ -181,20 +181,20 @@ module _ (st : Scan) where
   abbrev rest-clean : Bool
   rest-clean =
       (eqb (st .phase) 6 || (eqb (st .phase) 8 || eqb (st .rest) 0))
-      && (not (eqb (st .phase) 6 || eqb (st .phase) 8) || is-begun (style-of (st .command)) (st .rest))
+      && (not (eqb (st .phase) 6 || eqb (st .phase) 8) || is-begun (style-of (st .crlf) (st .command)) (st .rest))
 
   pub rest-outside : not (eqb (st .phase) 6) && not (eqb (st .phase) 8) ≡ true → eqb (st .rest) 0 ≡ rest-clean
   rest-outside h = by (eqb (st .phase) 6) (eqb (st .phase) 8) h
     where
-      by : (a b : Bool) → not a && not b ≡ true → eqb (st .rest) 0 ≡ (a || (b || eqb (st .rest) 0)) && (not (a || b) || is-begun (style-of (st .command)) (st .rest))
+      by : (a b : Bool) → not a && not b ≡ true → eqb (st .rest) 0 ≡ (a || (b || eqb (st .rest) 0)) && (not (a || b) || is-begun (style-of (st .crlf) (st .command)) (st .rest))
       by true b e = no-test e
       by false true e = no-test e
       by false false e = sym (and-yes (eqb (st .rest) 0))
 
-  pub rest-inside : not (eqb (st .phase) 6) && not (eqb (st .phase) 8) ≡ false → rest-clean ≡ is-begun (style-of (st .command)) (st .rest)
+  pub rest-inside : not (eqb (st .phase) 6) && not (eqb (st .phase) 8) ≡ false → rest-clean ≡ is-begun (style-of (st .crlf) (st .command)) (st .rest)
   rest-inside h = by (eqb (st .phase) 6) (eqb (st .phase) 8) h
     where
-      by : (a b : Bool) → not a && not b ≡ false → (a || (b || eqb (st .rest) 0)) && (not (a || b) || is-begun (style-of (st .command)) (st .rest)) ≡ is-begun (style-of (st .command)) (st .rest)
+      by : (a b : Bool) → not a && not b ≡ false → (a || (b || eqb (st .rest) 0)) && (not (a || b) || is-begun (style-of (st .crlf) (st .command)) (st .rest)) ≡ is-begun (style-of (st .crlf) (st .command)) (st .rest)
       by true b e = refl
       by false true e = refl
       by false false e = no-test (sym e)
@@ -204,7 +204,7 @@ module _ (st : Scan) where
 
   clean-is : not (ltb (st .phase) 4) || eqb (st .lines) 0 ≡ true → not (ltb (st .phase) 16) || eqb (st .code) 0 ≡ true → not (ltb 6 (st .phase)) || eqb (st .matched) 0 ≡ true
       → is-clean st ≡ others && rest-clean
-  clean-is a b c = rw (a, b, c) (and-assoc ((st .sized || (eqb (st .phase) 9 || eqb (st .size) 0)) && (not (eqb (st .phase) 12) || not (st .sized))) (eqb (st .phase) 6 || (eqb (st .phase) 8 || eqb (st .rest) 0)) (not (eqb (st .phase) 6 || eqb (st .phase) 8) || is-begun (style-of (st .command)) (st .rest)))
+  clean-is a b c = rw (a, b, c) (and-assoc ((st .sized || (eqb (st .phase) 9 || eqb (st .size) 0)) && (not (eqb (st .phase) 12) || not (st .sized))) (eqb (st .phase) 6 || (eqb (st .phase) 8 || eqb (st .rest) 0)) (not (eqb (st .phase) 6 || eqb (st .phase) 8) || is-begun (style-of (st .crlf) (st .command)) (st .rest)))
 
   pub clean-no : not (ltb (st .phase) 4) || eqb (st .lines) 0 ≡ true → not (ltb (st .phase) 16) || eqb (st .code) 0 ≡ true → not (ltb 6 (st .phase)) || eqb (st .matched) 0 ≡ true
       → rest-clean ≡ false → is-clean st ≡ false
@@ -223,5 +223,5 @@ valid-run st (x ∷ xs) v = valid-run (scan-step st x) xs (valid-step st v x)
 pub run-passes : (st : Scan) (xs : List ℕ) → Valid st → is-valid (scan st xs) ≡ true
 run-passes st xs v = valid-decides (scan st xs) .sure (valid-run st xs v)
 
-pub first-run-passes : (xs : List ℕ) → is-valid (scan nothing-read xs) ≡ true
-first-run-passes xs = run-passes nothing-read xs valid-nothing
+pub first-run-passes : (w : Bool) (xs : List ℕ) → is-valid (scan (nothing-read w) xs) ≡ true
+first-run-passes w xs = run-passes (nothing-read w) xs (valid-nothing w)

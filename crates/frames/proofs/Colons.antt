@@ -1,6 +1,6 @@
 -- Colons in the values of CONNECT and CONNECTED (document 02, C-12). Assumes nothing.
 --     no-second-colon    octets that begin with the first line of such a frame are never refused with 8
-use mathlib.Core.Path.{_≡_, refl, sym, _∙_, ap}
+use mathlib.Core.Path.{_≡_, refl, sym, _∙_, ap, subst}
 use mathlib.Core.Logic.{_≢_}
 use mathlib.Core.Bool.{Bool, true, false, _&&_, _||_, not}
 use mathlib.Core.List.{List, [], _∷_, _++_, append-assoc}
@@ -10,13 +10,14 @@ use lib.Dec.{eqb, leb}
 use borrow.Author.Tests.{leb-true}
 use Rattle.headers.specs.Rows.{every, same}
 use Rattle.headers.proofs.Rows.{and-left, and-right}
-use Rattle.frames.specs.Grammar.{Version, Command, CONNECT, CONNECTED, word, end, escaping, Head, head, lines}
+use Rattle.frames.specs.Grammar.{Command, CONNECT, CONNECTED, word, end, escaping, Head, head, lines}
+use Rattle.frames.specs.declared.version.Version.{Version}
 use Rattle.frames.specs.Replies.{Invalid}
 use Rattle.frames.specs.Parsing.{parsed}
 use Rattle.frames.specs.Open.{Open, start, heart-beat-13, command, command-13, begin, name, value, line-13, blank-13, body, so-far, At}
-use Rattle.frames.specs.Refusals.{Reason, no-command, no-10, not-utf8, wrong-escape, nameless, second-colon, no-colon, long-line, many-lines, bad-length, past-body, fits, numbered}
+use Rattle.frames.specs.Refusals.{second-colon, fits, numbered}
 use Rattle.frames.proofs.Commands.{each-test, each-same}
-use Rattle.frames.proofs.Table.{refused-at, first-reason}
+use Rattle.frames.proofs.Table.{refused-at, first-reason, same-reason}
 
 -- letters up to the first octet that is none are told apart by it
 letters-once : (u v : List ℕ) (y z : ℕ) (a b : List ℕ) → every (leb 65) u ≡ true → every (leb 65) v ≡ true → y < 65 → z < 65
@@ -61,26 +62,13 @@ module _ (ver : Version) where
   colon-in (blank-13 h) x t = let z : _≡_ {A = ℕ} 0 1 = cc in absurd (omega arith)
   colon-in (body h e b) x t = let z : _≡_ {A = ℕ} 0 1 = cc in absurd (omega arith)
 
-  -- 8 is the number of a second colon alone
-  only-second : (f : Reason → Bool) (r : Reason) → f r ≡ true → numbered r ≡ numbered second-colon → f second-colon ≡ true
-  only-second f second-colon t e = t
-  only-second f no-command t e = absurd (omega arith)
-  only-second f no-10 t e = absurd (omega arith)
-  only-second f not-utf8 t e = absurd (omega arith)
-  only-second f wrong-escape t e = absurd (omega arith)
-  only-second f nameless t e = absurd (omega arith)
-  only-second f no-colon t e = absurd (omega arith)
-  only-second f long-line t e = absurd (omega arith)
-  only-second f many-lines t e = absurd (omega arith)
-  only-second f bad-length t e = absurd (omega arith)
-  only-second f past-body t e = absurd (omega arith)
-
   pub no-second-colon : (c : Command) (e : Bool) (after : List ℕ) (k n : ℕ) → escaping c ≡ false → parsed ver (word c ++ (end e ++ after)) ≡ Invalid k n → k ≢ numbered second-colon
   no-second-colon c e after k n plain refused eight =
       let xs = word c ++ (end e ++ after) in
       let (s, x, there, r) = refused-at ver xs k n refused in
       let first = first-reason ver xs k n refused s x there in
-      let (h, rest, read, escapes) = colon-in s x (only-second (fits ver s x) (first .reason) (first .fitting) (first .number ∙ eight)) in
+      let only : fits ver s x second-colon ≡ true = subst (λ q. fits ver s x q ≡ true) (same-reason (first .reason) second-colon (first .number ∙ eight)) (first .fitting) in
+      let (h, rest, read, escapes) = colon-in s x only in
       let behind = lines (h .entries) ++ (rest ++ (x ∷ there .rest)) in
       let split : xs ≡ word (h .command) ++ (end (h .cr) ++ behind) = there .split ∙ ap (_++ (x ∷ there .rest)) read ∙ simp append-assoc in
       let same-word = line-word c (h .command) e (h .cr) after behind split in

@@ -7,7 +7,7 @@
 --     not-complete, few-lines                      what decode learns from parse
 --     decodes-none, Settled, settled               what decode replies, and what it leaves in the block
 use mathlib.Core.Path.{_≡_, refl, sym, _∙_, ap, ap₂, subst}
-use mathlib.Core.Bool.{Bool, true, false, _&&_, _||_, not}
+use mathlib.Core.Bool.{Bool, true, false, cond, _&&_, _||_, not}
 use mathlib.Core.Logic.{_⊎_, inl, inr, ⊎-elim}
 use mathlib.Core.Option.{Option, none, some}
 use mathlib.Core.List.{List, [], _∷_, _++_}
@@ -35,8 +35,9 @@ use Rattle.headers.proofs.Blocks.{length-image}
 use Rattle.frames.specs.declared.layout.LineAt.{LineAt}
 use Rattle.frames.specs.declared.parse.Item.{Item}
 use Rattle.frames.specs.declared.parse.Parsed.{Parsed}
-use Rattle.frames.specs.Grammar.{Version, v1-2, frame}
-use Rattle.frames.specs.Layout.{stop-span, end-width, behind-end, front-name, behind-colon, front-value, at-end, behind-line, front-lines, behind-word}
+use Rattle.frames.specs.Grammar.{crlf, style as style-in, frame, octets}
+use Rattle.frames.specs.declared.version.Version.{Version}
+use Rattle.frames.specs.Layout.{line-cr, line-stops, stop-span, end-width, behind-end, front-name, behind-colon, front-value, at-end, behind-line, front-lines, behind-word}
 use Rattle.frames.specs.Decoding.{line-entries, decode-answer, head-entries, Decodes}
 use Rattle.frames.specs.Answers.{parsed-says}
 use Rattle.headers.specs.Stretches.{span, plain-in, not-back, Stretch}
@@ -57,10 +58,10 @@ on-drop xs i k r f g = by (leb (i + k) (length xs)) refl ∙ sym (drop-drop k i 
         let past = leb-false (i + k) (length xs) t in
         drop-of-length-le xs {i = r} (omega (arith, g past)) ∙ sym (drop-of-length-le xs {i = i + k} (omega arith))
 
--- the first 10, 13 or colon of what stands from i on
-pub stop-place : (colon : ℕ) (xs : List ℕ) (i k : ℕ) → i ≤ length xs → k ≡ stop-span colon (take (length xs - i) (drop i xs))
-    → (i + k ≡ i + stop-span colon (drop i xs)) × (i + k ≤ length xs)
-stop-place colon xs i k h e = span-rest (plain-in (record { cr = 13; colon = colon; back = 10; top = 255 })) xs i h e
+-- the first 10, cr or colon from i on
+pub stop-place : (cr : ℕ) (colon : ℕ) (xs : List ℕ) (i k : ℕ) → i ≤ length xs → k ≡ stop-span cr colon (take (length xs - i) (drop i xs))
+    → (i + k ≡ i + stop-span cr colon (drop i xs)) × (i + k ≤ length xs)
+stop-place cr colon xs i k h e = span-rest (plain-in (line-stops cr colon)) xs i h e
 
 -- the stretch of a text of n octets at the front of a row
 text-stretch : (xs : List ℕ) (n k : ℕ) → k ≤ n → n ≤ length xs → every not-back (take k xs) ≡ true → (k ≡ n) ⊎ (getD xs k 0 ≡ 92) → Stretch (take n xs) k
@@ -78,25 +79,25 @@ text-stretch xs n k kn nl clear ends =
     by true l (inr e) = inr (getD-take n xs k 0 (ltb-true k n l) ∙ e)
 
 -- the octets before a backslash too
-module _ (colon : ℕ) where
+module _ (cr : ℕ) (colon : ℕ) where
   abbrev pub strict : ℕ → Bool
-  strict x = plain-in (record { cr = 13; colon = colon; back = 92; top = 255 }) x
+  strict x = plain-in (record { cr = cr; colon = colon; back = 92; top = 255 }) x
 
   abbrev pub loose : ℕ → Bool
-  loose x = plain-in (record { cr = 13; colon = colon; back = 10; top = 255 }) x
+  loose x = plain-in (line-stops cr colon) x
 
   strict-loose : (x : ℕ) → strict x ≡ true → loose x ≡ true
   strict-loose x h =
-      let others = or-false-left (eqb x 10 || eqb x 13 || eqb x colon) (eqb x 92) (not-true _ (and-left _ (leb x 255) h)) in
-      let ends = or-false-left (eqb x 10 || eqb x 13) (eqb x colon) others in
-      rw (ap (_|| eqb x 10) others ∙ or-false-left (eqb x 10) (eqb x 13) ends, and-right (not (eqb x 10 || eqb x 13 || eqb x colon || eqb x 92)) (leb x 255) h) refl
+      let others = or-false-left (eqb x 10 || eqb x cr || eqb x colon) (eqb x 92) (not-true _ (and-left _ (leb x 255) h)) in
+      let ends = or-false-left (eqb x 10 || eqb x cr) (eqb x colon) others in
+      rw (ap (_|| eqb x 10) others ∙ or-false-left (eqb x 10) (eqb x cr) ends, and-right (not (eqb x 10 || eqb x cr || eqb x colon || eqb x 92)) (leb x 255) h) refl
 
   strict-clear : (x : ℕ) → strict x ≡ true → not-back x ≡ true
-  strict-clear x h = rw (or-false-right (eqb x 10 || eqb x 13 || eqb x colon) (eqb x 92) (not-true _ (and-left _ (leb x 255) h))) refl
+  strict-clear x h = rw (or-false-right (eqb x 10 || eqb x cr || eqb x colon) (eqb x 92) (not-true _ (and-left _ (leb x 255) h))) refl
 
   -- an octet that ends the search and is no backslash ends the text
   loose-end : (x : ℕ) → strict x ≡ false → (x ≡ 92 → ⊥) → loose x ≡ false
-  loose-end x h n = by (eqb x 10 || eqb x 13 || eqb x colon) (leb x 255) h
+  loose-end x h n = by (eqb x 10 || eqb x cr || eqb x colon) (leb x 255) h
     where
       by : (t u : Bool) → not (t || eqb x 92) && u ≡ false → not (t || eqb x 10) && u ≡ false
       by true u e = refl
@@ -117,29 +118,29 @@ module _ (colon : ℕ) where
     back-clear = subst (λ n. every not-back (take n (drop i xs)) ≡ true) is (span-clear strict not-back strict-clear (drop i xs))
 
     -- the end of the text, searched for from there
-    pub back-more : i + k + stop-span colon (drop (i + k) xs) ≡ i + stop-span colon (drop i xs)
+    pub back-more : i + k + stop-span cr colon (drop (i + k) xs) ≡ i + stop-span cr colon (drop i xs)
     back-more =
         let there : drop (span strict (drop i xs)) (drop i xs) ≡ drop (i + k) xs = drop-drop (span strict (drop i xs)) i xs ∙ ap (λ n. drop n xs) (sym (found .0)) in
         omega (arith, is, span-inside strict loose strict-loose (drop i xs), ap (span loose) there)
 
-    pub back-past : length xs ≤ i + k → i + k ≡ i + stop-span colon (drop i xs)
+    pub back-past : length xs ≤ i + k → i + k ≡ i + stop-span cr colon (drop i xs)
     back-past l = span-end loose xs (i + k) l ∙ back-more
 
-    pub back-none : i + k < length xs → (getD xs (i + k) 0 ≡ 92 → ⊥) → i + k ≡ i + stop-span colon (drop i xs)
+    pub back-none : i + k < length xs → (getD xs (i + k) 0 ≡ 92 → ⊥) → i + k ≡ i + stop-span cr colon (drop i xs)
     back-none l n =
         let at : getD (drop i xs) (span strict (drop i xs)) 0 ≡ getD xs (i + k) 0 = ap (λ m. getD (drop i xs) m 0) is ∙ getD-drop i xs k 0 in
         let ends : strict (getD xs (i + k) 0) ≡ false =
         ⊎-elim (λ w. absurd (omega (arith, w, is, length-drop i xs, l))) (λ w. ap strict (sym at) ∙ w) (span-ends strict (drop i xs)) in
         span-stop loose xs (i + k) l (loose-end (getD xs (i + k) 0) ends n) ∙ back-more
 
-    text-inside : k ≤ stop-span colon (drop i xs)
+    text-inside : k ≤ stop-span cr colon (drop i xs)
     text-inside = omega (arith, back-more)
 
     -- what is passed is the stretch of the text
-    pub back-stretch : (i + k ≡ i + stop-span colon (drop i xs)) ⊎ (getD xs (i + k) 0 ≡ 92) → Stretch (take (stop-span colon (drop i xs)) (drop i xs)) k
-    back-stretch w =
-        text-stretch (drop i xs) (stop-span colon (drop i xs)) k text-inside (span-le loose (drop i xs)) back-clear
-        (⊎-elim (λ e. inl (omega (arith, e))) (λ e. inr (getD-drop i xs k 0 ∙ e)) w)
+    pub back-stretch : (i + k ≡ i + stop-span cr colon (drop i xs)) ⊎ (getD xs (i + k) 0 ≡ 92) → Stretch (take (stop-span cr colon (drop i xs)) (drop i xs)) k
+    back-stretch q =
+        text-stretch (drop i xs) (stop-span cr colon (drop i xs)) k text-inside (span-le loose (drop i xs)) back-clear
+        (⊎-elim (λ e. inl (omega (arith, e))) (λ e. inr (getD-drop i xs k 0 ∙ e)) q)
 
 -- behind the line end at i, which has two octets where it begins with 13
 module _ (xs : List ℕ) (i : ℕ) where
@@ -158,48 +159,48 @@ module _ (xs : List ℕ) (i : ℕ) where
   pub on-behind : (k r : ℕ) → end-width (drop i xs) ≡ k → (i + k ≤ length xs → r ≡ i + k) → (length xs < i + k → r ≡ length xs) → drop r xs ≡ behind-end (drop i xs)
   on-behind k r wide f g = on-drop xs i k r f g ∙ ap (λ n. drop n (drop i xs)) (sym wide)
 
--- up to the first 10, 13 or colon, and from it on
-module _ (stop : ℕ) (xs : List ℕ) (i r : ℕ) (is : r ≡ i + stop-span stop (drop i xs)) where
-  cut-name : take (r - i) (drop i xs) ≡ take (stop-span stop (drop i xs)) (drop i xs)
-  cut-name = let wide : r - i ≡ stop-span stop (drop i xs) = omega arith in ap (λ n. take n (drop i xs)) wide
+-- up to the first 10, cr or colon, and from it on
+module _ (cr : ℕ) (stop : ℕ) (xs : List ℕ) (i r : ℕ) (is : r ≡ i + stop-span cr stop (drop i xs)) where
+  cut-name : take (r - i) (drop i xs) ≡ take (stop-span cr stop (drop i xs)) (drop i xs)
+  cut-name = let wide : r - i ≡ stop-span cr stop (drop i xs) = omega arith in ap (λ n. take n (drop i xs)) wide
 
-  pub cut-end : drop r xs ≡ drop (stop-span stop (drop i xs)) (drop i xs)
-  cut-end = ap (λ n. drop n xs) is ∙ sym (drop-drop (stop-span stop (drop i xs)) i xs)
+  pub cut-end : drop r xs ≡ drop (stop-span cr stop (drop i xs)) (drop i xs)
+  cut-end = ap (λ n. drop n xs) is ∙ sym (drop-drop (stop-span cr stop (drop i xs)) i xs)
 
 -- the parts of the line at i
-pub line-cut : (xs : List ℕ) (i colon value end next : ℕ) → colon ≡ i + stop-span 58 (drop i xs) → drop value xs ≡ drop 1 (drop colon xs)
-    → end ≡ value + stop-span 10 (drop value xs) → drop next xs ≡ behind-end (drop end xs)
-    → (take (colon - i) (drop i xs) ≡ front-name (drop i xs))
-    × (take (end - value) (drop value xs) ≡ front-value (drop i xs))
-    × (drop next xs ≡ behind-line (drop i xs))
-    × (drop value xs ≡ behind-colon (drop i xs))
-line-cut xs i colon value end next first on second behind =
-    let past : drop value xs ≡ behind-colon (drop i xs) = on ∙ ap (drop 1) (cut-end 58 xs i colon first) ∙ drop-drop 1 (stop-span 58 (drop i xs)) (drop i xs) in
-    (cut-name 58 xs i colon first, cut-name 10 xs value end second ∙ ap (λ z. take (stop-span 10 z) z) past, behind ∙ ap behind-end (cut-end 10 xs value end second ∙ ap at-end past), past)
+pub line-cut : (cr : ℕ) (xs : List ℕ) (i colon value end next : ℕ) → colon ≡ i + stop-span cr 58 (drop i xs) → drop value xs ≡ drop 1 (drop colon xs)
+    → end ≡ value + stop-span cr 10 (drop value xs) → drop next xs ≡ behind-end (drop end xs)
+    → (take (colon - i) (drop i xs) ≡ front-name cr (drop i xs))
+    × (take (end - value) (drop value xs) ≡ front-value cr (drop i xs))
+    × (drop next xs ≡ behind-line cr (drop i xs))
+    × (drop value xs ≡ behind-colon cr (drop i xs))
+line-cut cr xs i colon value end next first on second behind =
+    let past : drop value xs ≡ behind-colon cr (drop i xs) = on ∙ ap (drop 1) (cut-end cr 58 xs i colon first) ∙ drop-drop 1 (stop-span cr 58 (drop i xs)) (drop i xs) in
+    (cut-name cr 58 xs i colon first, cut-name cr 10 xs value end second ∙ ap (λ z. take (stop-span cr 10 z) z) past, behind ∙ ap behind-end (cut-end cr 10 xs value end second ∙ ap (at-end cr) past), past)
 
 -- ---- The lines that are left
 
 -- l has the parts of the line at i
-abbrev pub Parted : List ℕ → ℕ → LineAt → Type 0
-Parted xs i l =
+abbrev pub Parted : ℕ → List ℕ → ℕ → LineAt → Type 0
+Parted cr xs i l =
     ((i ≤ l .colon) × (l .colon ≤ l .value) × (l .value ≤ l .end) × (l .end ≤ l .next) × (l .next ≤ length xs))
-    × (take (l .colon - i) (drop i xs) ≡ front-name (drop i xs))
-    × (take (l .end - l .value) (drop (l .value) xs) ≡ front-value (drop i xs))
-    × (drop (l .next) xs ≡ behind-line (drop i xs))
-    × Stretch (front-name (drop i xs)) (l .known .name)
-    × Stretch (front-value (drop i xs)) (l .known .value)
+    × (take (l .colon - i) (drop i xs) ≡ front-name cr (drop i xs))
+    × (take (l .end - l .value) (drop (l .value) xs) ≡ front-value cr (drop i xs))
+    × (drop (l .next) xs ≡ behind-line cr (drop i xs))
+    × Stretch (front-name cr (drop i xs)) (l .known .name)
+    × Stretch (front-value cr (drop i xs)) (l .known .value)
 
-module _ (style : Style) (xs : List ℕ) (n : ℕ) where
+module _ (cr : ℕ) (style : Style) (xs : List ℕ) (n : ℕ) where
   -- their entries, where i of n lines are passed and the next is at a place
   abbrev pub entries-left : ℕ → ℕ → List Entry
-  entries-left i at = line-entries style (front-lines (n - i) (drop at xs))
+  entries-left i at = line-entries style (front-lines cr (n - i) (drop at xs))
 
-  pub left-all : (at : ℕ) → entries-left 0 at ≡ line-entries style (front-lines n (drop at xs))
-  left-all at = let all : n - 0 ≡ n = omega arith in ap (λ m. line-entries style (front-lines m (drop at xs))) all
+  pub left-all : (at : ℕ) → entries-left 0 at ≡ line-entries style (front-lines cr n (drop at xs))
+  left-all at = let all : n - 0 ≡ n = omega arith in ap (λ m. line-entries style (front-lines cr m (drop at xs))) all
 
   pub left-none : (i at : ℕ) → n ≤ i → entries-left i at ≡ []
   unfolding front-lines
-  left-none i at h = let none : n - i ≡ 0 = omega arith in ap (λ m. line-entries style (front-lines m (drop at xs))) none
+  left-none i at h = let none : n - i ≡ 0 = omega arith in ap (λ m. line-entries style (front-lines cr m (drop at xs))) none
 
   -- the line at a place, of which name and value have a and b octets decoded, and the lines behind it
   pub record Adds (i at next a b : ℕ) : Type 0 where
@@ -219,7 +220,7 @@ module _ (style : Style) (xs : List ℕ) (n : ℕ) where
     pub writes : (k : ℕ) → r ≡ RecordWritten.Length k → Written i at next d (putMid used (length d - used) d after) used k
     pub rest-short : All Short (entries-left (i + 1) next)
 
-  module _ (i at : ℕ) (l : LineAt) (more : i < n) (p : Parted xs at l) where
+  module _ (i at : ℕ) (l : LineAt) (more : i < n) (p : Parted cr xs at l) where
     -- name and value of the next line, raw, and its record
     abbrev raw-name : List ℕ
     raw-name = take (l .colon - at) (drop at xs)
@@ -234,8 +235,8 @@ module _ (style : Style) (xs : List ℕ) (n : ℕ) where
     unfolding front-lines
     left-next =
         let fewer : n - i ≡ suc (n - (i + 1)) = omega arith in
-        ap (λ m. line-entries style (front-lines m (drop at xs))) fewer
-        ∙ ap₂ (_∷_) (ap₂ (decoded-entry style) (sym (p .1)) (sym (p .2))) (ap (λ ys. line-entries style (front-lines (n - (i + 1)) ys)) (sym (p .3)))
+        ap (λ m. line-entries style (front-lines cr m (drop at xs))) fewer
+        ∙ ap₂ (_∷_) (ap₂ (decoded-entry style) (sym (p .1)) (sym (p .2))) (ap (λ ys. line-entries style (front-lines cr (n - (i + 1)) ys)) (sym (p .3)))
 
     pub adds : (a b : ℕ) → a ≡ length (decode style raw-name) → b ≡ length (decode style raw-value) → Adds i at (l .next) a b
     adds a b name-long value-long =
@@ -322,42 +323,44 @@ decodes-none ver before f =
     record { tree = f .tree; reading = f .reading; answered = answered; written = written }
 
 -- the replies to a frame whose entries are es, which were measured
-pub record Settled (xs before : List ℕ) (es : List Entry) (total : ℕ) : Type 0 where
+pub record Settled (ver : Version) (xs before : List ℕ) (es : List Entry) (total : ℕ) : Type 0 where
   pub room : total ≤ length before → length (image es) ≤ length before
-  pub short : length before < total → Decodes v1-2 xs before (refused 21) before
-  pub whole : total ≤ length before → (after : List ℕ) → after ≡ image es ++ drop (length (image es)) before → Decodes v1-2 xs before (accepted (total ∷ [])) after
+  pub short : length before < total → Decodes ver xs before (refused 21) before
+  pub whole : total ≤ length before → (after : List ℕ) → after ≡ image es ++ drop (length (image es)) before → Decodes ver xs before (accepted (total ∷ [])) after
 
-module _ {xs : List ℕ} {c n s l : ℕ} (f : OneFrame v1-2 xs c n s l) where
+module _ (ver : Version) {xs : List ℕ} {c n s l : ℕ} (f : OneFrame ver xs c n s l) where
   pub few-lines : n ≤ 32
   few-lines = omega (arith, f .headers-are, f .valid .0 .0 .few)
 
   -- the code has the style of the frame's command, and where its lines begin
-  module _ (style : Style) (from : ℕ) (style-is : style ≡ style-of c) (from-is : drop from xs ≡ behind-word xs) where
+  module _ (cr : ℕ) (style : Style) (from : ℕ) (cr-is : cr ≡ line-cr (crlf ver)) (style-is : style ≡ style-of (crlf ver) c) (from-is : drop from xs ≡ behind-word cr xs) where
     abbrev es : List Entry
-    es = line-entries style (front-lines n (drop from xs))
+    es = line-entries style (front-lines cr n (drop from xs))
 
-    entries-are : es ≡ head-entries v1-2 (f .h)
+    entries-are : es ≡ head-entries ver (f .h)
     entries-are =
-        ap₂ (λ k ys. line-entries style (front-lines k ys)) (f .headers-are) (from-is ∙ ap behind-word (sym (f .whole)))
-        ∙ ap (line-entries style) (frame-lines (f .h) (f .e) (f .b) v1-2 (f .valid))
-        ∙ ap (λ z. line-entries z (f .h .entries)) (style-is ∙ ap style-of (f .command-is))
+        let all = style-in ver (f .h .command) in
+        ap (λ z. line-entries z (front-lines cr n (drop from xs))) (style-is ∙ ap (style-of (crlf ver)) (f .command-is))
+        ∙ ap₂ (λ k ys. line-entries all (front-lines cr k ys)) (f .headers-are) (from-is ∙ ap (behind-word cr) (sym (f .whole)))
+        ∙ ap (λ z. line-entries all (front-lines z (length (f .h .entries)) (behind-word z (octets (frame (f .h) (f .e) (f .b)))))) cr-is
+        ∙ ap (line-entries all) (frame-lines (f .h) (f .e) (f .b) ver (f .valid))
 
     -- no line of a frame is longer decoded than raw, so each has a record
     pub each-short : All Short es
-    each-short = subst (All Short) (sym entries-are) (head-short v1-2 (f .h) (f .valid .0 .0))
+    each-short = subst (All Short) (sym entries-are) (head-short ver (f .h) (f .valid .0 .0))
 
     module _ (before : List ℕ) where
       decodes : (A : Answer) (after : List ℕ) → (A ≡ decode-answer (length before) (some es)) × (after ≡ left-in (decode-answer (length before) (some es)) (image es) before)
-          → Decodes v1-2 xs before A after
+          → Decodes ver xs before A after
       decodes A after h =
           let (answered, written) = rw entries-are at h in
           record { tree = some (frame (f .h) (f .e) (f .b)); reading = (f .valid, f .whole); answered = answered; written = written }
 
       -- a block of 16,544 octets has room for any
       pub ample : 16544 ≤ length before → length (image es) ≤ length before
-      ample h = omega (arith, ap (λ z. length (image z)) entries-are, block-long v1-2 (f .h) (f .valid .0 .0))
+      ample h = omega (arith, ap (λ z. length (image z)) entries-are, block-long ver (f .h) (f .valid .0 .0))
 
-      pub settled : (total : ℕ) → total ≡ length (image es) → Settled xs before es total
+      pub settled : (total : ℕ) → total ≡ length (image es) → Settled ver xs before es total
       settled total total-is =
           record {
             room = λ h. omega arith;

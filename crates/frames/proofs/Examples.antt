@@ -13,12 +13,13 @@ use Rattle.headers.specs.Escapes.{decode, encode}
 use Rattle.headers.specs.Block.{at-record, entries-within, entries, spans}
 use Rattle.headers.specs.Answers.{find-answer}
 use Rattle.frames.specs.Machine.{Run, run, going, finished, stopped}
-use Rattle.frames.specs.Grammar.{Tree, octets, Shaped, v1-2}
+use Rattle.frames.specs.Grammar.{Tree, octets, Shaped}
+use Rattle.frames.specs.declared.version.Version.{Version}
 use Rattle.frames.specs.Open.{Open, start}
 use Rattle.frames.specs.Parsing.{step, parsed, at-word, at-start, at-name, at-begin, at-value, at-body}
 use Rattle.frames.specs.Decoding.{decode-answer, decoded-records, tree-entries, Reading}
 use Rattle.frames.specs.Encoding.{encode-answer, encode-image}
-use Rattle.frames.specs.Examples.{Example, examples, Given, DecodesTo, EncodesAgain, Finds, Holds}
+use Rattle.frames.specs.Examples.{Example, examples, Given, DecodesTo, EncodesAgain, Finds, Holds, Options}
 use Rattle.frames.proofs.Recognizer.{Says}
 use Rattle.frames.proofs.Recognizing.{exact-run}
 use Rattle.frames.proofs.Exact.{exact}
@@ -31,13 +32,13 @@ whole (finished t []) = some t
 whole (finished t (x ∷ rest)) = none
 whole (stopped k rest) = none
 
-abbrev tree-of : List ℕ → Option Tree
-tree-of xs = whole (run (step v1-2) start xs)
+abbrev tree-of : Version → List ℕ → Option Tree
+tree-of ver xs = whole (run (step ver) start xs)
 
-reads : (xs : List ℕ) → every is-octet xs ≡ true → Reading v1-2 xs (tree-of xs)
-reads xs o = by (run (step v1-2) start xs) (exact-run v1-2 xs)
+reads : (ver : Version) (xs : List ℕ) → every is-octet xs ≡ true → Reading ver xs (tree-of ver xs)
+reads ver xs o = by (run (step ver) start xs) (exact-run ver xs)
   where
-    by : (r : Run Open Tree) → Says octets (Shaped v1-2) xs r → Reading v1-2 xs (whole r)
+    by : (r : Run Open Tree) → Says octets (Shaped ver) xs r → Reading ver xs (whole r)
     by (going s) h = λ (t, v, e). h .no-front t [] (v .0, append-nil (octets t) ∙ e)
     by (finished t []) h = let e = sym (append-nil (octets t)) ∙ h .front .1 in ((h .front .0, rw e o), e)
     by (finished t (x ∷ rest)) h =
@@ -45,12 +46,12 @@ reads xs o = by (run (step v1-2) start xs) (exact-run v1-2 xs)
     by (stopped k rest) h = λ (t, v, e). h .no-front t [] (v .0, append-nil (octets t) ∙ e)
 
 -- a row, by what is computed of the run's tree
-holds : {e : Example} → every is-octet (e .input) ≡ true → parsed v1-2 (e .input) ≡ e .reply
-    → Given (e .block) (DecodesTo (tree-entries v1-2 (tree-of (e .input))))
-    → All (EncodesAgain (e .input) (e .reply) (decoded-records (tree-entries v1-2 (tree-of (e .input))))) (e .images)
-    → Given (e .looked-up) (Finds (decoded-records (tree-entries v1-2 (tree-of (e .input)))))
+holds : {e : Example} → every is-octet (e .input) ≡ true → parsed (e .version) (e .input) ≡ e .reply
+    → Given (e .block) (DecodesTo (tree-entries (e .version) (tree-of (e .version) (e .input))))
+    → All (EncodesAgain (e .version) (e .input) (e .reply) (decoded-records (tree-entries (e .version) (tree-of (e .version) (e .input))))) (e .images)
+    → Given (e .looked-up) (Finds (decoded-records (tree-entries (e .version) (tree-of (e .version) (e .input)))))
     → Holds e
-holds {e} o p d i f = record { parses = p; exactly = subst (Exact v1-2 (e .input)) p (exact v1-2 (e .input) o); tree = tree-of (e .input); reading = reads (e .input) o; decodes = d; encodes = i; finds = f }
+holds {e} o p d i f = record { parses = p; exactly = subst (Exact (e .version) (e .input)) p (exact (e .version) (e .input) o); tree = tree-of (e .version) (e .input); reading = reads (e .version) (e .input) o; decodes = d; encodes = i; finds = f }
 
 -- rows that hold, one after another
 infixr 5 _also_
@@ -109,4 +110,29 @@ examples-hold =
     also holds refl refl tt tt tt
     also holds refl refl tt tt tt
     also holds refl refl tt tt tt
+    also holds refl refl tt tt tt
+    also holds refl refl tt tt tt
+    also holds refl refl tt tt tt
+    also holds refl refl tt tt tt
+    also holds refl refl tt tt tt
+    also holds refl refl tt tt tt
+    also holds refl refl tt tt tt
+    also holds refl refl tt tt tt
+    also holds refl refl tt tt tt
+    also holds refl refl tt tt (_, _, refl, refl)
+    also holds refl refl tt tt (_, _, refl, refl)
+    also holds refl refl tt tt (_, _, refl, refl)
+    also holds refl refl tt tt (_, _, refl, refl)
+    also holds refl refl (refl, refl) ((refl, refl), ((refl, refl), tt)) tt
+    also holds refl refl tt tt tt
     also end)
+
+pub options-read : Options
+options-read = record {
+  none-set = (refl, refl);
+  counted-set = (refl, refl);
+  version-set = (refl, refl);
+  both-set = (refl, refl);
+  another-set = (refl, refl);
+  all-set = (refl, refl);
+}

@@ -13,7 +13,8 @@ use lib.Dec.{eqb, ltb}
 use borrow.Author.Tests.{eqb-true, eqb-false, ne-eqb, le-leb, lt-ltb, le-ltb}
 use Rattle.headers.specs.Rows.{every, is-octet}
 use Rattle.headers.proofs.Rows.{cond-case, every-append}
-use Rattle.frames.specs.Grammar.{Version, Tree, heart-beat, frame, octets}
+use Rattle.frames.specs.Grammar.{crlf, Tree, heart-beat, frame, octets}
+use Rattle.frames.specs.declared.version.Version.{Version}
 use Rattle.frames.specs.Replies.{Reply, Complete, Incomplete, Invalid, told, used-of}
 use Rattle.frames.specs.Parsing.{parsed}
 use Rattle.frames.specs.Exactness.{Begins, Claims, Exact}
@@ -25,8 +26,9 @@ use Rattle.frames.proofs.Exact.{exact}
 use Rattle.frames.proofs.Running.{scan-ended}
 use Rattle.frames.proofs.Sizes.{item-short, viable-short, incomplete-short}
 use Rattle.frames.proofs.Checks.{valid-decides, first-run-passes}
-use Rattle.frames.specs.Streams.{replied, reach, is-resumable, is-whole, feed-answer, feed-state, feed-buffer}
+use Rattle.frames.specs.Streams.{replied, reach, fits-version, is-resumable, is-whole, feed-answer, feed-state, feed-buffer}
 use Rattle.frames.proofs.Counting.{scan-counts, scan-append}
+use Rattle.frames.proofs.Endings.{first-fits}
 
 -- ---- what a state shows
 
@@ -68,23 +70,27 @@ ended st (shows-frame e) h = omega arith
 ended st (shows-refusal e) h = omega arith
 ended st (shows-more e) h = absurd (h refl)
 
-known : (xs : List ℕ) → scan nothing-read xs .phase ≤ 16
-known xs = valid-decides (scan nothing-read xs) .pass (first-run-passes xs) .known
+known : (w : Bool) (xs : List ℕ) → scan (nothing-read w) xs .phase ≤ 16
+known w xs = valid-decides (scan (nothing-read w) xs) .pass (first-run-passes w xs) .known
 
 module _ (ver : Version) where
+  -- before the first octet, in this version
+  abbrev pub none-read : Scan
+  none-read = nothing-read (crlf ver)
+
   -- the state after xs shows the reply to xs
-  after : (xs : List ℕ) → Shows (scan nothing-read xs) (parsed ver xs)
-  after xs = subst (Shows (scan nothing-read xs)) (scanned ver xs) (shows (scan nothing-read xs) (known xs))
+  after : (xs : List ℕ) → Shows (scan none-read xs) (parsed ver xs)
+  after xs = subst (Shows (scan none-read xs)) (scanned ver xs) (shows (scan none-read xs) (known (crlf ver) xs))
 
   -- and counts how far they are taken
-  count : (xs : List ℕ) → scan nothing-read xs .at ≡ reach (parsed ver xs) (length xs)
-  count xs = reached (scan nothing-read xs) (length xs) (after xs) (λ h. omega (arith, scan-counts xs nothing-read .whole h))
+  count : (xs : List ℕ) → scan none-read xs .at ≡ reach (parsed ver xs) (length xs)
+  count xs = reached (scan none-read xs) (length xs) (after xs) (λ h. omega (arith, scan-counts xs none-read .whole h))
 
   -- octets behind an item or a refused octet change nothing
   pub parsed-more : (xs ys : List ℕ) → (parsed ver xs ≡ Incomplete → ⊥) → parsed ver (xs ++ ys) ≡ parsed ver xs
   parsed-more xs ys h =
       sym (scanned ver (xs ++ ys))
-      ∙ ap scan-reply (scan-append xs ys nothing-read ∙ scan-ended ys (scan nothing-read xs) (ended (scan nothing-read xs) (after xs) h))
+      ∙ ap scan-reply (scan-append xs ys none-read ∙ scan-ended ys (scan none-read xs) (ended (scan none-read xs) (after xs) h))
       ∙ scanned ver xs
 
   -- ---- how far octets are taken
@@ -128,22 +134,30 @@ module _ (ver : Version) where
   -- ---- where a parser stands
 
   pub record Stands (st : Scan) (buffer xs : List ℕ) : Type 0 where
-    pub state : st ≡ scan nothing-read xs
+    pub state : st ≡ scan none-read xs
     pub more : parsed ver xs ≡ Incomplete
     pub of-octets : every is-octet xs ≡ true
     pub front : take (length xs) buffer ≡ xs
     pub room : 49228 ≤ length buffer
 
+  -- of no octets nothing can be said yet
+  pub none-more : parsed ver [] ≡ Incomplete
+  none-more = sym (scanned ver [])
+
   -- a fresh one
-  pub stands-fresh : (buffer : List ℕ) → 49228 ≤ length buffer → Stands nothing-read buffer []
-  stands-fresh buffer h = record { state = refl; more = sym (scanned ver []); of-octets = refl; front = refl; room = h }
+  pub stands-fresh : (buffer : List ℕ) → 49228 ≤ length buffer → Stands none-read buffer []
+  stands-fresh buffer h = record { state = refl; more = none-more; of-octets = refl; front = refl; room = h }
 
   module _ {st : Scan} {buffer xs : List ℕ} (s : Stands st buffer xs) where
     pub held : st .at ≡ length xs
     held = ap (λ z. z .at) (s .state) ∙ count xs ∙ ap (λ r. reach r (length xs)) (s .more)
 
+    -- a run keeps the version
+    pub same-version : st .crlf ≡ crlf ver
+    same-version = ap (λ z. z .crlf) (s .state) ∙ scan-counts xs none-read .same-ends
+
     goes-on : st .phase < 14
-    goes-on = by (scan nothing-read xs) (after xs) (s .state)
+    goes-on = by (scan none-read xs) (after xs) (s .state)
       where
         by : (z : Scan) → Shows z (parsed ver xs) → st ≡ z → st .phase < 14
         by z w e = other (parsed ver xs) w (s .more)
@@ -159,7 +173,8 @@ module _ (ver : Version) where
     unfolding is-resumable
     resumable =
         let short = incomplete-short ver xs (parsed ver xs) (exact ver xs (s .of-octets)) (s .more) in
-        rw (ap is-valid (s .state) ∙ first-run-passes xs, le-leb (st .at) 49227 (omega (arith, held)), lt-ltb (st .phase) 14 goes-on) refl
+        let fits : fits-version st ≡ true = ap fits-version (s .state) ∙ first-fits (crlf ver) xs in
+        rw (ap is-valid (s .state) ∙ first-run-passes (crlf ver) xs, le-leb (st .at) 49227 (omega (arith, held)), fits, lt-ltb (st .phase) 14 goes-on) refl
 
     -- ---- a call
 
@@ -174,8 +189,8 @@ module _ (ver : Version) where
       abbrev pub upto : ℕ
       upto = reach reply (length so-far)
 
-      next : scan st piece ≡ scan nothing-read so-far
-      next = ap (λ z. scan z piece) (s .state) ∙ sym (scan-append xs piece nothing-read)
+      next : scan st piece ≡ scan none-read so-far
+      next = ap (λ z. scan z piece) (s .state) ∙ sym (scan-append xs piece none-read)
 
       next-at : scan st piece .at ≡ upto
       next-at = ap (λ z. z .at) next ∙ count so-far
@@ -196,9 +211,12 @@ module _ (ver : Version) where
       unfolding feed-answer
       fed-answer = rw (long-enough, resumable) (ap₂ replied (ap scan-reply next ∙ scanned ver so-far) (ap₂ (_-_) next-at held))
 
-      pub fed-state : feed-state st buffer piece ≡ cond (is-item reply) nothing-read (scan nothing-read so-far)
+      pub fed-state : feed-state st buffer piece ≡ cond (is-item reply) none-read (scan none-read so-far)
       unfolding feed-state
-      fed-state = rw (long-enough, resumable) (ap₂ (λ t z. cond t nothing-read z) (ap is-whole next ∙ whole (scan nothing-read so-far) (after so-far)) next)
+      fed-state =
+          rw (long-enough, resumable)
+          (ap₂ (λ t z. cond t (nothing-read (st .crlf)) z) (ap is-whole next ∙ whole (scan none-read so-far) (after so-far)) next
+          ∙ ap (λ w. cond (is-item reply) (nothing-read w) (scan none-read so-far)) same-version)
 
       -- the octets taken of the item stand at the front
       pub fed-buffer : feed-buffer st buffer piece ≡ take upto so-far ++ drop upto buffer
@@ -227,7 +245,7 @@ module _ (ver : Version) where
         pub more-stands : Stands (feed-state st buffer piece) (feed-buffer st buffer piece) so-far
         more-stands =
             record {
-              state = fed-state ∙ ap (λ r. cond (is-item r) nothing-read (scan nothing-read so-far)) e;
+              state = fed-state ∙ ap (λ r. cond (is-item r) none-read (scan none-read so-far)) e;
               more = e;
               of-octets = so-far-octets;
               front = let all : upto ≡ length so-far = ap (λ r. reach r (length so-far)) e in ap (λ n. take n (feed-buffer st buffer piece)) (sym all) ∙ fed-front ∙ ap (λ n. take n so-far) all ∙ take-length so-far;
@@ -240,7 +258,7 @@ module _ (ver : Version) where
         item-answer = fed-answer ∙ ap (λ r. replied r (reach r (length so-far) - length xs)) e
 
         pub item-stands : Stands (feed-state st buffer piece) (feed-buffer st buffer piece) []
-        item-stands = subst (λ z. Stands z (feed-buffer st buffer piece) []) (sym (fed-state ∙ ap (λ r. cond (is-item r) nothing-read (scan nothing-read so-far)) e)) (stands-fresh (feed-buffer st buffer piece) fed-room)
+        item-stands = subst (λ z. Stands z (feed-buffer st buffer piece) []) (sym (fed-state ∙ ap (λ r. cond (is-item r) none-read (scan none-read so-far)) e)) (stands-fresh (feed-buffer st buffer piece) fed-room)
 
         pub item-front : take u (feed-buffer st buffer piece) ≡ take u so-far
         item-front = subst (λ r. take (reach r (length so-far)) (feed-buffer st buffer piece) ≡ take (reach r (length so-far)) so-far) e fed-front
@@ -259,10 +277,10 @@ module _ (ver : Version) where
         pub refusal-within : n ≤ length so-far
         refusal-within = omega (arith, within .1, ap (λ r. reach r (length so-far)) e)
 
-        pub refused-state : let left = feed-state st buffer piece in (left ≡ scan nothing-read so-far) × (left .phase ≡ 16) × (left .code ≡ k) × (left .at ≡ n)
+        pub refused-state : let left = feed-state st buffer piece in (left ≡ scan none-read so-far) × (left .phase ≡ 16) × (left .code ≡ k) × (left .at ≡ n)
         refused-state =
-            let left : feed-state st buffer piece ≡ scan nothing-read so-far = fed-state ∙ ap (λ r. cond (is-item r) nothing-read (scan nothing-read so-far)) e in
-            let (p, c, a) = by (scan nothing-read so-far) reply (after so-far) e in
+            let left : feed-state st buffer piece ≡ scan none-read so-far = fed-state ∙ ap (λ r. cond (is-item r) none-read (scan none-read so-far)) e in
+            let (p, c, a) = by (scan none-read so-far) reply (after so-far) e in
             (left, ap (λ z. z .phase) left ∙ p, ap (λ z. z .code) left ∙ c, ap (λ z. z .at) left ∙ a)
           where
             by : (z : Scan) (r : Reply) → Shows z r → r ≡ Invalid k n → (z .phase ≡ 16) × (z .code ≡ k) × (z .at ≡ n)

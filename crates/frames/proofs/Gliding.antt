@@ -83,18 +83,22 @@ flagged false k x h = and-no (eqb x k)
 -- an octet that is itself in header text
 plain-octet : (s : Style) (f : Field) (x : ℕ) → plain-in (text-stops s f) x ≡ true → (plain s f x ≡ true) × (ascii x ≡ true)
 plain-octet s f x k =
+    let cr : ℕ = cond (s .crlf) 13 10 in
+    let colon : ℕ = cond (divides s f) 58 10 in
+    let back : ℕ = cond (s .escapes) 92 10 in
     let h = not-true _ (and-left _ (leb x 127) k) in
-    let h₁ = or-false-left (eqb x 10 || eqb x 13 || eqb x (cond (divides s f) 58 10)) (eqb x (cond (s .escapes) 92 10)) h in
-    let h₂ = or-false-left (eqb x 10 || eqb x 13) (eqb x (cond (divides s f) 58 10)) h₁ in
-    let c = flagged (divides s f) 58 x (or-false-right (eqb x 10 || eqb x 13) (eqb x (cond (divides s f) 58 10)) h₁) in
-    let b = and-comm (s .escapes) (eqb x 92) ∙ flagged (s .escapes) 92 x (or-false-right (eqb x 10 || eqb x 13 || eqb x (cond (divides s f) 58 10)) (eqb x (cond (s .escapes) 92 10)) h) in (
-      simp (or-false-left (eqb x 10) (eqb x 13) h₂, or-false-right (eqb x 10) (eqb x 13) h₂, c, b),
-      lt-ltb x 128 (omega (arith, leb-true x 127 (and-right (not (eqb x 10 || eqb x 13 || eqb x (cond (divides s f) 58 10) || eqb x (cond (s .escapes) 92 10))) (leb x 127) k))),
+    let h₁ = or-false-left (eqb x 10 || eqb x cr || eqb x colon) (eqb x back) h in
+    let h₂ = or-false-left (eqb x 10 || eqb x cr) (eqb x colon) h₁ in
+    let r = flagged (s .crlf) 13 x (or-false-right (eqb x 10) (eqb x cr) h₂) in
+    let c = flagged (divides s f) 58 x (or-false-right (eqb x 10 || eqb x cr) (eqb x colon) h₁) in
+    let b = and-comm (s .escapes) (eqb x 92) ∙ flagged (s .escapes) 92 x (or-false-right (eqb x 10 || eqb x cr || eqb x colon) (eqb x back) h) in (
+      simp (or-false-left (eqb x 10) (eqb x cr) h₂, r, c, b),
+      lt-ltb x 128 (omega (arith, leb-true x 127 (and-right (not (eqb x 10 || eqb x cr || eqb x colon || eqb x back)) (leb x 127) k))),
     )
 
 -- calm octets below 128 are plain in any text: what its stops are
-pub calm-plain : (s : Style) (f : Field) {t : Stops} → t ≡ text-stops s f → (t .cr ≡ 13) × (t .top ≡ 127) × ((x : ℕ) → calm 127 x ≡ true → plain-in t x ≡ true)
-calm-plain s f e = rw e (refl, refl, λ x h. calm-in s f x h)
+pub calm-plain : (s : Style) (f : Field) {t : Stops} → t ≡ text-stops s f → (t .top ≡ 127) × ((x : ℕ) → calm 127 x ≡ true → plain-in t x ≡ true)
+calm-plain s f e = rw e (refl, λ x h. calm-in s f x h)
   where
     either : (b : Bool) (x n : ℕ) → 14 ≤ x → eqb x n ≡ false → eqb x (cond b n 10) ≡ false
     either true x n l h = h
@@ -109,7 +113,7 @@ calm-plain s f e = rw e (refl, refl, λ x h. calm-in s f x h)
         let n92 = not-true (eqb x 92) (and-right (leb 14 x && leb x 127 && not (eqb x 58)) (not (eqb x 92)) k) in
         rw (
           ne-eqb x 10 (λ z. absurd (omega arith)),
-          ne-eqb x 13 (λ z. absurd (omega arith)),
+          either (s .crlf) x 13 low (ne-eqb x 13 (λ z. absurd (omega arith))),
           either (divides s f) x 58 low n58,
           either (s .escapes) x 92 low n92,
           and-right (leb 14 x) (leb x 127) b,
@@ -149,22 +153,22 @@ module _ (st : Scan) (v : Valid st) where
       }
 
   -- in a value
-  glides-value : {y : Style} → y ≡ style-of (st .command) → st .phase ≡ 7 → Glides (plain-in (text-stops y in-value)) 512 st
+  glides-value : {y : Style} → y ≡ style-of (st .crlf) (st .command) → st .phase ≡ 7 → Glides (plain-in (text-stops y in-value)) 512 st
   unfolding scan-step on-value
   glides-value same e =
       record {
         passes = λ k x h t.
-            simp (e, reads-plain (style-of (st .command)) in-value x (rw same at t), le-leb (st .len + (k + 1)) line-max (omega arith), v .clean-match (omega arith), v .clean-rest (λ q. omega arith) (λ q. omega arith), v .clean-code (omega arith), add-assoc);
+            simp (e, reads-plain (style-of (st .crlf) (st .command)) in-value x (rw same at t), le-leb (st .len + (k + 1)) line-max (omega arith), v .clean-match (omega arith), v .clean-rest (λ q. omega arith) (λ q. omega arith), v .clean-code (omega arith), add-assoc);
         stays = λ k h. valid-on k (omega arith) (rw e h) (λ e′. absurd (omega arith)) (λ e′. absurd (omega arith));
       }
 
   -- in a name that is not content-length
-  pub glides-name : {y : Style} {t : Stops} → y ≡ style-of (st .command) → t ≡ text-stops y in-name → st .phase ≡ 5 → st .matched ≡ 15 → Glides (plain-in t) 511 st
+  pub glides-name : {y : Style} {t : Stops} → y ≡ style-of (st .crlf) (st .command) → t ≡ text-stops y in-name → st .phase ≡ 5 → st .matched ≡ 15 → Glides (plain-in t) 511 st
   unfolding scan-step on-name
   glides-name same ends e m =
       record {
         passes = λ k x h t.
-            simp (e, m, reads-plain (style-of (st .command)) in-name x (rw (ends, same) at t), le-leb (st .len + (k + 2)) line-max (omega arith), v .clean-rest (λ q. omega arith) (λ q. omega arith), v .clean-code (omega arith), add-assoc);
+            simp (e, m, reads-plain (style-of (st .crlf) (st .command)) in-name x (rw (ends, same) at t), le-leb (st .len + (k + 2)) line-max (omega arith), v .clean-rest (λ q. omega arith) (λ q. omega arith), v .clean-code (omega arith), add-assoc);
         stays = λ k h. valid-on k (omega arith) (rw e h) (λ e′. absurd (omega arith)) (λ e′. absurd (omega arith));
       }
 
@@ -207,29 +211,41 @@ module _ (st : Scan) (v : Valid st) where
 -- the state k octets on, in a character that is read as far as p
 abbrev value-at : Scan → ℕ → Part → Scan
 value-at st k p =
-    record { phase = value-phase p; command = st .command; lines = st .lines; matched = st .matched; sized = st .sized; size = st .size; len = st .len + k; at = st .at + k; code = st .code; rest = part-number p }
+    record {
+      phase = value-phase p;
+      command = st .command;
+      lines = st .lines;
+      matched = st .matched;
+      sized = st .sized;
+      size = st .size;
+      len = st .len + k;
+      at = st .at + k;
+      code = st .code;
+      rest = part-number p;
+      crlf = st .crlf;
+    }
 
 module _ (st : Scan) (v : Valid st) (e : st .phase ≡ 7) where
   leads : (k : ℕ) (p q : Part) (x : ℕ) → st .len + k + 1 + owes q ≤ 512 → on-value-by (value-at st k p) x (into q) ≡ value-at st (k + 1) q
   leads k p q x fits = simp (le-leb (st .len + (k + (1 + owes q))) line-max (omega arith), v .clean-match (omega arith), v .clean-code (omega arith), add-assoc)
 
   -- one octet
-  value-on : (k : ℕ) (p q : Part) (x : ℕ) → text-part (part-number p) ≡ p → reads (style-of (st .command)) in-value p x ≡ into q → st .len + k + 1 + owes q ≤ 512
+  value-on : (k : ℕ) (p q : Part) (x : ℕ) → text-part (part-number p) ≡ p → reads (style-of (st .crlf) (st .command)) in-value p x ≡ into q → st .len + k + 1 + owes q ≤ 512
       → scan-step (value-at st k p) x ≡ value-at st (k + 1) q
   unfolding scan-step on-value
   value-on k fresh q x same h fits = ap (on-value-by (value-at st k fresh) x) h ∙ leads k fresh q x fits
   value-on k back q x same h fits = ap (on-value-by (value-at st k back) x) h ∙ leads k back q x fits
   value-on k (led y) q x same h fits =
-      ap (λ z. on-value-by (value-at st k (led y)) x (reads (style-of (st .command)) in-value z x)) same ∙ ap (on-value-by (value-at st k (led y)) x) h ∙ leads k (led y) q x fits
+      ap (λ z. on-value-by (value-at st k (led y)) x (reads (style-of (st .crlf) (st .command)) in-value z x)) same ∙ ap (on-value-by (value-at st k (led y)) x) h ∙ leads k (led y) q x fits
   value-on k (tails j) q x same h fits =
-      ap (λ z. on-value-by (value-at st k (tails j)) x (reads (style-of (st .command)) in-value z x)) same ∙ ap (on-value-by (value-at st k (tails j)) x) h ∙ leads k (tails j) q x fits
+      ap (λ z. on-value-by (value-at st k (tails j)) x (reads (style-of (st .crlf) (st .command)) in-value z x)) same ∙ ap (on-value-by (value-at st k (tails j)) x) h ∙ leads k (tails j) q x fits
 
   -- a row of them that ends a character
-  value-through : (k : ℕ) (p : Part) (xs ys : List ℕ) → text-part (part-number p) ≡ p → Feeds (style-of (st .command)) in-value p xs fresh → st .len + k + length xs ≤ 512
+  value-through : (k : ℕ) (p : Part) (xs ys : List ℕ) → text-part (part-number p) ≡ p → Feeds (style-of (st .crlf) (st .command)) in-value p xs fresh → st .len + k + length xs ≤ 512
       → scan (value-at st k p) (xs ++ ys) ≡ scan (value-at st (k + length xs) fresh) ys
   value-through k p [] ys same fed fits = ap (λ q. scan (value-at st k q) ys) fed ∙ ap (λ n. scan (value-at st n fresh) ys) (sym (add-zero k))
   value-through k p (x ∷ xs) ys same (q, h, owed, fed) fits =
-      let next : text-part (part-number q) ≡ q = (subst Goes (ap (λ z. reads (style-of (st .command)) in-value z x) same ∙ h) (goes-text (style-of (st .command)) in-value (part-number p) x)) .1 in
+      let next : text-part (part-number q) ≡ q = (subst Goes (ap (λ z. reads (style-of (st .crlf) (st .command)) in-value z x) same ∙ h) (goes-text (style-of (st .crlf) (st .command)) in-value (part-number p) x)) .1 in
       ap (λ z. scan z (xs ++ ys)) (value-on k p q x same h (omega (arith, owed)))
       ∙ value-through (k + 1) q xs ys next fed (omega arith)
       ∙ ap (λ n. scan (value-at st n fresh) ys) (add-assoc k 1 (length xs) ∙ ap (k +_) (one-add (length xs)))
@@ -240,11 +256,11 @@ module _ (st : Scan) (v : Valid st) (e : st .phase ≡ 7) where
   at-first : value-at st 0 fresh ≡ st
   at-first = at-last 0 ∙ skip-zero st
 
-  pub ahead-text : {y : Style} → y ≡ style-of (st .command) → (l : List ℕ) (i k : ℕ) → i + k ≤ length l → st .len + k ≤ 512 → Text y in-value (take k (drop i l)) → Ahead l i st k
+  pub ahead-text : {y : Style} → y ≡ style-of (st .crlf) (st .command) → (l : List ℕ) (i k : ℕ) → i + k ≤ length l → st .len + k ≤ 512 → Text y in-value (take k (drop i l)) → Ahead l i st k
   ahead-text same l i k within fits t =
       let xs : List ℕ = take k (drop i l) in
       let long : length xs ≡ k = length-take-le k (drop i l) (omega (arith, length-drop i l)) in
-      let fed = text-feeds (style-of (st .command)) in-value (subst (λ s. Text s in-value xs) same t) in
+      let fed = text-feeds (style-of (st .crlf) (st .command)) in-value (subst (λ s. Text s in-value xs) same t) in
       record {
         within = within;
         kept = valid-on st v k (omega arith) (rw e (omega arith)) (λ e′. absurd (omega arith)) (λ e′. absurd (omega arith));

@@ -1,4 +1,5 @@
 -- What an accepted encode writes is one item, and decodes to what was written. Assumes nothing.
+use Rattle.frames.proofs.Sound.{alone}
 --     image-tree, image-octets           the parse tree of what is written
 --     Accepted, accepted-checks          what holds where no check fails
 --     Encoded, encoded-call              the same of a call, with its command and its entries
@@ -29,12 +30,13 @@ use Rattle.headers.specs.declared.text.Field.{Field}
 use Rattle.headers.specs.declared.text.Field.the-variants.{Name as in-name, Value as in-value}
 use Rattle.headers.proofs.Rows.{cond-case, and-left, and-right, and-no, and-yes, or-yes, or-false-left, not-empty, cons-some, every-left, every-right, every-append, every-snoc, every-also, any-key}
 use Rattle.headers.proofs.Coding.{decode-encode, encode-decode, encode-text, decode-bare, bare, content-length-bare}
-use Rattle.headers.proofs.Reading.{digits-text, is-text-text}
+use Rattle.headers.proofs.Reading.{table-is, each-half, digits-text, is-text-text}
 use Rattle.headers.proofs.Numerals.{size-least}
 use Rattle.headers.proofs.Decimals.{digit-range, digit-apart, shortest-digits, length-shortest, amount-record, amount-shortest}
 use Rattle.headers.proofs.LaidOut.{entries-block}
 use Rattle.headers.proofs.Settling.{raw-long}
-use Rattle.frames.specs.Grammar.{Version, Command, number, word, style, most, lines-max, body-max, end, Line, lines, LineOk, declared, LengthOk, BodyOk, Head, head, Tree, frame, octets, Shaped, Valid}
+use Rattle.frames.specs.Grammar.{Command, number, word, style, most, lines-max, body-max, end, Line, lines, LineOk, declared, LengthOk, BodyOk, Head, head, Tree, frame, octets, Shaped, Valid}
+use Rattle.frames.specs.declared.version.Version.{Version}
 use Rattle.frames.specs.Open.{entry}
 use Rattle.frames.specs.Replies.{told, Complete}
 use Rattle.frames.specs.Decoding.{line-entries, head-entries, Reading}
@@ -125,7 +127,7 @@ digit-bare : (s : Style) (x : ℕ) → is-digit x ≡ true → bare s x ≡ true
 digit-bare s x h =
     let (lo, hi) = digit-range x h in
     let (lf, cr, colon, slash) = digit-apart x lo hi in
-    simp (lf, cr, colon, slash, and-no)
+    simp (table-is (λ k. k .octet) s x, lf, cr, colon, slash, and-no)
 
 pub decode-digits : (s : Style) (v : List ℕ) → every is-digit v ≡ true → decode s v ≡ v
 decode-digits s v h = decode-bare s v (every-also is-digit (bare s) (digit-bare s) v h)
@@ -148,6 +150,7 @@ raw-length s body =
 length-line-ok : (s : Style) (body : List ℕ) → length body ≤ body-max → LineOk s (length-line body)
 length-line-ok s body h =
     record {
+      ended = λ q. let z : _≡_ {A = ℕ} 0 1 = cc in absurd (omega arith);
       named = cons-some _ _;
       name-text = name-is-text s;
       value-text = digits-text s in-value _ (shortest-digits (length body));
@@ -162,6 +165,7 @@ line-ok s e h =
     let rest = and-right (not (empty (e .name))) _ h in
     let rest₂ = and-right (can-stand s in-name (e .name)) _ rest in
     record {
+      ended = λ q. let z : _≡_ {A = ℕ} 0 1 = cc in absurd (omega arith);
       named = λ q. not-empty (e .name) named (sym (decode-encode s (e .name)) ∙ ap (decode s) q);
       name-text = encode-text s in-name (e .name) (and-left _ _ rest);
       value-text = encode-text s in-value (e .value) (and-left _ _ rest₂);
@@ -247,7 +251,7 @@ module _ (ver : Version) (c : Command) (es : List Entry) (body : List ℕ) (coun
       let ws = written-entries es body counted in
       let is : declared (map (raw-of s) ws) ≡ Option·map (encode s) (first-length ws) = sym (declared-named s (map (raw-of s) ws) image-lines) ∙ declared-raw s ws in
       let (len, fits) = sized-ok s (most c) body (first-length ws) (ok .body-fits) (written-sized es body counted (ok .says)) in
-      (record { each = image-lines; few = omega (arith, length-map ws (raw-of s), ok .few); len = rw is len }, rw is fits)
+      (record { ended = alone ver; each = image-lines; few = omega (arith, length-map ws (raw-of s), ok .few); len = rw is len }, rw is fits, alone ver)
 
   pub image-valid : every is-octet (frame-image ver c es body counted) ≡ true → Valid ver (image-tree ver c es body counted)
   image-valid o = (image-shaped, rw (image-octets ver c es body counted) o)
@@ -256,7 +260,8 @@ module _ (ver : Version) (c : Command) (es : List Entry) (body : List ℕ) (coun
 
 letter-small : (s : Style) (x : ℕ) → escaped s x ≡ true → is-octet (letter-of s x) ≡ true
 letter-small s x h =
-    any-key (λ e. e .octet) (λ y. is-octet (letter-of s y) ≡ true) x (escape-table s) (refl, (refl, (refl, (refl, tt)))) (and-right (s .escapes) _ h)
+    each-half (λ k. k .octet) (λ s y. is-octet (letter-of s y) ≡ true)
+    (λ e. (refl, (refl, (refl, (refl, tt))))) (λ e. (refl, (refl, (refl, tt)))) s x (and-right (s .escapes) _ h)
 
 encode-small : (s : Style) (xs : List ℕ) → every is-octet xs ≡ true → every is-octet (encode s xs) ≡ true
 unfolding encode

@@ -1,9 +1,9 @@
 -- What C keeps reads back: the record in its octets, and the answer in its number. Assumes nothing.
 --     record-back    the octets of a record that calls from a fresh parser leave
---     zeros-fresh, record-follows    so the octets that C keeps are the parser
+--     zeros-fresh, record-follows, told-follows    so the octets that C keeps are the parser
 --     answer-back, stopped-back, own-back    the number of an answer that such a parser gives: a reply, a repeated refusal, 70 and 71
 use mathlib.Core.Path.{_≡_, refl, sym, _∙_, subst}
-use mathlib.Core.Bool.{Bool, true, false, cond, _&&_, _||_}
+use mathlib.Core.Bool.{Bool, true, false, cond, _&&_, _||_, not}
 use mathlib.Core.List.{List, _++_}
 use Prim.Native.Nat.{ℕ, _+_, _-_, _*_, _/_, _%_, _<_, _≤_}
 use native.Mathlib.Omega.{arith}
@@ -13,13 +13,14 @@ use borrow.Author.Tests.{leb-true, ltb-true, ltb-false, lt-ltb}
 use Rattle.headers.specs.Rows.{every, is-octet}
 use Rattle.headers.proofs.Rows.{and-right}
 use Rattle.frames.specs.declared.state.Scan.{Scan}
-use Rattle.frames.specs.Grammar.{Version, number, end, head, Tree, heart-beat, frame, octets, Shaped}
+use Rattle.frames.specs.Grammar.{number, end, head, Tree, heart-beat, frame, octets, Shaped}
+use Rattle.frames.specs.declared.version.Version.{Version}
 use Rattle.frames.specs.Replies.{Reply, Complete, Incomplete, Invalid, told}
 use Rattle.frames.specs.Scanning.{nothing-read, scan, scan-reply}
 use Rattle.frames.specs.Validity.{is-valid}
 use Rattle.frames.specs.Exactness.{Exact, Claims}
-use Rattle.frames.specs.Streams.{replied, reach, refused, is-number, is-resumable, feed-answer, feed-state}
-use Rattle.frames.specs.Records.{mark, record-of, is-record, read-record, record-left, packed-taken, packed-feed, unpacked-feed}
+use Rattle.frames.specs.Streams.{replied, reach, refused, is-number, fits-version, is-resumable, feed-answer, feed-state, is-taken, tell-state}
+use Rattle.frames.specs.Records.{mark, record-of, is-record, read-record, record-left, told-record, packed-taken, packed-feed, unpacked-feed}
 use Rattle.frames.specs.Parsing.{parsed}
 use Rattle.frames.specs.Refusals.{Reason, numbered, no-command, no-10, not-utf8, wrong-escape, nameless, second-colon, no-colon, long-line, many-lines, bad-length, past-body}
 use Rattle.frames.proofs.Commands.{number-small}
@@ -28,7 +29,8 @@ use Rattle.frames.proofs.Exact.{exact}
 use Rattle.frames.proofs.Feeding.{Stands, within, fed-answer, so-far-octets}
 use Rattle.frames.proofs.Bounds.{bounded}
 use Rattle.frames.proofs.Resuming.{resumed, number-range, gives-short, gives-invalid}
-use Rattle.frames.proofs.Repeating.{Stopped, repeats, Left, left-call, left-resumable, left-few}
+use Rattle.frames.proofs.Repeating.{Stopped, repeats, Left, left-call, left-told, left-resumable, left-few}
+use Rattle.frames.proofs.Telling.{not-taken}
 
 -- ---- the record
 
@@ -47,7 +49,7 @@ unfolding read-record is-record record-of
 back st f =
     let two : (n : ℕ) → n < 65536 → n / 256 % 256 * 256 + n % 256 ≡ n = λ n h. omega arith in
     let one : (n : ℕ) → n < 256 → n % 256 ≡ n = λ n h. omega arith in
-    rw (marked (st .sized)) (rw (one (st .command) (f .command-fits), one (st .lines) (f .lines-fit), one (st .matched) (f .matched-fits), one (st .code) (f .code-fits), two (st .size) (f .size-fits), two (st .len) (f .len-fits), two (st .at) (f .at-fits), set (st .sized)) refl)
+    rw (marked (st .sized), marked (not (st .crlf))) (rw (one (st .command) (f .command-fits), one (st .lines) (f .lines-fit), one (st .matched) (f .matched-fits), one (st .code) (f .code-fits), two (st .size) (f .size-fits), two (st .len) (f .len-fits), two (st .at) (f .at-fits), set (st .sized), unset (st .crlf)) refl)
   where
     marked : (b : Bool) → leb (mark b) 1 ≡ true
     marked true = refl
@@ -57,10 +59,14 @@ back st f =
     set true = refl
     set false = refl
 
+    unset : (b : Bool) → eqb (mark (not b)) 0 ≡ b
+    unset true = refl
+    unset false = refl
+
 -- the number of a valid record
 code-small : (st : Scan) → is-resumable st ≡ true → st .code < 70
 unfolding is-resumable
-code-small st h = by (ltb (st .phase) 14) refl (and-right (leb (st .at) 49227) _ (and-right (is-valid st) _ h))
+code-small st h = by (ltb (st .phase) 14) refl (and-right (fits-version st) _ (and-right (leb (st .at) 49227) _ (and-right (is-valid st) _ h)))
   where
     by : (t : Bool) → ltb (st .phase) 14 ≡ t → t || (eqb (st .phase) 16 && is-number (st .code)) ≡ true → st .code < 70
     by true e k = omega (arith, resumed st h .0 .clean-code (omega (arith, ltb-true (st .phase) 14 e)))
@@ -155,26 +161,36 @@ module _ (ver : Version) where
   pub own-back : (unpacked-feed (packed-feed (refused 70)) ≡ refused 70) × (unpacked-feed (packed-feed (refused 71)) ≡ refused 71)
   own-back = (refl, refl)
 
-  pub record-back : {st : Scan} → Left ver st → read-record (record-of st) ≡ st
-  record-back {st} l =
-      let r = left-resumable ver l in
-      let (v, few) = resumed st r in
-      let b = bounded st v in
-      let (m, c) = left-few ver l in
-      back st (record { command-fits = omega arith; lines-fit = omega arith; matched-fits = omega arith; code-fits = omega (arith, code-small st r); size-fits = omega arith; len-fits = omega arith; at-fits = omega arith })
+pub record-back : {st : Scan} → Left st → read-record (record-of st) ≡ st
+record-back {st} l =
+    let r = left-resumable l in
+    let (v, few) = resumed st r in
+    let b = bounded st v in
+    let (m, c) = left-few l in
+    back st (record { command-fits = omega arith; lines-fit = omega arith; matched-fits = omega arith; code-fits = omega (arith, code-small st r); size-fits = omega arith; len-fits = omega arith; at-fits = omega arith })
 
-  -- sixteen octets 0 are a fresh parser, and the octets handed back as they were left are the parser that was left
-  pub zeros-fresh : read-record (replicate 16 0) ≡ nothing-read
-  unfolding read-record is-record
-  zeros-fresh = refl
+-- sixteen octets 0 are a fresh parser, and the octets handed back as they were left are the parser that was left
+pub zeros-fresh : read-record (replicate 16 0) ≡ nothing-read true
+unfolding read-record is-record
+zeros-fresh = refl
 
-  pub record-follows : {st : Scan} → Left ver st → (octets-kept buffer piece : List ℕ) → every is-octet piece ≡ true → read-record octets-kept ≡ st
-      → read-record (record-left (feed-answer st buffer piece) (feed-state st buffer piece) octets-kept) ≡ feed-state st buffer piece
-  unfolding feed-answer
-  record-follows {st} l kept buffer piece o e = by (ltb (length buffer) 49228) refl (is-resumable st) refl
-    where
-      by : (t : Bool) → ltb (length buffer) 49228 ≡ t → (u : Bool) → is-resumable st ≡ u
-          → read-record (record-left (cond (ltb (length buffer) 49228) (refused 70) (cond (is-resumable st) (replied (scan-reply (scan st piece)) (scan st piece .at - st .at)) (refused 71))) (feed-state st buffer piece) kept) ≡ feed-state st buffer piece
-      by true p u q = rw p (e ∙ gives-short st buffer piece (ltb-true (length buffer) 49228 p) .1)
-      by false p false q = rw (p, q) (e ∙ gives-invalid st buffer piece (ltb-false (length buffer) 49228 p) q .1)
-      by false p true q = rw (p, q) (record-back (left-call l buffer piece o))
+pub record-follows : {st : Scan} → Left st → (octets-kept buffer piece : List ℕ) → every is-octet piece ≡ true → read-record octets-kept ≡ st
+    → read-record (record-left (feed-answer st buffer piece) (feed-state st buffer piece) octets-kept) ≡ feed-state st buffer piece
+unfolding feed-answer
+record-follows {st} l kept buffer piece o e = by (ltb (length buffer) 49228) refl (is-resumable st) refl
+  where
+    by : (t : Bool) → ltb (length buffer) 49228 ≡ t → (u : Bool) → is-resumable st ≡ u
+        → read-record (record-left (cond (ltb (length buffer) 49228) (refused 70) (cond (is-resumable st) (replied (scan-reply (scan st piece)) (scan st piece .at - st .at)) (refused 71))) (feed-state st buffer piece) kept) ≡ feed-state st buffer piece
+    by true p u q = rw p (e ∙ gives-short st buffer piece (ltb-true (length buffer) 49228 p) .1)
+    by false p false q = rw (p, q) (e ∙ gives-invalid st buffer piece (ltb-false (length buffer) 49228 p) q .1)
+    by false p true q = rw (p, q) (record-back (left-call l buffer piece o))
+
+-- the same where a version is told
+pub told-follows : {st : Scan} → Left st → (octets-kept : List ℕ) (ver : Version) → read-record octets-kept ≡ st
+    → read-record (told-record ver octets-kept) ≡ tell-state ver st
+unfolding told-record
+told-follows {st} l kept ver e = rw e (by (is-taken st) refl)
+  where
+    by : (t : Bool) → is-taken st ≡ t → read-record (cond t (record-of (tell-state ver st)) kept) ≡ tell-state ver st
+    by true h = record-back (left-told l ver)
+    by false h = e ∙ sym (not-taken ver st h)

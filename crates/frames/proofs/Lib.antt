@@ -10,6 +10,7 @@ pub mod Refusals
 pub mod Reach
 pub mod Table
 pub mod Colons
+pub mod Endings
 pub mod Exact
 pub mod Examples
 pub mod Scanning
@@ -41,6 +42,7 @@ pub mod Putting
 pub mod Packed
 pub mod Counting
 pub mod Feeding
+pub mod Telling
 pub mod Agreement
 pub mod Repeating
 pub mod Resuming

@@ -61,14 +61,19 @@ module _ {s : List ℕ} {i : ℕ} {st : Scan} where
 -- ---- What an octet of a word or a length does
 
 -- the letters of content-length, and digits, stand for themselves
-letter-plain : (b : Bool) (m : ℕ) → m < 14 → plain-in (record { cr = 13; colon = 58; back = cond b 92 10; top = 127 }) (getD content-length m 0) ≡ true
-letter-plain true m h = upto-at (λ n. plain-in (record { cr = 13; colon = 58; back = 92; top = 127 }) (getD content-length n 0)) 14 m refl h
-letter-plain false m h = upto-at (λ n. plain-in (record { cr = 13; colon = 58; back = 10; top = 127 }) (getD content-length n 0)) 14 m refl h
+letter-plain : (w b : Bool) (m : ℕ) → m < 14 → plain-in (record { cr = cond w 13 10; colon = 58; back = cond b 92 10; top = 127 }) (getD content-length m 0) ≡ true
+letter-plain true true m h = upto-at (λ n. plain-in (record { cr = 13; colon = 58; back = 92; top = 127 }) (getD content-length n 0)) 14 m refl h
+letter-plain true false m h = upto-at (λ n. plain-in (record { cr = 13; colon = 58; back = 10; top = 127 }) (getD content-length n 0)) 14 m refl h
+letter-plain false true m h = upto-at (λ n. plain-in (record { cr = 10; colon = 58; back = 92; top = 127 }) (getD content-length n 0)) 14 m refl h
+letter-plain false false m h = upto-at (λ n. plain-in (record { cr = 10; colon = 58; back = 10; top = 127 }) (getD content-length n 0)) 14 m refl h
 
-digit-plain : (c b : Bool) (x : ℕ) → 48 ≤ x → x ≤ 57 → plain-in (record { cr = 13; colon = cond c 58 10; back = cond b 92 10; top = 127 }) x ≡ true
-digit-plain c b x h l =
+digit-plain : (w c b : Bool) (x : ℕ) → 48 ≤ x → x ≤ 57 → plain-in (record { cr = cond w 13 10; colon = cond c 58 10; back = cond b 92 10; top = 127 }) x ≡ true
+digit-plain w c b x h l =
     let (lf, cr, colon, slash) = digit-apart x h l in
-    simp (lf, cr, cond-case (λ z. eqb x z ≡ false) c (λ t. colon) (λ t. lf), cond-case (λ z. eqb x z ≡ false) b (λ t. slash) (λ t. lf), le-leb x 127 (omega arith))
+    simp (lf, either w 13 lf cr, either c 58 lf colon, either b 92 lf slash, le-leb x 127 (omega arith))
+  where
+    either : (t : Bool) (k : ℕ) → eqb x 10 ≡ false → eqb x k ≡ false → eqb x (cond t k 10) ≡ false
+    either t k lf h = cond-case (λ z. eqb x z ≡ false) t (λ u. h) (λ u. lf)
 
 module _ (st : Scan) (x : ℕ) where
   -- a letter of a command
@@ -80,16 +85,16 @@ module _ (st : Scan) (x : ℕ) where
   pub name-on : st .phase ≡ 5 → st .matched < 14 → st .len < 511 → x ≡ getD content-length (st .matched) 0 → scan-step st x ≡ in-line st 5 (st .matched + 1) (st .size) (st .len + 1)
   unfolding scan-step on-name
   name-on e m h same =
-      let y = style-of (st .command) in
-      let t : plain-in (text-stops y in-name) x ≡ true = rw same (letter-plain (y .escapes) (st .matched) m) in
+      let y = style-of (st .crlf) (st .command) in
+      let t : plain-in (text-stops y in-name) x ≡ true = rw same (letter-plain (y .crlf) (y .escapes) (st .matched) m) in
       simp (e, reads-plain y in-name x t, room-name 0 511 (st .len) refl, lt-ltb (st .len) 511 h, lt-ltb (st .matched) 14 m, eq-eqb x _ same)
 
   -- a digit of its value
   pub digit-on : st .phase ≡ 9 → st .len < 512 → 48 ≤ x → x ≤ 57 → st .size * 10 + (x - 48) ≤ most-of (st .command) → scan-step st x ≡ in-line st 9 0 (st .size * 10 + (x - 48)) (st .len + 1)
   unfolding scan-step on-length
   digit-on e h l u m =
-      let y = style-of (st .command) in
-      simp (e, reads-plain y in-value x (digit-plain (y .escapes) (y .escapes) x l u), room 0 512 (st .len) refl, lt-ltb (st .len) 512 h, le-leb 48 x l, le-leb x 57 u, le-leb (st .size * 10 + (x - 48)) (most-of (st .command)) m)
+      let y = style-of (st .crlf) (st .command) in
+      simp (e, reads-plain y in-value x (digit-plain (y .crlf) (y .escapes) (y .escapes) x l u), room 0 512 (st .len) refl, lt-ltb (st .len) 512 h, le-leb 48 x l, le-leb x 57 u, le-leb (st .size * 10 + (x - 48)) (most-of (st .command)) m)
 
 -- octets at the front of a row that lie ahead: the state after them, and the rest from there
 pub front-on : (s : List ℕ) (st next : Scan) (k : ℕ) → Ahead s 0 st k → next ≡ skip k st → (k ≤ length s) × Valid next × (scan next (drop k s) ≡ scan st s)

@@ -1,6 +1,6 @@
 -- What a call for C relies on: a record that is resumed has 16 octets, and the answer fits one number. Assumes nothing.
-use mathlib.Core.Path.{_≡_, refl, sym, _∙_, ap, subst}
-use mathlib.Core.Bool.{Bool, true, false, cond}
+use mathlib.Core.Path.{_≡_, refl, sym, _∙_, ap, ap₂, subst}
+use mathlib.Core.Bool.{Bool, true, false, cond, not}
 use mathlib.Core.List.{List, [], _∷_, _++_, append-nil}
 use Prim.Native.Nat.{ℕ, _+_, _-_, _/_, _%_, _≤_}
 use native.Mathlib.Omega.{arith}
@@ -15,7 +15,7 @@ use Rattle.frames.specs.declared.state.Scan.{Scan}
 use Rattle.frames.specs.Replies.{Reply}
 use Rattle.frames.specs.Scanning.{Valid, scan, scan-reply}
 use Rattle.frames.specs.Validity.{is-valid}
-use Rattle.frames.specs.Streams.{replied, refused, is-resumable, feed-answer}
+use Rattle.frames.specs.Streams.{replied, refused, is-resumable, feed-answer, is-taken}
 use Rattle.frames.specs.Records.{mark, record-of, is-record, fields, no-record, read-record, Packable}
 use Rattle.frames.proofs.Bounds.{bounded}
 use Rattle.frames.proofs.Checks.{run-passes, valid-decides}
@@ -70,12 +70,19 @@ pasted d s n e f =
     ap (λ z. (([] ++ take n s) ++ z)) none ∙ append-nil (take n s) ∙ take-all n s (omega arith)
 
 -- the octets of a record, copied
-abbrev pub row : Scan → ℕ → List ℕ
-row st m =
+abbrev pub row : Scan → ℕ → ℕ → List ℕ
+row st m v =
     st .phase ∷ st .command % 256 ∷ st .lines % 256 ∷ st .matched % 256 ∷ m ∷ st .code % 256
     ∷ st .size / 256 % 256 ∷ st .size % 256 ∷ st .len / 256 % 256 ∷ st .len % 256 ∷ st .at / 256 % 256 ∷ st .at % 256
-    ∷ 0 ∷ 0 ∷ st .rest ∷ 0 ∷ []
+    ∷ v ∷ 0 ∷ st .rest ∷ 0 ∷ []
 
-pub laid : (d : List ℕ) (st : Scan) (m : ℕ) (xs : List ℕ) → length d ≡ 16 → m ≡ mark (st .sized) → xs ≡ copied d 0 (row st m) → xs ≡ record-of st
+pub laid : (d : List ℕ) (st : Scan) (m v : ℕ) (xs : List ℕ) → length d ≡ 16 → m ≡ mark (st .sized) → v ≡ mark (not (st .crlf))
+    → xs ≡ copied d 0 (row st m v) → xs ≡ record-of st
 unfolding record-of
-laid d st m xs e f h = h ∙ copied-all d 0 (row st m) (le-leb (0 + 16) (length d) (omega arith)) ∙ pasted d (row st m) 16 e refl ∙ ap (row st) f
+laid d st m v xs e f g h =
+    h ∙ copied-all d 0 (row st m v) (le-leb (0 + 16) (length d) (omega arith)) ∙ pasted d (row st m v) 16 e refl ∙ ap₂ (row st) f g
+
+-- a record that is told a version is one
+pub taken-long : (xs : List ℕ) → is-taken (read-record xs) ≡ true → length xs ≡ 16
+unfolding is-taken
+taken-long xs h = known-record xs (and-left (is-resumable (read-record xs)) _ h)

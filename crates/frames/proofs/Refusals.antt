@@ -10,7 +10,7 @@ use lib.ListN.{length}
 use lib.Dec.{eqb, leb, ltb}
 use borrow.Author.Tests.{eqb-true, leb-true, leb-false, ltb-true, ltb-false, le-leb, lt-leb, lt-ltb, le-ltb}
 use Rattle.headers.specs.Rows.{same, every, any, begins, empty}
-use Rattle.headers.proofs.Rows.{cond-case, and-left, and-no, and-yes, or-yes, every-last, empty-not, or-false-left, or-false-right}
+use Rattle.headers.proofs.Rows.{cond-case, and-left, and-right, and-no, and-yes, or-yes, every-last, empty-not, or-false-left, or-false-right}
 use Rattle.headers.specs.Text.{divides, Part, fresh, owes, Into, into, bad, stop, reads, of-utf8, of-escape, fault, owing}
 use Rattle.headers.specs.declared.text.Style.{Style}
 use Rattle.headers.specs.declared.text.Field.the-variants.{Name as in-name, Value as in-value}
@@ -18,7 +18,8 @@ use Rattle.headers.specs.Numbers.{is-digit, decimal}
 use Rattle.headers.proofs.Reading.{Says, reads-says, owes-few}
 use Rattle.headers.specs.Lines.{line-max}
 use Rattle.frames.specs.Machine.{Next, go, done, refuse}
-use Rattle.frames.specs.Grammar.{Version, Command, number, word, style, most, Head, Tree, heart-beat, frame, lines-max, declared, LengthOk, HeadOk}
+use Rattle.frames.specs.Grammar.{crlf, Command, number, word, style, most, Head, Tree, heart-beat, frame, lines-max, declared, LengthOk, HeadOk}
+use Rattle.frames.specs.declared.version.Version.{Version}
 use Rattle.frames.specs.Parsing.{first, word-end, word-next, at-word, at-start, name-next, at-name, at-begin, one-more, value-next, at-value, body-next, step}
 use Rattle.frames.specs.Parsing as P
 use Rattle.frames.specs.Refusals.{Reason, no-command, no-10, not-utf8, long-line, many-lines, bad-length, past-body, some-command, ends, spoils, used-up, fits, number-of, refusal}
@@ -31,9 +32,9 @@ refuses (done r) = none
 refuses (refuse k) = some k
 
 -- Commands
-or-either : (b s t : Bool) → s || t ≡ true → (b || s) || (b || t) ≡ true
-or-either true s t h = refl
-or-either false s t h = h
+or-either : (b s t u : Bool) → s || (t && u) ≡ true → (b || s) || ((b || t) && u) ≡ true
+or-either true s t u h = refl
+or-either false s t u h = h
 
 begins-some : (xs : List ℕ) (x : ℕ) → begins (xs ++ (x ∷ [])) [] ≡ false
 begins-some [] x = refl
@@ -76,36 +77,43 @@ none-any f₁ f₂ g (d ∷ cs) h e₁ e₂ = by (f₁ (word d)) (f₂ (word d))
     by false true k l a b ih = let z : _≡_ {A = ℕ} 0 1 = cc in absurd (omega arith)
     by false false k l a b ih = rw (h d k l) (ih a b)
 
-word-refuses : (raw : List ℕ) (x : ℕ) → refuses (at-word raw x) ≡ cond (some-command (raw ++ (x ∷ []))) none (some 1)
+word-refuses : (ver : Version) (raw : List ℕ) (x : ℕ) → refuses (at-word ver raw x) ≡ cond (some-command (crlf ver) (raw ++ (x ∷ []))) none (some 1)
 unfolding at-word some-command
-word-refuses raw x = longer (first (begins (raw ++ (x ∷ []))) all) refl
+word-refuses ver raw x = longer (first (begins (raw ++ (x ∷ []))) all) refl
   where
+    w : Bool
+    w = crlf ver
+
     g : Command → Bool
-    g c = begins (raw ++ (x ∷ [])) (word c ++ (10 ∷ [])) || begins (raw ++ (x ∷ [])) (word c ++ (13 ∷ []))
+    g c = begins (raw ++ (x ∷ [])) (word c ++ (10 ∷ [])) || (begins (raw ++ (x ∷ [])) (word c ++ (13 ∷ [])) && w)
 
     long : (d : Command) → begins (raw ++ (x ∷ [])) (word d) ≡ true → g d ≡ true
     long d k = simp (begins-snoc, k)
 
-    whole : ends x ≡ true → (d : Command) → same raw (word d) ≡ true → g d ≡ true
-    whole k d l = simp (begins-snoc, l) (or-either (begins (raw ++ (x ∷ [])) (word d)) (eqb x 10) (eqb x 13) k)
+    whole : ends w x ≡ true → (d : Command) → same raw (word d) ≡ true → g d ≡ true
+    whole k d l = simp (begins-snoc, l) (or-either (begins (raw ++ (x ∷ [])) (word d)) (eqb x 10) (eqb x 13) w k)
 
     neither : (d : Command) → begins (raw ++ (x ∷ [])) (word d) ≡ false → same raw (word d) ≡ false → g d ≡ false
     neither d k l = simp (begins-snoc, k, l)
 
-    on : eqb x 10 ≡ false → eqb x 13 ≡ false → (d : Command) → begins (raw ++ (x ∷ [])) (word d) ≡ false → begins (raw ++ (x ∷ [])) (word d) ≡ false → g d ≡ false
-    on a b d k l = simp (begins-snoc, k, a, b, and-no)
+    on : eqb x 10 ≡ false → eqb x 13 && w ≡ false → (d : Command) → begins (raw ++ (x ∷ [])) (word d) ≡ false → begins (raw ++ (x ∷ [])) (word d) ≡ false → g d ≡ false
+    on a b d k l = simp (begins-snoc, k, a) (neither-13 (same raw (word d)) (eqb x 13) w b)
+      where
+        neither-13 : (s t u : Bool) → t && u ≡ false → (s && false) || ((s && t) && u) ≡ false
+        neither-13 true t u h = h
+        neither-13 false t u h = refl
 
     R : Next Open Tree → Type 0
     R n = refuses n ≡ cond (any g all) none (some 1)
 
-    ended : (o : Option Command) → first (begins (raw ++ (x ∷ []))) all ≡ none → first (same raw) all ≡ o → R (word-end o x)
+    ended : (o : Option Command) → first (begins (raw ++ (x ∷ []))) all ≡ none → first (same raw) all ≡ o → R (word-end ver o x)
     ended none e k = rw (none-any (begins (raw ++ (x ∷ []))) (same raw) g all neither e k)
     ended (some c) e k =
         cond-case R (eqb x 10) (λ t. rw (first-any (same raw) g all c (whole (rw t)) k))
-        (λ f. cond-case R (eqb x 13) (λ t. rw (first-any (same raw) g all c (whole (rw (f, t))) k))
+        (λ f. cond-case R (eqb x 13 && w) (λ t. rw (first-any (same raw) g all c (whole (rw (f, t))) k))
         (λ f′. rw (none-any (begins (raw ++ (x ∷ []))) (begins (raw ++ (x ∷ []))) g all (on f f′) e e)))
 
-    longer : (o : Option Command) → first (begins (raw ++ (x ∷ []))) all ≡ o → R (word-next o raw x)
+    longer : (o : Option Command) → first (begins (raw ++ (x ∷ []))) all ≡ o → R (word-next ver o raw x)
     longer none e = ended (first (same raw) all) e refl
     longer (some c) e = rw (first-any (begins (raw ++ (x ∷ []))) g all c long e)
 
@@ -150,9 +158,9 @@ row-6-on : (w : Bool) (s : Open) → refuses (cond w (refuse 6) (go s)) ≡ numb
 row-6-on true s = refl
 row-6-on false s = refl
 
-spoiled : (w : Bool) (m : ℕ) (raw : List ℕ) (x : ℕ) → ends x ≡ false → (w ≡ true → partial-amount m raw ≡ true) → w && not (partial-amount m (raw ++ (x ∷ []))) ≡ w && spoils m raw x
-spoiled false m raw x e h = refl
-spoiled true m raw x e h =
+spoiled : (cr w : Bool) (m : ℕ) (raw : List ℕ) (x : ℕ) → ends cr x ≡ false → (w ≡ true → partial-amount m raw ≡ true) → w && not (partial-amount m (raw ++ (x ∷ []))) ≡ w && spoils cr m raw x
+spoiled cr false m raw x e h = refl
+spoiled cr true m raw x e h =
     rw (every-last is-digit raw x (and-left (every is-digit raw) (leb (decimal 0 raw) m) (h refl)), e)
     (by (is-digit x) (leb (decimal 0 (raw ++ (x ∷ []))) m) (ltb m (decimal 0 (raw ++ (x ∷ [])))) (ltb-leb m (decimal 0 (raw ++ (x ∷ [])))))
   where
@@ -198,16 +206,16 @@ module _ (ver : Version) where
   abbrev Told : Open → ℕ → Next Open Tree → Type 0
   Told s x n = refuses n ≡ refusal ver s x
 
-  told-start : (x : ℕ) → Told start x (at-start x)
+  told-start : (x : ℕ) → Told start x (at-start ver x)
   unfolding at-start refusal fits
   told-start x =
       cond-case (Told start x) (eqb x 10) (λ t. simp (t, and-no))
-      (λ f. cond-case (Told start x) (eqb x 13) (λ t. simp (f, t, and-no))
-      (λ g. word-refuses [] x ∙ simp (f, g) (row-1 (some-command (x ∷ [])))))
+      (λ f. cond-case (Told start x) (eqb x 13 && crlf ver) (λ t. simp (f, t, and-no))
+      (λ g. word-refuses ver [] x ∙ simp (f, g) (row-1 (some-command (crlf ver) (x ∷ [])))))
 
-  told-word : (raw : List ℕ) (x : ℕ) → raw ≢ [] → Told (command raw) x (at-word raw x)
+  told-word : (raw : List ℕ) (x : ℕ) → raw ≢ [] → Told (command raw) x (at-word ver raw x)
   unfolding refusal fits
-  told-word raw x ne = word-refuses raw x ∙ rw (empty-not raw ne) (row-1 (some-command (raw ++ (x ∷ []))))
+  told-word raw x ne = word-refuses ver raw x ∙ rw (empty-not raw ne) (row-1 (some-command (crlf ver) (raw ++ (x ∷ []))))
 
   told-name : (h : Head) (raw : List ℕ) (p : Part) (x : ℕ) → NameOk ver h raw p → Told (name h raw p) x (at-name ver h raw p x)
   unfolding at-name refusal fits
@@ -216,29 +224,29 @@ module _ (ver : Version) where
       em : empty raw ≡ false
       em = empty-not raw (ok .named)
 
-      ended : (a b c : Bool) → eqb x 10 ≡ a → eqb x 13 ≡ b → eqb x 58 ≡ c → Says (style ver (h .command)) in-name p x stop → Told (name h raw p) x (name-next h raw x stop)
+      ended : (a b c : Bool) → eqb x 10 ≡ a → eqb x 13 && crlf ver ≡ b → eqb x 58 ≡ c → Says (style ver (h .command)) in-name p x stop → Told (name h raw p) x (name-next h raw x stop)
       ended true b c e f g ((nu, nf), ow, st) = let k : eqb x 58 ≡ false = rw (eqb-true x 10 e) in simp (nu, nf, k, e, em)
-      ended false true c e f g ((nu, nf), ow, st) = let k : eqb x 58 ≡ false = rw (eqb-true x 13 f) in simp (nu, nf, k, e, f, em)
+      ended false true c e f g ((nu, nf), ow, st) = let k : eqb x 58 ≡ false = rw (eqb-true x 13 (and-left (eqb x 13) (crlf ver) f)) in simp (nu, nf, k, e, f, em)
       ended false false true e f g ((nu, nf), ow, st) = simp (nu, nf, e, f, g, em, ow, le-ltb line-max (length raw + 0 + 1 + 0) (omega (arith, ok .fits)))
-      ended false false false e f g (nf, ow, st) = absurd (no-stop (eqb x 10) (eqb x 13) (eqb x 58 && true) e f (rw g) st)
+      ended false false false e f g (nf, ow, st) = absurd (no-stop (eqb x 10) (eqb x 13 && crlf ver) (eqb x 58 && true) e f (rw g) st)
 
       by : (i : Into) → Says (style ver (h .command)) in-name p x i → Told (name h raw p) x (name-next h raw x i)
       by (into q) ((nu, nf), ow, ns) =
-          let (e, f, k) = no-stops (eqb x 10) (eqb x 13) (eqb x 58 && true) ns in
+          let (e, f, k) = no-stops (eqb x 10) (eqb x 13 && crlf ver) (eqb x 58 && true) ns in
           let g : eqb x 58 ≡ false = sym (and-yes (eqb x 58)) ∙ k in
           simp (nu, nf, e, f, g, em, ow) (row-4 (length raw + 1 + owes q + 1) (length raw + 0 + 1 + (1 + owes q)) (omega arith) (go (name h (raw ++ (x ∷ [])) q)) none refl)
       by (bad of-utf8) u = rw u
       by (bad of-escape) (nu, u) = rw (nu, u)
-      by stop u = ended (eqb x 10) (eqb x 13) (eqb x 58) refl refl refl u
+      by stop u = ended (eqb x 10) (eqb x 13 && crlf ver) (eqb x 58) refl refl refl u
 
   told-begin : (h : Head) (x : ℕ) → Told (begin h) x (at-begin ver h x)
   unfolding at-begin at-name refusal fits
-  told-begin h x = by (eqb x 10) (eqb x 13) (eqb x 58) refl refl refl
+  told-begin h x = by (eqb x 10) (eqb x 13 && crlf ver) (eqb x 58) refl refl refl
     where
       y : Style
       y = style ver (h .command)
 
-      on : (i : Into) (u : Bool) → reads y in-name fresh x ≡ i → Says y in-name fresh x i → eqb x 10 ≡ false → eqb x 13 ≡ false → eqb x 58 ≡ false → leb lines-max (length (h .entries)) ≡ not u
+      on : (i : Into) (u : Bool) → reads y in-name fresh x ≡ i → Says y in-name fresh x i → eqb x 10 ≡ false → eqb x 13 && crlf ver ≡ false → eqb x 58 ≡ false → leb lines-max (length (h .entries)) ≡ not u
           → refuses (cond u (name-next h [] x i) (one-more i))
           ≡ number-of (cond (fault y in-name fresh x of-utf8) (some not-utf8) (cond (ltb line-max (1 + (1 + owing y in-name fresh x))) (some long-line) (cond (leb lines-max (length (h .entries))) (some many-lines) none)))
       on (into q) true r ((nu, nf), ow, ns) e f g k = rw (nu, ow, k) (row-4 (0 + 1 + owes q + 1) (1 + (1 + owes q)) (omega arith) (go (name h (x ∷ []) q)) none refl)
@@ -246,11 +254,11 @@ module _ (ver : Version) where
       on (bad of-utf8) true r w e f g k = rw w
       on (bad of-utf8) false r w e f g k = rw w
       on (bad of-escape) u r (nu, w) e f g k = let z : _≡_ {A = ℕ} 0 1 = cc in absurd (omega arith)
-      on stop u r (nf, ow, st) e f g k = absurd (no-stop (eqb x 10) (eqb x 13) (eqb x 58 && true) e f (rw g) st)
+      on stop u r (nf, ow, st) e f g k = absurd (no-stop (eqb x 10) (eqb x 13 && crlf ver) (eqb x 58 && true) e f (rw g) st)
 
-      by : (a b c : Bool) → eqb x 10 ≡ a → eqb x 13 ≡ b → eqb x 58 ≡ c → Told (begin h) x (at-begin ver h x)
+      by : (a b c : Bool) → eqb x 10 ≡ a → eqb x 13 && crlf ver ≡ b → eqb x 58 ≡ c → Told (begin h) x (at-begin ver h x)
       by true b c e f g = rw (eqb-true x 10 e)
-      by false true c e f g = rw (eqb-true x 13 f)
+      by false true c e f g = simp (eqb-true x 13 (and-left (eqb x 13) (crlf ver) f), and-right (eqb x 13) (crlf ver) f)
       by false false true e f g = rw (eqb-true x 58 g)
       by false false false e f g =
           simp (e, f, g)
@@ -260,31 +268,31 @@ module _ (ver : Version) where
   unfolding at-value refusal fits
   told-value h n raw p x ok = by (reads (style ver (h .command)) in-value p x) (reads-says (style ver (h .command)) in-value p x)
     where
-      w : ends x ≡ false → watched h n && not (partial-amount (most (h .command)) (raw ++ (x ∷ []))) ≡ watched h n && spoils (most (h .command)) raw x
-      w e = spoiled (watched h n) (most (h .command)) raw x e (ok .len)
+      w : ends (crlf ver) x ≡ false → watched h n && not (partial-amount (most (h .command)) (raw ++ (x ∷ []))) ≡ watched h n && spoils (crlf ver) (most (h .command)) raw x
+      w e = spoiled (crlf ver) (watched h n) (most (h .command)) raw x e (ok .len)
 
-      on : (q : Part) (w : Bool) → watched h n && not (partial-amount (most (h .command)) (raw ++ (x ∷ []))) ≡ w → refuses (value-next h n raw x (into q)) ≡ number-of (cond (ltb line-max (length n + (1 + length raw) + 1 + (0 + owes q))) (some long-line) (cond w (some bad-length) none))
+      on : (q : Part) (w : Bool) → watched h n && not (partial-amount (most (h .command)) (raw ++ (x ∷ []))) ≡ w → refuses (value-next ver h n raw x (into q)) ≡ number-of (cond (ltb line-max (length n + (1 + length raw) + 1 + (0 + owes q))) (some long-line) (cond w (some bad-length) none))
       on q w k = rw k (row-4 (length n + 1 + (length raw + 1) + owes q) (length n + (1 + length raw) + 1 + (0 + owes q)) (omega arith) (cond w (refuse 6) (go (value h n (raw ++ (x ∷ [])) q))) (cond w (some bad-length) none) (row-6-on w _))
 
-      ended : (a b c : Bool) → eqb x 10 ≡ a → eqb x 13 ≡ b → eqb x 58 ≡ c → Says (style ver (h .command)) in-value p x stop → Told (value h n raw p) x (value-next h n raw x stop)
+      ended : (a b c : Bool) → eqb x 10 ≡ a → eqb x 13 && crlf ver ≡ b → eqb x 58 ≡ c → Says (style ver (h .command)) in-value p x stop → Told (value h n raw p) x (value-next ver h n raw x stop)
       ended true b c e f g ((nu, nf), ow, st) =
           let k : eqb x 58 ≡ false = rw (eqb-true x 10 e) in
           let d : is-digit x ≡ false = rw (eqb-true x 10 e) in
           simp (nu, nf, k, e, d) (row-6 (watched h n) (empty raw) (go (begin (opened h (entry n raw false)))) refl)
       ended false true c e f g ((nu, nf), ow, st) =
-          let k : eqb x 58 ≡ false = rw (eqb-true x 13 f) in
-          let d : is-digit x ≡ false = rw (eqb-true x 13 f) in
+          let k : eqb x 58 ≡ false = rw (eqb-true x 13 (and-left (eqb x 13) (crlf ver) f)) in
+          let d : is-digit x ≡ false = rw (eqb-true x 13 (and-left (eqb x 13) (crlf ver) f)) in
           simp (nu, nf, k, e, f, d) (row-6 (watched h n) (empty raw) (go (line-13 h n raw)) refl)
       ended false false true e f g ((nu, nf), ow, st) = let d : divides (style ver (h .command)) in-value ≡ true = simp (e, f, g) at st in simp (nu, nf, g) (rw d)
-      ended false false false e f g (nf, ow, st) = absurd (no-stop (eqb x 10) (eqb x 13) (eqb x 58 && divides (style ver (h .command)) in-value) e f (rw g) st)
+      ended false false false e f g (nf, ow, st) = absurd (no-stop (eqb x 10) (eqb x 13 && crlf ver) (eqb x 58 && divides (style ver (h .command)) in-value) e f (rw g) st)
 
-      by : (i : Into) → Says (style ver (h .command)) in-value p x i → Told (value h n raw p) x (value-next h n raw x i)
+      by : (i : Into) → Says (style ver (h .command)) in-value p x i → Told (value h n raw p) x (value-next ver h n raw x i)
       by (into q) ((nu, nf), ow, ns) =
-          let (e, f, g) = no-stops (eqb x 10) (eqb x 13) (eqb x 58 && divides (style ver (h .command)) in-value) ns in
+          let (e, f, g) = no-stops (eqb x 10) (eqb x 13 && crlf ver) (eqb x 58 && divides (style ver (h .command)) in-value) ns in
           simp (nu, nf, e, f, g, ow) (on q _ (simp (e, f) at (w (rw (e, f)))))
       by (bad of-utf8) u = rw u
       by (bad of-escape) (nu, u) = rw (nu, u)
-      by stop u = ended (eqb x 10) (eqb x 13) (eqb x 58) refl refl refl u
+      by stop u = ended (eqb x 10) (eqb x 13 && crlf ver) (eqb x 58) refl refl refl u
 
   told-body : (h : Head) (e : Bool) (b : List ℕ) (x : ℕ) → HeadOk ver h → BodyPart (most (h .command)) (declared (h .entries)) b → Told (body h e b) x (P.at-body h e b x)
   unfolding P.at-body refusal fits

@@ -1,6 +1,6 @@
 -- The rule for a record, by the code's tests; and what it leaves to a call. Assumes nothing.
-use mathlib.Core.Path.{_≡_, refl, sym}
-use mathlib.Core.Bool.{Bool, true, false, cond, _&&_, _||_, not}
+use mathlib.Core.Path.{_≡_, refl, sym, _∙_, ap}
+use mathlib.Core.Bool.{Bool, true, false, cond, _&&_, _||_, not, true≢false}
 use mathlib.Core.List.{List}
 use Prim.Native.Nat.{ℕ, _-_, _≤_, _<_, min}
 use native.Mathlib.Omega.{arith}
@@ -13,7 +13,7 @@ use Rattle.headers.proofs.Rows.{and-left, and-right, and-no, refuted}
 use Rattle.frames.specs.declared.state.Scan.{Scan}
 use Rattle.frames.specs.Scanning.{Valid, scan, scan-reply, nothing-read}
 use Rattle.frames.specs.Validity.{is-valid}
-use Rattle.frames.specs.Streams.{replied, refused, is-number, is-resumable, is-whole, feed-answer, feed-state, feed-buffer}
+use Rattle.frames.specs.Streams.{replied, refused, is-number, after-cr, fits-version, is-resumable, is-whole, feed-answer, feed-state, feed-buffer}
 use Rattle.frames.proofs.Upto.{upto-at}
 use Rattle.frames.proofs.Checks.{valid-decides}
 
@@ -43,8 +43,18 @@ module _ (st : Scan) where
   pub resumed : is-resumable st ≡ true → Valid st × (st .at ≤ 49227)
   unfolding is-resumable
   resumed h =
-      let rest = leb (st .at) 49227 && (ltb (st .phase) 14 || (eqb (st .phase) 16 && is-number (st .code))) in
+      let rest = leb (st .at) 49227 && (fits-version st && (ltb (st .phase) 14 || (eqb (st .phase) 16 && is-number (st .code)))) in
       (valid-decides st .pass (and-left (is-valid st) rest h), leb-true (st .at) 49227 (and-left (leb (st .at) 49227) _ (and-right (is-valid st) rest h)))
+
+  -- "2 is never given in 1.1": a state of 1.1 that is after a 13 that begins a line end, or refused there, does not pass
+  pub resumed-fits : st .crlf ≡ false → is-resumable st ≡ true → after-cr st ≡ false
+  unfolding is-resumable
+  resumed-fits old h =
+      let fits : fits-version st ≡ true = and-left (fits-version st) _ (and-right (leb (st .at) 49227) _ (and-right (is-valid st) _ h)) in
+      not-true (after-cr st) (ap (λ w. w || not (after-cr st)) (sym old) ∙ fits)
+
+  pub refuses-version : st .crlf ≡ false → after-cr st ≡ true → is-resumable st ≡ false
+  refuses-version old h = refuted (is-resumable st) (λ e. true≢false (sym h ∙ resumed-fits old e))
 
   -- "at least a count held over 49,227 and a refusal number the judge lacks"
   pub refuses-count : 49227 < st .at → is-resumable st ≡ false
@@ -72,7 +82,7 @@ module _ (st : Scan) where
 
       pub gives-reply : is-resumable st ≡ true → (next : Scan) → next ≡ scan st piece →
           (replied (scan-reply next) (next .at - st .at) ≡ feed-answer st buffer piece)
-          × (cond (is-whole next) nothing-read next ≡ feed-state st buffer piece)
+          × (cond (is-whole next) (nothing-read (st .crlf)) next ≡ feed-state st buffer piece)
           × (paste buffer (st .at) piece (min (next .at - st .at) (length buffer - st .at)) ≡ feed-buffer st buffer piece)
       unfolding feed-answer feed-state feed-buffer
       gives-reply e next n = (rw (long-enough, e, n) refl, rw (long-enough, e, n) refl, rw (long-enough, e, n) refl)

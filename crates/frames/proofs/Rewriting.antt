@@ -31,7 +31,8 @@ use Rattle.headers.proofs.Numerals.{numeral-octets}
 use Rattle.headers.proofs.FirstValues.{any-value}
 use Rattle.headers.proofs.LaidOut.{entries-image}
 use Rattle.headers.proofs.Settling.{raw-long, can}
-use Rattle.frames.specs.Grammar.{Version, Command, number, word, style, lines-max, most, end, Line, line, lines, LineOk, declared, LengthOk, BodyOk, Head, head, Tree, frame, octets, Valid}
+use Rattle.frames.specs.Grammar.{Command, number, word, style, lines-max, most, end, Line, line, lines, LineOk, declared, LengthOk, BodyOk, Head, head, Tree, frame, octets, Valid}
+use Rattle.frames.specs.declared.version.Version.{Version}
 use Rattle.frames.specs.Open.{entry}
 use Rattle.frames.specs.Decoding.{line-entry, line-entries, head-entries, Reading}
 use Rattle.frames.specs.Encoding.{Call, command-of, is-length, first-length, adds-length, length-entry, added-entry, written-entries, frame-image, says-length, settle-frame, encode-answer, encode-image}
@@ -91,7 +92,11 @@ none-added s m es (some v) b f h = rw (any-value content-length es (decode s v) 
 -- ## What is decoded of octets is octets
 
 meaning-small : (s : Style) (x : ℕ) → is-letter s x ≡ true → is-octet (meaning s x) ≡ true
-meaning-small s x h = any-key (λ e. e .letter) (λ y. is-octet (meaning s y) ≡ true) x (escape-table s) (refl, (refl, (refl, (refl, tt)))) h
+meaning-small s x h = by (s .escapes) (s .crlf) h
+  where
+    by : (e c : Bool) → is-letter (record { escapes = e; crlf = c }) x ≡ true → is-octet (meaning (record { escapes = e; crlf = c }) x) ≡ true
+    by e true h = any-key (λ e. e .letter) (λ y. is-octet (meaning (record { escapes = e; crlf = true }) y) ≡ true) x (escape-table (record { escapes = e; crlf = true })) (refl, (refl, (refl, (refl, tt)))) h
+    by e false h = any-key (λ e. e .letter) (λ y. is-octet (meaning (record { escapes = e; crlf = false }) y) ≡ true) x (escape-table (record { escapes = e; crlf = false })) (refl, (refl, (refl, tt))) h
 
 decode-small : (s : Style) (xs : List ℕ) → every is-octet xs ≡ true → every is-octet (decode s xs) ≡ true
 unfolding decode

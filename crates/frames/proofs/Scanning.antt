@@ -21,7 +21,8 @@ use Rattle.headers.specs.declared.text.Field.the-variants.{Name as in-name, Val
 use Rattle.headers.proofs.Rows.{and-left, and-right, same-eq, cond-case, every-right, every-last, empty-eqb, begins-snoc, begins-front, front-of, first-some}
 use Rattle.headers.proofs.Decimals.{decimal-none, decimal-snoc}
 use Rattle.frames.specs.Machine.{Next, go, done, refuse, Run, run, going, finished, stopped, after}
-use Rattle.frames.specs.Grammar.{Version, Shaped, Command, number, word, style, most, Head, Tree, heart-beat, frame, octets, declared, head, end}
+use Rattle.frames.specs.Grammar.{crlf, Shaped, Command, number, word, style, most, Head, Tree, heart-beat, frame, octets, declared, head, end}
+use Rattle.frames.specs.declared.version.Version.{Version}
 use Rattle.frames.specs.Open.{Open, start, heart-beat-13, command, command-13, begin, name, value, line-13, blank-13, body, all, opened, entry, unseen, watched, partial-amount, so-far, Ok, NameOk, ValueOk}
 use Rattle.frames.specs.Replies.{Reply, told}
 use Rattle.frames.specs.Replies as reply
@@ -47,46 +48,6 @@ size-of (some v) = decimal 0 v
 -- octets of content-length, or 15
 unfoldable matched-of : List ℕ → ℕ
 matched-of raw = cond (begins raw content-length) (length raw) 15
-
-abbrev shown-in : ℕ → Head → ℕ → ℕ → ℕ → ℕ → ℕ → Scan
-shown-in p h m s l n r = record { phase = p; command = number (h .command); lines = length (h .entries); matched = m; sized = sized-of (declared (h .entries)); size = s; len = l; at = n; code = 0; rest = r }
-
-abbrev shown : ℕ → Head → ℕ → ℕ → ℕ → ℕ → Scan
-shown p h m s l n = shown-in p h m s l n 0
-
-abbrev headed : ℕ → Head → ℕ → Scan
-headed p h n = shown p h 0 (size-of (declared (h .entries))) 0 n
-
-abbrev bare : ℕ → ℕ → ℕ → Scan
-bare p c n = record { phase = p; command = c; lines = 0; matched = 0; sized = false; size = 0; len = 0; at = n; code = 0; rest = 0 }
-
-abbrev view : ℕ → Open → Scan
-view n start = bare 0 0 n
-view n heart-beat-13 = bare 1 0 n
-view n (command raw) = bare 2 (number-of (first (begins raw) all)) n
-view n (command-13 c) = bare 3 (number c) n
-view n (begin h) = headed 4 h n
-view n (name h raw p) = shown-in (name-phase p) h (matched-of raw) (size-of (declared (h .entries))) (length raw) n (part-number p)
-view n (value h m raw p) =
-    cond (watched h m) (shown 9 h 0 (decimal 0 raw) (length m + 1 + length raw) n)
-    (shown-in (value-phase p) h 0 (size-of (declared (h .entries))) (length m + 1 + length raw) n (part-number p))
-view n (line-13 h m v) = headed 10 (opened h (entry m v true)) n
-view n (blank-13 h) = headed 11 h n
-view n (body h e b) = shown (cond (sized-of (declared (h .entries))) 13 12) h 0 (size-of (declared (h .entries))) (length b) n
-
-abbrev view-tree : ℕ → Tree → Scan
-view-tree n (heart-beat e) = bare 14 0 n
-view-tree n (frame h e b) = record { phase = 15; command = number (h .command); lines = length (h .entries); matched = 0; sized = false; size = 0; len = length b; at = n; code = 0; rest = 0 }
-
--- what one octet does after n octets
-abbrev seen : ℕ → Next Open Tree → Scan
-seen n (go s) = view (n + 1) s
-seen n (done t) = view-tree (n + 1) t
-seen n (refuse k) = record { phase = 16; command = 0; lines = 0; matched = 0; sized = false; size = 0; len = 0; at = n; code = k; rest = 0 }
-
-seen-cond : (n : ℕ) (t : Bool) (a b : Next Open Tree) → seen n (cond t a b) ≡ cond t (seen n a) (seen n b)
-seen-cond n true a b = refl
-seen-cond n false a b = refl
 
 -- ---- commands
 
@@ -150,31 +111,71 @@ size-opened none true v = refl
 size-opened none false v = refl
 size-opened (some u) t v = refl
 
-headed-opened : (p n : ℕ) (h : Head) (m v : List ℕ) (e : Bool)
-    → headed p (opened h (entry m v e)) n
-    ≡ record { phase = p; command = number (h .command); lines = length (h .entries) + 1; matched = 0; sized = cond (watched h m) true (sized-of (declared (h .entries))); size = cond (watched h m) (decimal 0 v) (size-of (declared (h .entries))); len = 0; at = n; code = 0; rest = 0 }
-headed-opened p n h m v e = rw (length-append, declared-append, sized-opened, size-opened)
-
 -- ---- one octet
 
 module _ (ver : Version) where
-  show-word : (raw : List ℕ) (x n c : ℕ) → take n (word-of c) ≡ raw → on-word (bare 2 c n) x ≡ seen n (at-word raw x)
+  abbrev shown-in : ℕ → Head → ℕ → ℕ → ℕ → ℕ → ℕ → Scan
+  shown-in p h m s l n r = record { phase = p; command = number (h .command); lines = length (h .entries); matched = m; sized = sized-of (declared (h .entries)); size = s; len = l; at = n; code = 0; rest = r; crlf = crlf ver }
+
+  abbrev shown : ℕ → Head → ℕ → ℕ → ℕ → ℕ → Scan
+  shown p h m s l n = shown-in p h m s l n 0
+
+  abbrev headed : ℕ → Head → ℕ → Scan
+  headed p h n = shown p h 0 (size-of (declared (h .entries))) 0 n
+
+  abbrev bare : ℕ → ℕ → ℕ → Scan
+  bare p c n = record { phase = p; command = c; lines = 0; matched = 0; sized = false; size = 0; len = 0; at = n; code = 0; rest = 0; crlf = crlf ver }
+
+  abbrev view : ℕ → Open → Scan
+  view n start = bare 0 0 n
+  view n heart-beat-13 = bare 1 0 n
+  view n (command raw) = bare 2 (number-of (first (begins raw) all)) n
+  view n (command-13 c) = bare 3 (number c) n
+  view n (begin h) = headed 4 h n
+  view n (name h raw p) = shown-in (name-phase p) h (matched-of raw) (size-of (declared (h .entries))) (length raw) n (part-number p)
+  view n (value h m raw p) =
+      cond (watched h m) (shown 9 h 0 (decimal 0 raw) (length m + 1 + length raw) n)
+      (shown-in (value-phase p) h 0 (size-of (declared (h .entries))) (length m + 1 + length raw) n (part-number p))
+  view n (line-13 h m v) = headed 10 (opened h (entry m v true)) n
+  view n (blank-13 h) = headed 11 h n
+  view n (body h e b) = shown (cond (sized-of (declared (h .entries))) 13 12) h 0 (size-of (declared (h .entries))) (length b) n
+
+  abbrev view-tree : ℕ → Tree → Scan
+  view-tree n (heart-beat e) = bare 14 0 n
+  view-tree n (frame h e b) = record { phase = 15; command = number (h .command); lines = length (h .entries); matched = 0; sized = false; size = 0; len = length b; at = n; code = 0; rest = 0; crlf = crlf ver }
+
+  -- what one octet does after n octets
+  abbrev seen : ℕ → Next Open Tree → Scan
+  seen n (go s) = view (n + 1) s
+  seen n (done t) = view-tree (n + 1) t
+  seen n (refuse k) = record { phase = 16; command = 0; lines = 0; matched = 0; sized = false; size = 0; len = 0; at = n; code = k; rest = 0; crlf = crlf ver }
+
+  seen-cond : (n : ℕ) (t : Bool) (a b : Next Open Tree) → seen n (cond t a b) ≡ cond t (seen n a) (seen n b)
+  seen-cond n true a b = refl
+  seen-cond n false a b = refl
+
+  headed-opened : (p n : ℕ) (h : Head) (m v : List ℕ) (e : Bool)
+      → headed p (opened h (entry m v e)) n
+      ≡ record { phase = p; command = number (h .command); lines = length (h .entries) + 1; matched = 0; sized = cond (watched h m) true (sized-of (declared (h .entries))); size = cond (watched h m) (decimal 0 v) (size-of (declared (h .entries))); len = 0; at = n; code = 0; rest = 0; crlf = crlf ver }
+  headed-opened p n h m v e = rw (length-append, declared-append, sized-opened, size-opened)
+
+  show-word : (raw : List ℕ) (x n c : ℕ) → take n (word-of c) ≡ raw → on-word (bare 2 c n) x ≡ seen n (at-word ver raw x)
   unfolding on-word next-command whole-command at-word
   show-word raw x n c e = rw e (longer (first (begins (raw ++ (x ∷ []))) all) refl)
     where
-      ended : (o : Option Command) → cond (eqb (number-of o) 0) (invalid (bare 2 c n) 1) (cond (eqb x 10) (bare 4 (number-of o) (n + 1)) (cond (eqb x 13) (bare 3 (number-of o) (n + 1)) (invalid (bare 2 c n) 1))) ≡ seen n (word-end o x)
+      ended : (o : Option Command) → cond (eqb (number-of o) 0) (invalid (bare 2 c n) 1) (cond (eqb x 10) (bare 4 (number-of o) (n + 1)) (cond (eqb x 13 && crlf ver) (bare 3 (number-of o) (n + 1)) (invalid (bare 2 c n) 1))) ≡ seen n (word-end ver o x)
       ended none = refl
-      ended (some d) = rw (some-number d) (sym (seen-cond n (eqb x 10) _ _ ∙ ap (cond (eqb x 10) (bare 4 (number d) (n + 1))) (seen-cond n (eqb x 13) _ _)))
+      ended (some d) = rw (some-number d) (sym (seen-cond n (eqb x 10) _ _ ∙ ap (cond (eqb x 10) (bare 4 (number d) (n + 1))) (seen-cond n (eqb x 13 && crlf ver) _ _)))
 
       longer : (o : Option Command) → first (begins (raw ++ (x ∷ []))) all ≡ o
-          → cond (eqb (number-of o) 0) (cond (eqb (number-of (first (same raw) all)) 0) (invalid (bare 2 c n) 1) (cond (eqb x 10) (bare 4 (number-of (first (same raw) all)) (n + 1)) (cond (eqb x 13) (bare 3 (number-of (first (same raw) all)) (n + 1)) (invalid (bare 2 c n) 1)))) (bare 2 (number-of o) (n + 1))
-          ≡ seen n (word-next o raw x)
+          → cond (eqb (number-of o) 0) (cond (eqb (number-of (first (same raw) all)) 0) (invalid (bare 2 c n) 1) (cond (eqb x 10) (bare 4 (number-of (first (same raw) all)) (n + 1)) (cond (eqb x 13 && crlf ver) (bare 3 (number-of (first (same raw) all)) (n + 1)) (invalid (bare 2 c n) 1)))) (bare 2 (number-of o) (n + 1))
+          ≡ seen n (word-next ver o raw x)
       longer none k = ended (first (same raw) all)
       longer (some d) k = rw (some-number d, k)
 
-  show-start : (x : ℕ) → on-start (bare 0 0 0) x ≡ seen 0 (at-start x)
+  show-start : (x : ℕ) → on-start (bare 0 0 0) x ≡ seen 0 (at-start ver x)
   unfolding on-start at-start on-word
-  show-start x = simp seen-cond (ap (λ z. cond (eqb x 10) (bare 14 0 1) (cond (eqb x 13) (bare 1 0 1) z)) (show-word [] x 0 0 refl))
+  show-start x = simp seen-cond (ap (λ z. cond (eqb x 10) (bare 14 0 1) (cond (eqb x 13 && crlf ver) (bare 1 0 1) z)) (show-word [] x 0 0 refl))
 
   show-name : (h : Head) (raw : List ℕ) (p q : Part) (x n : ℕ) → on-name (view n (name h raw q)) p x ≡ seen n (at-name ver h raw p x)
   unfolding on-name at-name
@@ -206,7 +207,7 @@ module _ (ver : Version) where
       longer : (r : Part) → length m + 1 + (length raw + 1) + owes r ≡ length m + 1 + length raw + 1 + owes r
       longer r = omega arith
 
-      by : (i : Into) → on-value-by (shown-in (value-phase p) h 0 (size-of (declared (h .entries))) (length m + 1 + length raw) n (part-number p)) x i ≡ seen n (value-next h m raw x i)
+      by : (i : Into) → on-value-by (shown-in (value-phase p) h 0 (size-of (declared (h .entries))) (length m + 1 + length raw) n (part-number p)) x i ≡ seen n (value-next ver h m raw x i)
       by (into r) = simp (w, seen-cond, longer, length-append, ← add-assoc)
       by (bad k) = refl
       by stop = simp (w, seen-cond, headed-opened)
@@ -237,7 +238,7 @@ module _ (ver : Version) where
       turned true b c = refl
       turned false b c = refl
 
-      by : (i : Into) → on-length-by (shown 9 h 0 (decimal 0 raw) (length m + 1 + length raw) n) x i ≡ seen n (value-next h m raw x i)
+      by : (i : Into) → on-length-by (shown 9 h 0 (decimal 0 raw) (length m + 1 + length raw) n) x i ≡ seen n (value-next ver h m raw x i)
       by (into r) = simp (w, seen-cond, every-last is-digit raw x digits, turned, longer, length-append, decimal-snoc, ← add-assoc)
       by (bad k) = refl
       by stop = simp (w, seen-cond, no-digit, headed-opened)
@@ -388,7 +389,7 @@ module _ (ver : Version) where
           rw (l, at)
 
   -- the same reply
-  pub scanned : (xs : List ℕ) → scan-reply (scan nothing-read xs) ≡ parsed ver xs
+  pub scanned : (xs : List ℕ) → scan-reply (scan (nothing-read (crlf ver)) xs) ≡ parsed ver xs
   unfolding parsed
   scanned xs = scans xs start 0 tt refl ∙ by (run (step ver) start xs) (exact-run ver xs)
     where

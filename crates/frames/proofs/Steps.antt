@@ -54,17 +54,17 @@ module _ (st : Scan) (x : ℕ) where
   abbrev pub after-back : Bool → ℕ → ℕ → ℕ → Scan
   after-back t most p m = cond t (cond (ltb (st .len) most) (in-line st p m (st .size) (st .len + 1)) (invalid st (numbered long-line))) (cond (starts x) (invalid st (numbered wrong-escape)) (invalid st (numbered not-utf8)))
 
-  pub value-back : on-value st back x ≡ after-back (is-letter (style-of (st .command)) x) 512 7 0
+  pub value-back : on-value st back x ≡ after-back (is-letter (style-of (st .crlf) (st .command)) x) 512 7 0
   unfolding on-value
-  value-back = by (is-letter (style-of (st .command)) x)
+  value-back = by (is-letter (style-of (st .crlf) (st .command)) x)
     where
       by : (t : Bool) → on-value-by st x (cond t (into fresh) (cond (starts x) (bad of-escape) (bad of-utf8))) ≡ after-back t 512 7 0
       by true = rw (room 0 512 (st .len) refl)
       by false = cond-case (λ i. on-value-by st x i ≡ cond (starts x) (invalid st 10) (invalid st 11)) (starts x) (λ e. rw e) (λ e. rw e)
 
-  pub name-back : on-name st back x ≡ after-back (is-letter (style-of (st .command)) x) 511 5 (advance (st .matched) x)
+  pub name-back : on-name st back x ≡ after-back (is-letter (style-of (st .crlf) (st .command)) x) 511 5 (advance (st .matched) x)
   unfolding on-name
-  name-back = by (is-letter (style-of (st .command)) x)
+  name-back = by (is-letter (style-of (st .crlf) (st .command)) x)
     where
       by : (t : Bool) → on-name-by st x (cond t (into fresh) (cond (starts x) (bad of-escape) (bad of-utf8))) ≡ after-back t 511 5 (advance (st .matched) x)
       by true = rw (room-name 0 511 (st .len) refl)
@@ -90,12 +90,12 @@ module _ (st : Scan) (x : ℕ) where
 
   pub value-inside : (st .rest ≡ 0 → ⊥) → (st .rest ≡ 92 → ⊥) → on-value st (text-part (st .rest)) x ≡ in-character st 512 7 8 0 (utf8-reads (utf8-part (st .rest)) x)
   unfolding on-value
-  value-inside z w = ap (on-value-by st x) (reads-inside (style-of (st .command)) in-value (st .rest) x z w) ∙ value-in (utf8-reads (utf8-part (st .rest)) x) (goes8 (st .rest) x)
+  value-inside z w = ap (on-value-by st x) (reads-inside (style-of (st .crlf) (st .command)) in-value (st .rest) x z w) ∙ value-in (utf8-reads (utf8-part (st .rest)) x) (goes8 (st .rest) x)
 
   pub name-inside : (st .rest ≡ 0 → ⊥) → (st .rest ≡ 92 → ⊥)
       → on-name st (text-part (st .rest)) x ≡ in-character st 511 5 6 (advance (st .matched) x) (utf8-reads (utf8-part (st .rest)) x)
   unfolding on-name
-  name-inside z w = ap (on-name-by st x) (reads-inside (style-of (st .command)) in-name (st .rest) x z w) ∙ name-in (utf8-reads (utf8-part (st .rest)) x) (goes8 (st .rest) x)
+  name-inside z w = ap (on-name-by st x) (reads-inside (style-of (st .crlf) (st .command)) in-name (st .rest) x z w) ∙ name-in (utf8-reads (utf8-part (st .rest)) x) (goes8 (st .rest) x)
 
   -- by the number that the octet leaves
   module _ (n m w p k r : ℕ) (is : r ≡ into-number (utf8-reads (utf8-part n) x)) where
@@ -158,16 +158,16 @@ module _ (st : Scan) (x : ℕ) where
   length-bad h = rw (or-false-left (ascii x) (ltb 0 (missing x)) h, or-false-right (ascii x) (ltb 0 (missing x)) h)
 
   -- a line more than there may be
-  pub more-start : stops (style-of (st .command)) in-name x ≡ false → starts x ≡ true → on-more st (reads (style-of (st .command)) in-name fresh x) ≡ invalid st (numbered many-lines)
+  pub more-start : stops (style-of (st .crlf) (st .command)) in-name x ≡ false → starts x ≡ true → on-more st (reads (style-of (st .crlf) (st .command)) in-name fresh x) ≡ invalid st (numbered many-lines)
   more-start n h =
-      rw n (cond-case (λ i. on-more st i ≡ invalid st (numbered many-lines)) (opens (style-of (st .command)) x) (λ t. refl)
+      rw n (cond-case (λ i. on-more st i ≡ invalid st (numbered many-lines)) (opens (style-of (st .crlf) (st .command)) x) (λ t. refl)
       (λ t. cond-case (λ i. on-more st i ≡ invalid st (numbered many-lines)) (ascii x) (λ a. refl)
       (λ a. cond-case (λ i. on-more st i ≡ invalid st (numbered many-lines)) (ltb 0 (missing x)) (λ u. refl) (λ u. no-test (sym (rw (a, u) refl) ∙ h)))))
 
-  pub more-bad : starts x ≡ false → on-more st (reads (style-of (st .command)) in-name fresh x) ≡ invalid st (numbered not-utf8)
+  pub more-bad : starts x ≡ false → on-more st (reads (style-of (st .crlf) (st .command)) in-name fresh x) ≡ invalid st (numbered not-utf8)
   more-bad h =
       let a = or-false-left (ascii x) (ltb 0 (missing x)) h in
-      let (n, o) = high-text (style-of (st .command)) in-name x a in
+      let (n, o) = high-text (style-of (st .crlf) (st .command)) in-name x a in
       rw (n, o, a, or-false-right (ascii x) (ltb 0 (missing x)) h)
 
 -- a number that is not 0
@@ -189,14 +189,14 @@ inside-value e = rw e refl
 
 -- where a line or an item begins: the octets that begin no name or no word, and the others
 module _ (st : Scan) (x : ℕ) where
-  pub past-last : eqb x 10 ≡ false → eqb x 13 ≡ false → eqb x 58 ≡ false → nameless-at st x ≡ true → ltb (st .lines) lines-max ≡ false
+  pub past-last : eqb x 10 ≡ false → eqb x 13 && st .crlf ≡ false → eqb x 58 ≡ false → nameless-at st x ≡ true → ltb (st .lines) lines-max ≡ false
   past-last p q r h = le-ltb (st .lines) lines-max (leb-true lines-max (st .lines) (rw (p, q, r) at h))
 
-  pub no-stop : eqb x 10 ≡ false → eqb x 13 ≡ false → eqb x 58 ≡ false → stops (style-of (st .command)) in-name x ≡ false
+  pub no-stop : eqb x 10 ≡ false → eqb x 13 && st .crlf ≡ false → eqb x 58 ≡ false → stops (style-of (st .crlf) (st .command)) in-name x ≡ false
   no-stop p q r = rw (p, q, r)
 
-  pub begin-more : eqb x 10 ≡ false → eqb x 13 ≡ false → eqb x 58 ≡ false → ltb (st .lines) lines-max ≡ false
-      → on-begin st x ≡ on-more st (reads (style-of (st .command)) in-name fresh x)
+  pub begin-more : eqb x 10 ≡ false → eqb x 13 && st .crlf ≡ false → eqb x 58 ≡ false → ltb (st .lines) lines-max ≡ false
+      → on-begin st x ≡ on-more st (reads (style-of (st .crlf) (st .command)) in-name fresh x)
   unfolding on-begin
   begin-more p q r l = rw (p, q, r, l)
 
@@ -208,22 +208,22 @@ module _ (st : Scan) (x : ℕ) where
       by false q = simp (five q)
       by true q =
           let n : nameless-at st x ≡ false = sym e ∙ (rw q at f) in
-          let k = or-false-left (eqb x 10 || eqb x 13) (eqb x 58 || leb lines-max (st .lines)) n in
-          let m = or-false-right (eqb x 10 || eqb x 13) (eqb x 58 || leb lines-max (st .lines)) n in
+          let k = or-false-left (line-ends st x) (eqb x 58 || leb lines-max (st .lines)) n in
+          let m = or-false-right (line-ends st x) (eqb x 58 || leb lines-max (st .lines)) n in
           simp (
             eqb-true (st .phase) 4 q,
-            or-false-left (eqb x 10) (eqb x 13) k,
-            or-false-right (eqb x 10) (eqb x 13) k,
+            or-false-left (eqb x 10) (eqb x 13 && st .crlf) k,
+            or-false-right (eqb x 10) (eqb x 13 && st .crlf) k,
             or-false-left (eqb x 58) (leb lines-max (st .lines)) m,
             lt-ltb (st .lines) lines-max (leb-false lines-max (st .lines) (or-false-right (eqb x 58) (leb lines-max (st .lines)) m)),
           )
 
-  pub word-goes-on : eqb (st .phase) 0 && line-ends x ≡ false → (eqb (st .phase) 0 ≡ false → st .phase ≡ 2) → scan-step st x ≡ on-word st x
+  pub word-goes-on : eqb (st .phase) 0 && line-ends st x ≡ false → (eqb (st .phase) 0 ≡ false → st .phase ≡ 2) → scan-step st x ≡ on-word st x
   unfolding scan-step on-start
   word-goes-on f two = by (eqb (st .phase) 0) refl
     where
       by : (a : Bool) → eqb (st .phase) 0 ≡ a → scan-step st x ≡ on-word st x
       by false q = simp (two q)
       by true q =
-          let n : line-ends x ≡ false = rw q at f in
-          simp (eqb-true (st .phase) 0 q, or-false-left (eqb x 10) (eqb x 13) n, or-false-right (eqb x 10) (eqb x 13) n)
+          let n : line-ends st x ≡ false = rw q at f in
+          simp (eqb-true (st .phase) 0 q, or-false-left (eqb x 10) (eqb x 13 && st .crlf) n, or-false-right (eqb x 10) (eqb x 13 && st .crlf) n)

@@ -15,7 +15,8 @@ use lib.ListN.{length, take, drop}
 use lib.Seq.{drop-append-seam, take-append-seam}
 use Rattle.headers.specs.Rows.{every, is-octet, first-of, All}
 use Rattle.headers.specs.Answers.{Answer, left-in}
-use Rattle.frames.specs.Grammar.{Version, Head, head, end, frame, Tree, octets, Valid}
+use Rattle.frames.specs.Grammar.{Head, head, end, frame, Tree, octets, Valid}
+use Rattle.frames.specs.declared.version.Version.{Version}
 use Rattle.frames.specs.Replies.{Reply, told}
 use Rattle.frames.specs.Replies as reply
 use Rattle.frames.specs.Parsing.{parsed}

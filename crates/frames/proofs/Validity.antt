@@ -87,7 +87,7 @@ module _ (s : Scan) (o : ordinary (s .phase) ≡ true) where
   bounded-valid :
       s .phase ≤ 16 → s .lines + line-open (s .phase) ≤ 32 → s .len ≤ len-max (s .phase) → s .size ≤ 32768 → s .at ≤ outside (s .phase) + 514 * s .lines + s .len
       → (s .phase < 16 → s .code ≡ 0) → (6 < s .phase → s .matched ≡ 0) → (s .sized ≡ false → (s .phase ≡ 9 → ⊥) → s .size ≡ 0) → (s .phase < 4 → s .lines ≡ 0) → ((s .phase ≡ 6 → ⊥) → (s .phase ≡ 8 → ⊥) → s .rest ≡ 0)
-      → (eqb (s .phase) 6 || eqb (s .phase) 8 ≡ true → is-begun (style-of (s .command)) (s .rest) ≡ true) → Valid s
+      → (eqb (s .phase) 6 || eqb (s .phase) 8 ≡ true → is-begun (style-of (s .crlf) (s .command)) (s .rest) ≡ true) → Valid s
   bounded-valid k f h z l c m u n r w =
       record {
         known = k;
@@ -118,9 +118,9 @@ outside-line {A = A} p f q = by (eqb p 6) refl (eqb p 8) refl q
     by false e false g w = no-test w
 
 -- a state that keeps a command and a place alone
-bare-valid : (p c a : ℕ) → p < 16 → line-open p ≡ 0 → a ≤ outside p → (p ≡ 0 → (c ≡ 0) × (a ≡ 0)) → (p ≡ 2 → Reached c a)
-    → Valid (record { phase = p; command = c; lines = 0; matched = 0; sized = false; size = 0; len = 0; at = a; code = 0; rest = 0 })
-bare-valid p c a k f h n r =
+bare-valid : (w : Bool) (p c a : ℕ) → p < 16 → line-open p ≡ 0 → a ≤ outside p → (p ≡ 0 → (c ≡ 0) × (a ≡ 0)) → (p ≡ 2 → Reached c a)
+    → Valid (record { phase = p; command = c; lines = 0; matched = 0; sized = false; size = 0; len = 0; at = a; code = 0; rest = 0; crlf = w })
+bare-valid w p c a k f h n r =
     record {
       known = omega arith;
       few = omega arith;
@@ -149,13 +149,13 @@ module _ (st : Scan) where
   valid-to p c o k f h = bounded-valid (to-phase st p c) o (omega arith) (omega arith) (omega arith) (omega arith) (omega arith) (λ h. refl) (λ h. refl) (λ e n. refl) (λ h. refl) (λ a b. refl) (λ q. outside-line p f q)
 
   valid-word : (c : ℕ) → Reached c (st .at + 1) → st .at + 1 ≤ 11 → Valid (to-phase st 2 c)
-  valid-word c r h = bare-valid 2 c (st .at + 1) (omega arith) refl (omega arith) (λ e. absurd (omega arith)) (λ e. r)
+  valid-word c r h = bare-valid (st .crlf) 2 c (st .at + 1) (omega arith) refl (omega arith) (λ e. absurd (omega arith)) (λ e. r)
 
   valid-head : (p n : ℕ) (z : Bool) (s : ℕ) → ordinary p ≡ true → p < 16 → 3 < p → line-open p ≡ 0 → n ≤ 32 → s ≤ 32768 → st .at + 1 ≤ outside p + 514 * n → (z ≡ false → s ≡ 0) → Valid (in-head st p n z s)
   valid-head p n z s o k g f h l w u = bounded-valid (in-head st p n z s) o (omega arith) (omega arith) (omega arith) l (omega arith) (λ h. refl) (λ h. refl) (λ e n. u e) (λ h. absurd (omega arith)) (λ a b. refl) (λ q. outside-line p f q)
 
   valid-part : (p m s n r : ℕ) → ordinary p ≡ true → p < 16 → 3 < p → st .lines + line-open p ≤ 32 → n ≤ len-max p → s ≤ 32768 → st .at + 1 ≤ outside p + 514 * st .lines + n → (6 < p → m ≡ 0) → (st .sized ≡ false → (p ≡ 9 → ⊥) → s ≡ 0) → ((p ≡ 6 → ⊥) → (p ≡ 8 → ⊥) → r ≡ 0)
-      → (eqb p 6 || eqb p 8 ≡ true → is-begun (style-of (st .command)) r ≡ true) → Valid (in-part st p m s n r)
+      → (eqb p 6 || eqb p 8 ≡ true → is-begun (style-of (st .crlf) (st .command)) r ≡ true) → Valid (in-part st p m s n r)
   valid-part p m s n r o k g f h l w c u e d = bounded-valid (in-part st p m s n r) o (omega arith) f h l w (λ h. refl) c u (λ h. absurd (omega arith)) e d
 
   valid-line : (p m s n : ℕ) → ordinary p ≡ true → p < 16 → 3 < p → st .lines + line-open p ≤ 32 → n ≤ len-max p → s ≤ 32768 → st .at + 1 ≤ outside p + 514 * st .lines + n → (6 < p → m ≡ 0) → (st .sized ≡ false → (p ≡ 9 → ⊥) → s ≡ 0) → eqb p 6 || eqb p 8 ≡ false → Valid (in-line st p m s n)
@@ -188,39 +188,39 @@ module _ (st : Scan) (v : Valid st) where
         cond-case Valid (eqb (next-command (st .command) (st .at) x) 0)
         (λ t. cond-case Valid (eqb (whole-command (st .command) (st .at)) 0) (λ u. valid-refused st _ (omega arith))
         (λ u. cond-case Valid (eqb x 10) (λ q. valid-to st 4 (whole-command (st .command) (st .at)) refl (omega arith) refl (omega arith))
-        (λ q. cond-case Valid (eqb x 13) (λ w. valid-to st 3 (whole-command (st .command) (st .at)) refl (omega arith) refl (omega arith)) (λ w. valid-refused st _ (omega arith)))))
+        (λ q. cond-case Valid (eqb x 13 && st .crlf) (λ w. valid-to st 3 (whole-command (st .command) (st .at)) refl (omega arith) refl (omega arith)) (λ w. valid-refused st _ (omega arith)))))
         (λ t. let (r′, l) = reached-next (st .command) (st .at) x r t in valid-word st (next-command (st .command) (st .at) x) r′ l)
 
     valid-on-start : st .command ≡ 0 → st .at ≡ 0 → Valid (on-start st x)
     unfolding on-start
     valid-on-start c a =
         cond-case Valid (eqb x 10) (λ t. valid-to st 14 0 refl (omega arith) refl (omega arith))
-        (λ t. cond-case Valid (eqb x 13) (λ u. valid-to st 1 0 refl (omega arith) refl (omega arith)) (λ u. valid-on-word (rw (c, a) reached-none) (omega arith)))
+        (λ t. cond-case Valid (eqb x 13 && st .crlf) (λ u. valid-to st 1 0 refl (omega arith) refl (omega arith)) (λ u. valid-on-word (rw (c, a) reached-none) (omega arith)))
 
     -- a line is read
     valid-line-read : (z : Bool) (s : ℕ) → st .lines + 1 ≤ 32 → s ≤ 32768 → st .at + 1 ≤ 526 + 514 * st .lines → (z ≡ false → s ≡ 0) → Valid (line-read st x z s)
     valid-line-read z s f l h u =
         cond-case Valid (eqb x 10) (λ t. valid-head st 4 (st .lines + 1) z s refl (omega arith) (omega arith) refl f l (omega arith) u)
-        (λ t. cond-case Valid (eqb x 13) (λ q. valid-head st 10 (st .lines + 1) z s refl (omega arith) (omega arith) refl f l (omega arith) u) (λ q. valid-refused st _ (omega arith)))
+        (λ t. cond-case Valid (eqb x 13 && st .crlf) (λ q. valid-head st 10 (st .lines + 1) z s refl (omega arith) (omega arith) refl f l (omega arith) u) (λ q. valid-refused st _ (omega arith)))
 
     valid-on-name : (j : ℕ) → st .lines + 1 ≤ 32 → st .len ≤ 511 → st .at ≤ 13 + 514 * st .lines + st .len → (st .sized ≡ false → st .size ≡ 0) → Valid (on-name st (text-part j) x)
     unfolding on-name
-    valid-on-name j f h l u = by (reads (style-of (st .command)) in-name (text-part j) x) (leaves-text (style-of (st .command)) in-name j x)
+    valid-on-name j f h l u = by (reads (style-of (st .crlf) (st .command)) in-name (text-part j) x) (leaves-text (style-of (st .crlf) (st .command)) in-name j x)
       where
-        begun : (o r : ℕ) → 0 < o → is-begun (style-of (st .command)) r ≡ true → Valid (cond (leb (st .len + 1 + o + 1) 512) (in-part st 6 (advance (st .matched) x) (st .size) (st .len + 1) r) (invalid st 4))
+        begun : (o r : ℕ) → 0 < o → is-begun (style-of (st .crlf) (st .command)) r ≡ true → Valid (cond (leb (st .len + 1 + o + 1) 512) (in-part st 6 (advance (st .matched) x) (st .size) (st .len + 1) r) (invalid st 4))
         begun o r owed is =
             cond-case Valid (leb (st .len + 1 + o + 1) 512)
             (λ t. valid-part st 6 (advance (st .matched) x) (st .size) (st .len + 1) r refl (omega arith) (omega arith) f (omega (arith, leb-true (st .len + 1 + o + 1) 512 t)) (v .small) (omega arith) (λ q. absurd (omega arith)) (λ e n. u e) (λ a b. absurd (a refl)) (λ q. is))
             (λ t. valid-refused st 4 (omega arith))
 
-        by : (i : Into) → Leaves (style-of (st .command)) i → Valid (on-name-by st x i)
+        by : (i : Into) → Leaves (style-of (st .crlf) (st .command)) i → Valid (on-name-by st x i)
         by (into fresh) w =
             cond-case Valid (leb (st .len + 1 + 0 + 1) 512)
             (λ t. valid-line st 5 (advance (st .matched) x) (st .size) (st .len + 1) refl (omega arith) (omega arith) f (omega (arith, leb-true (st .len + 1 + 0 + 1) 512 t)) (v .small) (omega arith) (λ q. absurd (omega arith)) (λ e n. u e) refl)
             (λ t. valid-refused st _ (omega arith))
-        by (into back) w = begun 1 92 (omega arith) (begun-back (style-of (st .command)) w)
-        by (into (led y)) w = begun (missing y) y w (begun-led (style-of (st .command)) y w)
-        by (into (tails k)) w = begun k k (w .0) (begun-tails (style-of (st .command)) k (w .0) (w .1))
+        by (into back) w = begun 1 92 (omega arith) (begun-back (style-of (st .crlf) (st .command)) w)
+        by (into (led y)) w = begun (missing y) y w (begun-led (style-of (st .crlf) (st .command)) y w)
+        by (into (tails k)) w = begun k k (w .0) (begun-tails (style-of (st .crlf) (st .command)) k (w .0) (w .1))
         by (bad k) w = valid-refused st (numbered (faulty k)) (omega arith)
         by stop w =
             cond-case Valid (eqb x 58)
@@ -232,27 +232,27 @@ module _ (st : Scan) (v : Valid st) where
 
     valid-on-value : (j : ℕ) → st .lines + 1 ≤ 32 → st .len ≤ 512 → st .at ≤ 13 + 514 * st .lines + st .len → (st .sized ≡ false → st .size ≡ 0) → Valid (on-value st (text-part j) x)
     unfolding on-value
-    valid-on-value j f h l u = by (reads (style-of (st .command)) in-value (text-part j) x) (leaves-text (style-of (st .command)) in-value j x)
+    valid-on-value j f h l u = by (reads (style-of (st .crlf) (st .command)) in-value (text-part j) x) (leaves-text (style-of (st .crlf) (st .command)) in-value j x)
       where
-        begun : (o r : ℕ) → 0 < o → is-begun (style-of (st .command)) r ≡ true → Valid (cond (leb (st .len + 1 + o) 512) (in-part st 8 0 (st .size) (st .len + 1) r) (invalid st 4))
+        begun : (o r : ℕ) → 0 < o → is-begun (style-of (st .crlf) (st .command)) r ≡ true → Valid (cond (leb (st .len + 1 + o) 512) (in-part st 8 0 (st .size) (st .len + 1) r) (invalid st 4))
         begun o r owed is =
             cond-case Valid (leb (st .len + 1 + o) 512)
             (λ t. valid-part st 8 0 (st .size) (st .len + 1) r refl (omega arith) (omega arith) f (omega (arith, leb-true (st .len + 1 + o) 512 t)) (v .small) (omega arith) (λ q. refl) (λ e n. u e) (λ a b. absurd (b refl)) (λ q. is))
             (λ t. valid-refused st 4 (omega arith))
 
-        by : (i : Into) → Leaves (style-of (st .command)) i → Valid (on-value-by st x i)
+        by : (i : Into) → Leaves (style-of (st .crlf) (st .command)) i → Valid (on-value-by st x i)
         by (into fresh) w =
             cond-case Valid (leb (st .len + 1 + 0) 512)
             (λ t. valid-line st 7 0 (st .size) (st .len + 1) refl (omega arith) (omega arith) f (omega (arith, leb-true (st .len + 1 + 0) 512 t)) (v .small) (omega arith) (λ q. refl) (λ e n. u e) refl) (λ t. valid-refused st _ (omega arith))
-        by (into back) w = begun 1 92 (omega arith) (begun-back (style-of (st .command)) w)
-        by (into (led y)) w = begun (missing y) y w (begun-led (style-of (st .command)) y w)
-        by (into (tails k)) w = begun k k (w .0) (begun-tails (style-of (st .command)) k (w .0) (w .1))
+        by (into back) w = begun 1 92 (omega arith) (begun-back (style-of (st .crlf) (st .command)) w)
+        by (into (led y)) w = begun (missing y) y w (begun-led (style-of (st .crlf) (st .command)) y w)
+        by (into (tails k)) w = begun k k (w .0) (begun-tails (style-of (st .crlf) (st .command)) k (w .0) (w .1))
         by (bad k) w = valid-refused st (numbered (faulty k)) (omega arith)
         by stop w = cond-case Valid (eqb x 58) (λ t. valid-refused st _ (omega arith)) (λ t. valid-line-read (st .sized) (st .size) f (v .small) (omega arith) u)
 
     valid-on-length : st .lines + 1 ≤ 32 → st .len ≤ 512 → st .at ≤ 13 + 514 * st .lines + st .len → Valid (on-length st x)
     unfolding on-length
-    valid-on-length f h l = by (reads (style-of (st .command)) in-value fresh x)
+    valid-on-length f h l = by (reads (style-of (st .crlf) (st .command)) in-value fresh x)
       where
         digit : (k : ℕ) → k ≤ 512 → st .len + 1 ≤ k → Valid (cond (grows st x) (in-line st 9 0 (st .size * 10 + digit-value x) (st .len + 1)) (invalid st 6))
         digit k hk hl =
@@ -278,9 +278,9 @@ module _ (st : Scan) (v : Valid st) where
     unfolding on-begin
     valid-on-begin f h l u =
         cond-case Valid (eqb x 10) (λ t. valid-begins st f (v .small) (omega arith) u)
-        (λ t. cond-case Valid (eqb x 13) (λ q. valid-head st 11 (st .lines) (st .sized) (st .size) refl (omega arith) (omega arith) refl f (v .small) (omega arith) u)
+        (λ t. cond-case Valid (eqb x 13 && st .crlf) (λ q. valid-head st 11 (st .lines) (st .sized) (st .size) refl (omega arith) (omega arith) refl f (v .small) (omega arith) u)
         (λ q. cond-case Valid (eqb x 58) (λ w. valid-refused st _ (omega arith))
-        (λ w. cond-case Valid (ltb (st .lines) 32) (λ k. valid-on-name 0 (omega (arith, ltb-true (st .lines) 32 k)) (omega arith) l u) (λ k. more (reads (style-of (st .command)) in-name fresh x)))))
+        (λ w. cond-case Valid (ltb (st .lines) 32) (λ k. valid-on-name 0 (omega (arith, ltb-true (st .lines) 32 k)) (omega arith) l u) (λ k. more (reads (style-of (st .crlf) (st .command)) in-name fresh x)))))
       where
         more : (i : Into) → Valid (on-more st i)
         more (into q) = valid-refused st _ (omega arith)
@@ -331,5 +331,5 @@ module _ (st : Scan) (v : Valid st) where
         at-phase p a b f g = cond-case Valid (eqb (st .phase) p) (λ t. let e = eqb-true (st .phase) p t in f e (known-at st p e v)) (λ t. g)
 
 -- before the first octet
-pub valid-nothing : Valid nothing-read
-valid-nothing = bare-valid 0 0 0 (omega arith) refl (omega arith) (λ e. (refl, refl)) (λ e. absurd (omega arith))
+pub valid-nothing : (w : Bool) → Valid (nothing-read w)
+valid-nothing w = bare-valid w 0 0 0 (omega arith) refl (omega arith) (λ e. (refl, refl)) (λ e. absurd (omega arith))

@@ -11,31 +11,50 @@ use lib.ListN.{take, drop}
 use Rattle.headers.specs.Rows.{All, octets-of}
 use Rattle.headers.specs.Block.{Entry}
 use Rattle.headers.specs.Answers.{accepted, find-answer}
-use Rattle.frames.specs.Grammar.{Tree, v1-2}
+use Rattle.frames.specs.Grammar.{Tree, v1-1, v1-2}
+use Rattle.frames.specs.Answers.{version-in, is-counted}
+use Rattle.frames.specs.declared.version.Version.{Version}
 use Rattle.frames.specs.Replies.{Reply, Complete, Incomplete, Invalid}
 use Rattle.frames.specs.Parsing.{parsed}
 use Rattle.frames.specs.Exactness.{Exact}
 use Rattle.frames.specs.Decoding.{decode-answer, decoded-records, tree-entries, Reading}
 use Rattle.frames.specs.Encoding.{Call, encode-answer, encode-image}
 
--- An example: its label, octets, and what parsing them replies. Where the documents say it, also the header block that
+-- An example: its label, the protocol version, octets, and what parsing them replies. Where the documents say it, also the header block that
 -- they decode to and its length; the images that the frame is encoded to again, not counted (false) or counted (true, C-16), and
 -- their lengths; a header's name, its value in the block and how many later entries have the name (C-19).
 pub record Example : Type 0 where
   pub label : String
+  pub version : Version
   pub input : List ℕ
   pub reply : Reply
   pub block : Option (ℕ × List ℕ)
   pub images : List (Bool × ℕ × List ℕ)
   pub looked-up : Option (List ℕ × List ℕ × ℕ)
 
--- an example of parsing alone; with a header's value too
+-- an example of parsing alone, in a version; with a header's value too
+abbrev parses-in : Version → String → List ℕ → Reply → Example
+parses-in ver label input reply =
+    record { label = label; version = ver; input = input; reply = reply; block = none; images = []; looked-up = none }
+
 abbrev parses : String → List ℕ → Reply → Example
-parses label input reply = record { label = label; input = input; reply = reply; block = none; images = []; looked-up = none }
+parses label input reply = parses-in v1-2 label input reply
+
+-- an example of version 1.1
+abbrev parses-1-1 : String → List ℕ → Reply → Example
+parses-1-1 label input reply = parses-in v1-1 label input reply
 
 abbrev with-octets : String → List ℕ → ℕ → Example → Example
 with-octets name value later e =
-    record { label = e .label; input = e .input; reply = e .reply; block = e .block; images = e .images; looked-up = some (octets-of name, value, later) }
+    record {
+      label = e .label;
+      version = e .version;
+      input = e .input;
+      reply = e .reply;
+      block = e .block;
+      images = e .images;
+      looked-up = some (octets-of name, value, later);
+    }
 
 abbrev finding : String → String → Example → Example
 finding name value e = with-octets name (octets-of value) 0 e
@@ -52,6 +71,7 @@ examples =
     parses "P5" (octets-of "SENT") (Invalid 1 3) ∷
     record {
       label = "P6";
+      version = v1-2;
       input = octets-of "SEND\ndestination:/p\n\nok\0";
       reply = Complete 2 24 12 1 21 2;
       block = some (19, 72 ∷ 68 ∷ 0 ∷ 11 ∷ 0 ∷ 2 ∷ octets-of "destination/p");
@@ -99,6 +119,33 @@ examples =
     parses "C-17, no character in a content-length" (octets-of "SEND\ncontent-length:" ++ (255 ∷ [])) (Invalid 11 20) ∷
     parses "C-17, a character in a content-length" (octets-of "SEND\ncontent-length:" ++ (195 ∷ [])) (Invalid 6 20) ∷
     parses "C-17, a body is not checked" (octets-of "SEND\n\n" ++ (255 ∷ 0 ∷ [])) (Complete 2 8 12 0 6 1) ∷
+    parses-1-1 "C-18, nothing" [] Incomplete ∷
+    parses-1-1 "C-18, a heart-beat" (octets-of "\n") (Complete 1 1 0 0 0 0) ∷
+    parses-1-1 "C-18, 13 first" (octets-of "\r") (Invalid 1 0) ∷
+    parses-1-1 "C-18, 13 10 is no heart-beat" (octets-of "\r\n") (Invalid 1 0) ∷
+    parses-1-1 "C-18, 13 after a command" (octets-of "ACK\r\n") (Invalid 1 3) ∷
+    parses-1-1 "C-18, an empty line with 13" (octets-of "ACK\n\r\n") (Invalid 9 5) ∷
+    parses-1-1 "C-18, 13 after the value of a content-length" (octets-of "SEND\ncontent-length:1\r\n") (Invalid 6 21) ∷
+    parses-1-1 "C-18, 13 after a backslash" (octets-of "ACK\nid:\\\r") (Invalid 10 8) ∷
+    parses-1-1 "C-18, the escape of 13" (octets-of "ACK\nid:a\\r") (Invalid 10 9) ∷
+    finding "id" "\n:\\" (parses-1-1 "C-18, the other escapes" (octets-of "ACK\nid:\\n\\c\\\\\n\n\0") (Complete 2 16 2 1 15 0)) ∷
+    finding "\r" "\r" (parses-1-1 "C-18, 13 alone as name and value" (octets-of "ACK\n\r:\r\n\n\0") (Complete 2 10 2 1 9 0)) ∷
+    finding "message-id" "7\r" (parses-1-1 "C-18, ACK by subscription and message-id"
+    (octets-of "ACK\nsubscription:0\nmessage-id:7\r\n\n\0") (Complete 2 35 2 2 34 0)) ∷
+    finding "passcode" "a:\r" (parses-1-1 "C-18, a colon and 13 in CONNECT" (octets-of "CONNECT\npasscode:a:\r\n\n\0") (Complete 2 23 5 1 22 0)) ∷
+    record {
+      label = "C-18, a raw 13 is written back";
+      version = v1-1;
+      input = octets-of "SEND\ndestination:/p\r\n\nok\0";
+      reply = Complete 2 25 12 1 22 2;
+      block = some (20, 72 ∷ 68 ∷ 0 ∷ 11 ∷ 0 ∷ 3 ∷ octets-of "destination/p\r");
+      images =
+          (false, 25, octets-of "SEND\ndestination:/p\r\n\nok\0") ∷
+          (true, 42, octets-of "SEND\ndestination:/p\r\ncontent-length:2\n\nok\0") ∷
+          [];
+      looked-up = none;
+    } ∷
+    parses "C-18, the same octets in version 1.2" (octets-of "SEND\ndestination:/p\r\n\nok\0") (Complete 2 25 12 1 22 2) ∷
     []
 
 -- ---- What an example claims
@@ -113,15 +160,15 @@ abbrev pub DecodesTo : Option (List Entry) → ℕ × List ℕ → Type 0
 DecodesTo es (n, xs) = (decode-answer n es ≡ accepted (n ∷ [])) × (decoded-records es ≡ xs)
 
 -- "Written again": encoding a call into n octets answers n, and the image is xs
-abbrev pub EncodesTo : Call → ℕ × List ℕ → Type 0
-EncodesTo k (n, xs) = (encode-answer v1-2 k n ≡ accepted (n ∷ [])) × (encode-image v1-2 k ≡ xs)
+abbrev pub EncodesTo : Version → Call → ℕ × List ℕ → Type 0
+EncodesTo ver k (n, xs) = (encode-answer ver k n ≡ accepted (n ∷ [])) × (encode-image ver k ≡ xs)
 
 -- the same of the call with the reply's command, the block, the body that the reply's numbers cut from the input, counted or not
-abbrev pub EncodesAgain : List ℕ → Reply → List ℕ → Bool × ℕ × List ℕ → Type 0
-EncodesAgain input (Complete kind used command headers start len) block (counted, n, xs) =
-    EncodesTo (record { command = command; block = block; body = take len (drop start input); counted = counted }) (n, xs)
-EncodesAgain input Incomplete block (counted, n, xs) = ⊥
-EncodesAgain input (Invalid number offset) block (counted, n, xs) = ⊥
+abbrev pub EncodesAgain : Version → List ℕ → Reply → List ℕ → Bool × ℕ × List ℕ → Type 0
+EncodesAgain ver input (Complete kind used command headers start len) block (counted, n, xs) =
+    EncodesTo ver (record { command = command; block = block; body = take len (drop start input); counted = counted }) (n, xs)
+EncodesAgain ver input Incomplete block (counted, n, xs) = ⊥
+EncodesAgain ver input (Invalid number offset) block (counted, n, xs) = ⊥
 
 -- looking the name up in the block gives the start and length of the value there
 abbrev pub Finds : List ℕ → List ℕ × List ℕ × ℕ → Type 0
@@ -131,10 +178,21 @@ Finds block (name, value, later) =
 -- Parsing the input gives the reply, the reply is exact, and of the input's parse tree holds what the example says further. Where the
 -- input is no item, tree is none.
 pub record Holds (e : Example) : Type 0 where
-  pub parses : parsed v1-2 (e .input) ≡ e .reply
-  pub exactly : Exact v1-2 (e .input) (e .reply)
+  pub parses : parsed (e .version) (e .input) ≡ e .reply
+  pub exactly : Exact (e .version) (e .input) (e .reply)
   pub tree : Option Tree
-  pub reading : Reading v1-2 (e .input) tree
-  pub decodes : Given (e .block) (DecodesTo (tree-entries v1-2 tree))
-  pub encodes : All (EncodesAgain (e .input) (e .reply) (decoded-records (tree-entries v1-2 tree))) (e .images)
-  pub finds : Given (e .looked-up) (Finds (decoded-records (tree-entries v1-2 tree)))
+  pub reading : Reading (e .version) (e .input) tree
+  pub decodes : Given (e .block) (DecodesTo (tree-entries (e .version) tree))
+  pub encodes : All (EncodesAgain (e .version) (e .input) (e .reply) (decoded-records (tree-entries (e .version) tree))) (e .images)
+  pub finds : Given (e .looked-up) (Finds (decoded-records (tree-entries (e .version) tree)))
+
+-- ---- The options of the calls for C
+
+-- The bit of value 1 asks for a length line (C-16), that of value 2 for version 1.1 (C-18); the others are not looked at.
+pub record Options : Type 0 where
+  pub none-set : (version-in 0 ≡ v1-2) × (is-counted 0 ≡ false)
+  pub counted-set : (version-in 1 ≡ v1-2) × (is-counted 1 ≡ true)
+  pub version-set : (version-in 2 ≡ v1-1) × (is-counted 2 ≡ false)
+  pub both-set : (version-in 3 ≡ v1-1) × (is-counted 3 ≡ true)
+  pub another-set : (version-in 4 ≡ v1-2) × (is-counted 4 ≡ false)
+  pub all-set : (version-in 4294967295 ≡ v1-1) × (is-counted 4294967295 ≡ true)

@@ -15,7 +15,8 @@ use Rattle.headers.specs.declared.text.Field.{Field}
 use Rattle.headers.specs.declared.text.Field.the-variants.{Name as in-name, Value as in-value}
 use Rattle.headers.specs.Numbers.{is-digit, decimal}
 use Rattle.headers.specs.Lines.{line-max}
-use Rattle.frames.specs.Grammar.{Version, word, style, most, Head, lines-max, declared}
+use Rattle.frames.specs.Grammar.{crlf, word, style, most, Head, lines-max, declared}
+use Rattle.frames.specs.declared.version.Version.{Version}
 use Rattle.frames.specs.Open.{Open, start, heart-beat-13, command, command-13, begin, name, value, line-13, blank-13, body, all, watched}
 
 -- a header line as far as it is read; no value before the colon
@@ -70,13 +71,13 @@ at-body (in-line l) f = false
 at-body (in-body h b) f = f h b
 
 -- The words of the table.
--- a line end, or the 13 that begins one
-abbrev pub ends : ℕ → Bool
-ends x = eqb x 10 || eqb x 13
+-- a line end, or, where line ends may have one, the 13 that begins one
+abbrev pub ends : Bool → ℕ → Bool
+ends w x = eqb x 10 || (eqb x 13 && w)
 
 -- the octets begin some command with the first octet of its line end
-unfoldable pub some-command : List ℕ → Bool
-some-command w = any (λ c. begins w (word c ++ (10 ∷ [])) || begins w (word c ++ (13 ∷ []))) all
+unfoldable pub some-command : Bool → List ℕ → Bool
+some-command cr w = any (λ c. begins w (word c ++ (10 ∷ [])) || (begins w (word c ++ (13 ∷ [])) && cr)) all
 
 abbrev pub before-colon : Option (List ℕ) → Bool
 before-colon none = true
@@ -98,12 +99,12 @@ abbrev pub reached : Begun → ℕ
 reached l = length (l .name) + value-octets (l .value)
 
 -- how the octet spoils a first content-length whose digits so far are v: not a digit; line end with no digit; value too large
-abbrev pub spoils : ℕ → List ℕ → ℕ → Bool
-spoils m v x = not (is-digit x || ends x) || (ends x && empty v) || (is-digit x && ltb m (decimal 0 (v ++ (x ∷ []))))
+abbrev pub spoils : Bool → ℕ → List ℕ → ℕ → Bool
+spoils w m v x = not (is-digit x || ends w x) || (ends w x && empty v) || (is-digit x && ltb m (decimal 0 (v ++ (x ∷ []))))
 
-abbrev pub spoils-value : Begun → ℕ → Option (List ℕ) → Bool
-spoils-value l x none = false
-spoils-value l x (some v) = watched (l .head) (l .name) && spoils (most (l .head .command)) v x
+abbrev pub spoils-value : Bool → Begun → ℕ → Option (List ℕ) → Bool
+spoils-value w l x none = false
+spoils-value w l x (some v) = watched (l .head) (l .name) && spoils w (most (l .head .command)) v x
 
 abbrev pub used-up : Option (List ℕ) → List ℕ → Bool
 used-up none b = false
@@ -147,7 +148,7 @@ module _ (ver : Version) where
   -- The table: the octet x, after what s has read, ..
   unfoldable pub fits : Open → ℕ → Reason → Bool
   -- 1: leaves no command, and is not the start of a beat; never after a 13
-  fits s x no-command = at-command (position s) (λ w. not (some-command (w ++ (x ∷ []))) && not (empty w && ends x))
+  fits s x no-command = at-command (position s) (λ w. not (some-command (crlf ver) (w ++ (x ∷ []))) && not (empty w && ends (crlf ver) x))
   -- 2: follows 13 and is not 10
   fits s x no-10 = at-13 (position s) (not (eqb x 10))
   -- 11: an octet that no character has there
@@ -159,13 +160,13 @@ module _ (ver : Version) where
   -- 8: second colon; not in CONNECT and CONNECTED, where "the first colon now divides, and later ones belong to the value" (C-12)
   fits s x second-colon = at-line (position s) (λ l. past-colon (l .value) && (eqb x 58 && divides (style ver (l .head .command)) in-value))
   -- 9: line end before the colon
-  fits s x no-colon = at-line (position s) (λ l. before-colon (l .value) && not (empty (l .name)) && ends x)
+  fits s x no-colon = at-line (position s) (λ l. before-colon (l .value) && not (empty (l .name)) && ends (crlf ver) x)
   -- 4: makes the line, with what it still owes, longer than 512
-  fits s x long-line = at-line (position s) (λ l. not (ends x) && ltb line-max (reached l + 1 + owed l x))
+  fits s x long-line = at-line (position s) (λ l. not (ends (crlf ver) x) && ltb line-max (reached l + 1 + owed l x))
   -- 5: begins a 33rd header line
-  fits s x many-lines = at-line (position s) (λ l. before-colon (l .value) && empty (l .name) && not (ends x) && leb lines-max (length (l .head .entries)))
+  fits s x many-lines = at-line (position s) (λ l. before-colon (l .value) && empty (l .name) && not (ends (crlf ver) x) && leb lines-max (length (l .head .entries)))
   -- 6: spoils the first content-length
-  fits s x bad-length = at-line (position s) (λ l. spoils-value l x (l .value))
+  fits s x bad-length = at-line (position s) (λ l. spoils-value (crlf ver) l x (l .value))
   -- 7: stands where only octet 0 can: empty body, 32,768 octets read, or content-length used up
   fits s x past-body = at-body (position s) (λ h b. not (eqb x 0) && (eqb (most (h .command)) 0 || leb 32768 (length b) || used-up (declared (h .entries)) b))
 

@@ -33,9 +33,9 @@ use Rattle.frames.specs.declared.state.Scan.{Scan}
 --     12 in a body without a length       13 in a body with one
 --     14 a heart-beat is read             15 a frame is read                  16 refused
 
--- what a command's number makes of header text, and its longest body
-abbrev pub style-of : ℕ → Style
-style-of c = record { escapes = not (eqb c 5 || eqb c 6) }
+-- what a command's number makes of header text where 13 begins a line end if w, and its longest body
+abbrev pub style-of : Bool → ℕ → Style
+style-of w c = record { escapes = not (eqb c 5 || eqb c 6); crlf = w }
 
 abbrev pub most-of : ℕ → ℕ
 most-of c = cond (eqb c 8 || eqb c 9 || eqb c 12) body-max 0
@@ -75,15 +75,51 @@ value-phase (tails n) = 8
 -- Where an octet leads. It is read, and the next stands at a phase; or it is refused.
 module _ (st : Scan) where
   abbrev pub to-phase : ℕ → ℕ → Scan
-  to-phase p c = record { phase = p; command = c; lines = 0; matched = 0; sized = false; size = 0; len = 0; at = st .at + 1; code = 0; rest = 0 }
+  to-phase p c = record {
+    phase = p;
+    command = c;
+    lines = 0;
+    matched = 0;
+    sized = false;
+    size = 0;
+    len = 0;
+    at = st .at + 1;
+    code = 0;
+    rest = 0;
+    crlf = st .crlf;
+  }
 
   -- in a head that has so many lines and that length
   abbrev pub in-head : ℕ → ℕ → Bool → ℕ → Scan
-  in-head p n z s = record { phase = p; command = st .command; lines = n; matched = 0; sized = z; size = s; len = 0; at = st .at + 1; code = 0; rest = 0 }
+  in-head p n z s = record {
+    phase = p;
+    command = st .command;
+    lines = n;
+    matched = 0;
+    sized = z;
+    size = s;
+    len = 0;
+    at = st .at + 1;
+    code = 0;
+    rest = 0;
+    crlf = st .crlf;
+  }
 
   -- in a line of that head, in a character that is read as far as r; or in a body
   abbrev pub in-part : ℕ → ℕ → ℕ → ℕ → ℕ → Scan
-  in-part p m s n r = record { phase = p; command = st .command; lines = st .lines; matched = m; sized = st .sized; size = s; len = n; at = st .at + 1; code = 0; rest = r }
+  in-part p m s n r = record {
+    phase = p;
+    command = st .command;
+    lines = st .lines;
+    matched = m;
+    sized = st .sized;
+    size = s;
+    len = n;
+    at = st .at + 1;
+    code = 0;
+    rest = r;
+    crlf = st .crlf;
+  }
 
   abbrev pub in-line : ℕ → ℕ → ℕ → ℕ → Scan
   in-line p m s n = in-part p m s n 0
@@ -92,10 +128,34 @@ module _ (st : Scan) where
   beat-read = to-phase 14 0
 
   abbrev pub frame-read : Scan
-  frame-read = record { phase = 15; command = st .command; lines = st .lines; matched = 0; sized = false; size = 0; len = st .len; at = st .at + 1; code = 0; rest = 0 }
+  frame-read = record {
+    phase = 15;
+    command = st .command;
+    lines = st .lines;
+    matched = 0;
+    sized = false;
+    size = 0;
+    len = st .len;
+    at = st .at + 1;
+    code = 0;
+    rest = 0;
+    crlf = st .crlf;
+  }
 
   abbrev pub invalid : ℕ → Scan
-  invalid k = record { phase = 16; command = 0; lines = 0; matched = 0; sized = false; size = 0; len = 0; at = st .at; code = k; rest = 0 }
+  invalid k = record {
+    phase = 16;
+    command = 0;
+    lines = 0;
+    matched = 0;
+    sized = false;
+    size = 0;
+    len = 0;
+    at = st .at;
+    code = k;
+    rest = 0;
+    crlf = st .crlf;
+  }
 
   -- the empty line is read
   abbrev pub body-begins : Scan
@@ -110,11 +170,11 @@ module _ (st : Scan) where
       let w = whole-command (st .command) (st .at) in
       cond (eqb c 0)
       (cond (eqb w 0) (invalid (numbered no-command))
-      (cond (eqb x 10) (to-phase 4 w) (cond (eqb x 13) (to-phase 3 w) (invalid (numbered no-command)))))
+      (cond (eqb x 10) (to-phase 4 w) (cond (eqb x 13 && st .crlf) (to-phase 3 w) (invalid (numbered no-command)))))
       (to-phase 2 c)
 
   unfoldable pub on-start : ℕ → Scan
-  on-start x = cond (eqb x 10) beat-read (cond (eqb x 13) (to-phase 1 0) (on-word x))
+  on-start x = cond (eqb x 10) beat-read (cond (eqb x 13 && st .crlf) (to-phase 1 0) (on-word x))
 
   -- the colon is read: a content-length begins, if none is declared yet, or another value
   abbrev pub value-begins : Scan
@@ -129,7 +189,7 @@ module _ (st : Scan) where
       (invalid (numbered no-colon))
 
   unfoldable pub on-name : Part → ℕ → Scan
-  on-name p x = on-name-by x (reads (style-of (st .command)) in-name p x)
+  on-name p x = on-name-by x (reads (style-of (st .crlf) (st .command)) in-name p x)
 
   -- a line more than there may be
   abbrev pub on-more : Into → Scan
@@ -140,9 +200,9 @@ module _ (st : Scan) where
   unfoldable pub on-begin : ℕ → Scan
   on-begin x =
       cond (eqb x 10) body-begins
-      (cond (eqb x 13) (in-head 11 (st .lines) (st .sized) (st .size))
+      (cond (eqb x 13 && st .crlf) (in-head 11 (st .lines) (st .sized) (st .size))
       (cond (eqb x 58) (invalid (numbered nameless))
-      (cond (ltb (st .lines) lines-max) (on-name fresh x) (on-more (reads (style-of (st .command)) in-name fresh x)))))
+      (cond (ltb (st .lines) lines-max) (on-name fresh x) (on-more (reads (style-of (st .crlf) (st .command)) in-name fresh x)))))
 
   -- An octet of a character of a line that has fewer than m octets, by what it does: where the character is whole the next stands at phase w,
   -- inside it at phase p; n octets of the name match.
@@ -158,7 +218,7 @@ module _ (st : Scan) where
   abbrev pub line-read : ℕ → Bool → ℕ → Scan
   line-read x z s =
       cond (eqb x 10) (in-head 4 (st .lines + 1) z s)
-      (cond (eqb x 13) (in-head 10 (st .lines + 1) z s) (invalid (numbered second-colon)))
+      (cond (eqb x 13 && st .crlf) (in-head 10 (st .lines + 1) z s) (invalid (numbered second-colon)))
 
   abbrev pub on-value-by : ℕ → Into → Scan
   on-value-by x (into p) = cond (leb (st .len + 1 + owes p) line-max) (in-part (value-phase p) 0 (st .size) (st .len + 1) (part-number p)) (invalid (numbered long-line))
@@ -166,7 +226,7 @@ module _ (st : Scan) where
   on-value-by x stop = cond (eqb x 58) (invalid (numbered second-colon)) (line-read x (st .sized) (st .size))
 
   unfoldable pub on-value : Part → ℕ → Scan
-  on-value p x = on-value-by x (reads (style-of (st .command)) in-value p x)
+  on-value p x = on-value-by x (reads (style-of (st .crlf) (st .command)) in-value p x)
 
   -- one digit more, while the number is not too large
   abbrev pub grows : ℕ → Bool
@@ -183,7 +243,7 @@ module _ (st : Scan) where
       (cond (eqb (st .len) 15) (invalid (numbered bad-length)) (line-read x true (st .size)))
 
   unfoldable pub on-length : ℕ → Scan
-  on-length x = on-length-by x (reads (style-of (st .command)) in-value fresh x)
+  on-length x = on-length-by x (reads (style-of (st .crlf) (st .command)) in-value fresh x)
 
   unfoldable pub on-body : ℕ → Scan
   on-body x =
@@ -196,11 +256,11 @@ module _ (st : Scan) where
       (cond (eqb x 0) frame-read (invalid (numbered past-body)))
 
 -- an octet that begins a line end; and one with which no name begins where a line would, or after the last line
-abbrev pub line-ends : ℕ → Bool
-line-ends x = eqb x 10 || eqb x 13
+abbrev pub line-ends : Scan → ℕ → Bool
+line-ends st x = eqb x 10 || (eqb x 13 && st .crlf)
 
 abbrev pub nameless-at : Scan → ℕ → Bool
-nameless-at st x = (eqb x 10 || eqb x 13) || (eqb x 58 || leb lines-max (st .lines))
+nameless-at st x = line-ends st x || (eqb x 58 || leb lines-max (st .lines))
 
 -- One octet, by the phase; the ends stay as they are.
 unfoldable pub scan-step : Scan → ℕ → Scan
@@ -224,9 +284,21 @@ abbrev pub scan : Scan → List ℕ → Scan
 scan st [] = st
 scan st (x ∷ xs) = scan (scan-step st x) xs
 
--- before the first octet
-abbrev pub nothing-read : Scan
-nothing-read = record { phase = 0; command = 0; lines = 0; matched = 0; sized = false; size = 0; len = 0; at = 0; code = 0; rest = 0 }
+-- before the first octet, where 13 begins a line end if w
+abbrev pub nothing-read : Bool → Scan
+nothing-read w = record {
+  phase = 0;
+  command = 0;
+  lines = 0;
+  matched = 0;
+  sized = false;
+  size = 0;
+  len = 0;
+  at = 0;
+  code = 0;
+  rest = 0;
+  crlf = w;
+}
 
 -- what a state replies
 abbrev pub scan-reply : Scan → Reply
@@ -279,22 +351,34 @@ pub record Valid (st : Scan) : Type 0 where
   pub clean-code : st .phase < 16 → st .code ≡ 0
   pub clean-match : 6 < st .phase → st .matched ≡ 0
   pub clean-rest : (st .phase ≡ 6 → ⊥) → (st .phase ≡ 8 → ⊥) → st .rest ≡ 0
-  pub under-way : eqb (st .phase) 6 || eqb (st .phase) 8 ≡ true → is-begun (style-of (st .command)) (st .rest) ≡ true
+  pub under-way : eqb (st .phase) 6 || eqb (st .phase) 8 ≡ true → is-begun (style-of (st .crlf) (st .command)) (st .rest) ≡ true
   pub clean-size : st .sized ≡ false → (st .phase ≡ 9 → ⊥) → st .size ≡ 0
   pub unsized : st .phase ≡ 12 → st .sized ≡ false
 
 -- ---- Plain stretches at a go
 
--- what ends a stretch of header text beside 10 and 13: a colon and a backslash, or 10 again in the place of one that does not
+-- what ends a stretch of header text beside 10: 13, a colon and a backslash, or 10 again in the place of one that does not
 abbrev pub text-stops : Style → Field → Stops
-text-stops s f = record { cr = 13; colon = cond (divides s f) 58 10; back = cond (s .escapes) 92 10; top = 127 }
+text-stops s f = record { cr = cond (s .crlf) 13 10; colon = cond (divides s f) 58 10; back = cond (s .escapes) 92 10; top = 127 }
 
 abbrev pub not-zero : ℕ → Bool
 not-zero x = not (eqb x 0)
 
 -- the state k octets on, in the same phase
 abbrev pub skip : ℕ → Scan → Scan
-skip k st = record { phase = st .phase; command = st .command; lines = st .lines; matched = st .matched; sized = st .sized; size = st .size; len = st .len + k; at = st .at + k; code = st .code; rest = st .rest }
+skip k st = record {
+  phase = st .phase;
+  command = st .command;
+  lines = st .lines;
+  matched = st .matched;
+  sized = st .sized;
+  size = st .size;
+  len = st .len + k;
+  at = st .at + k;
+  code = st .code;
+  rest = st .rest;
+  crlf = st .crlf;
+}
 
 -- k octets of xs from i on can be passed at a go
 pub record Ahead (xs : List ℕ) (i : ℕ) (st : Scan) (k : ℕ) : Type 0 where

@@ -44,7 +44,7 @@ module _ (st : Scan) where
       && (st .sized || (eqb (st .phase) 9 || eqb (st .size) 0))
       && (not (eqb (st .phase) 12) || not (st .sized))
       && (eqb (st .phase) 6 || (eqb (st .phase) 8 || eqb (st .rest) 0))
-      && (not (eqb (st .phase) 6 || eqb (st .phase) 8) || is-begun (style-of (st .command)) (st .rest))
+      && (not (eqb (st .phase) 6 || eqb (st .phase) 8) || is-begun (style-of (st .crlf) (st .command)) (st .rest))
 
   unfoldable pub is-valid : Bool
   is-valid = is-small && is-so-far && is-clean

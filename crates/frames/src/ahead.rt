@@ -1,6 +1,6 @@
 // Plain stretches: how many octets header text or a body takes as they stand.
 ghost use mathlib.Core.Path.{_≡_};
-ghost use mathlib.Core.Bool.{true, _&&_};
+ghost use mathlib.Core.Bool.{true, cond, _&&_};
 ghost use Prim.Native.Nat.{ℕ, _+_, _≤_, _<_};
 ghost use lib.ListN.{length, take, drop};
 ghost use Rattle.headers.specs.Rows.{every};
@@ -12,22 +12,21 @@ use crate::state::Scan;
 use headers::Stops;
 use headers::Style;
 
+// An octet that ends a stretch, or 10, which ends every one, where it does not.
+pub(crate) fn or_10(ends: bool, x: u8) -> u8
+    ensures { λ r. ⌜ r ≡ cond ends x 10 ⌝ }
+{
+    if ends { x } else { 10 }
+}
+
 // The octets that end a stretch of a name.
 pub(crate) fn name_stops(style: Style) -> Stops
     ensures { λ r. ⌜ r ≡ text-stops style Name ⌝ }
 {
-    if style.escapes {
-        return Stops {
-            cr: 13,
-            colon: 58,
-            back: 92,
-            top: 127,
-        };
-    }
     Stops {
-        cr: 13,
+        cr: or_10(style.crlf, 13),
         colon: 58,
-        back: 10,
+        back: or_10(style.escapes, 92),
         top: 127,
     }
 }
@@ -36,18 +35,10 @@ pub(crate) fn name_stops(style: Style) -> Stops
 fn value_stops(style: Style) -> Stops
     ensures { λ r. ⌜ r ≡ text-stops style Value ⌝ }
 {
-    if style.escapes {
-        return Stops {
-            cr: 13,
-            colon: 58,
-            back: 92,
-            top: 127,
-        };
-    }
     Stops {
-        cr: 13,
-        colon: 10,
-        back: 10,
+        cr: or_10(style.crlf, 13),
+        colon: or_10(style.escapes, 58),
+        back: or_10(style.escapes, 92),
         top: 127,
     }
 }
@@ -210,16 +201,16 @@ fn beyond_plain(s: &[u8], style: Style) -> usize
 
 // Whether text that has these stops takes the octet as it is.
 fn is_plain(stops: Stops, x: u8) -> bool
-    requires { ⌜ (stops .cr ≡ 13) × (stops .top ≡ 127) ⌝ }
+    requires { ⌜ stops .top ≡ 127 ⌝ }
     ensures { λ r. ⌜ r ≡ plain-in stops x ⌝ }
 {
-    !((x == 10) | (x == 13) | (x == stops.colon) | (x == stops.back)) & (x <= 127)
+    !((x == 10) | (x == stops.cr) | (x == stops.colon) | (x == stops.back)) & (x <= 127)
 }
 
 // How many octets at the front of s text takes as they stand, where its stops leave calm octets below 128: by blocks up to an octet that
 // may be a stop, then that one by itself.
 pub(crate) fn text_span(s: &[u8], stops: Stops) -> usize
-    requires { ⌜ (stops .cr ≡ 13) × (stops .top ≡ 127) × ((x : ℕ) → calm 127 x ≡ true → plain-in stops x ≡ true) ⌝ }
+    requires { ⌜ (stops .top ≡ 127) × ((x : ℕ) → calm 127 x ≡ true → plain-in stops x ≡ true) ⌝ }
     ensures { λ r. ⌜ r ≡ span (plain-in stops) (now (s .entry)) ⌝ }
 {
     let mut i = 0usize;
@@ -241,7 +232,7 @@ pub(crate) fn value_span(s: &[u8], i: usize, st: Scan) -> usize
     requires { ⌜ (i ≤ length (now s)) × Valid st × (st .phase ≡ 7) ⌝ }
     ensures { λ r. ⌜ Ahead (now (s .entry)) i st r ⌝ }
 {
-    let style = crate::word::style_of(st.command);
+    let style = crate::word::style_of(st.crlf, st.command);
     let stops = value_stops(style);
     let e = upto(i, crate::limits::LINE - st.len, s.len());
     let mut j = i + text_span(&s[i..e], stops);
@@ -272,5 +263,6 @@ pub(crate) fn skip(st: Scan, k: usize) -> Scan
         at: st.at + k,
         code: st.code,
         rest: st.rest,
+        crlf: st.crlf,
     }
 }

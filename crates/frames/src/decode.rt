@@ -6,11 +6,11 @@ ghost use Rattle.headers.specs.Rows.{All};
 ghost use Rattle.headers.specs.Stretches.{Stretch};
 ghost use Rattle.headers.specs.Block.{image, Short};
 ghost use Rattle.headers.specs.Answers.{left-in, Puts, written-record, decoded-answer, record-says};
-ghost use Rattle.frames.specs.Grammar.{v1-2};
 ghost use Rattle.frames.specs.Layout.{front-lines};
 ghost use Rattle.frames.specs.Decoding.{line-entries, Decodes};
 ghost use Rattle.frames.specs.Answers.{decoded-says};
 use crate::parse::Parsed;
+use crate::version::Version;
 use headers::Known;
 use headers::RecordWritten;
 use headers::Style;
@@ -29,16 +29,16 @@ impl Decoded {
     pub const TOO_SHORT: u64 = 21;
 }
 
-// How many octets the records of the n header lines from a place of s on have.
-fn measure(s: &[u8], from: usize, n: usize, style: Style) -> usize
+// How many octets the records of the n header lines from a place of s on have; cr is the octet that ends text there beside 10.
+fn measure(s: &[u8], from: usize, n: usize, cr: u8, style: Style) -> usize
     requires { ⌜ (from ≤ length (now s)) × (n ≤ 32) ⌝ }
-    ensures { λ r. ⌜ r ≡ length (image (line-entries style (front-lines n (drop from (now (s .entry)))))) ⌝ }
+    ensures { λ r. ⌜ r ≡ length (image (line-entries style (front-lines cr n (drop from (now (s .entry)))))) ⌝ }
 {
     let mut total = 0usize;
     let mut at = from;
     let mut i = 0usize;
     while i < n {
-        let l = crate::layout::line_at(s, at);
+        let l = crate::layout::line_at(s, at, cr);
         let colon = l.colon;
         let value = l.value;
         let end = l.end;
@@ -70,21 +70,21 @@ fn write_line_record(
 }
 
 // Those records at the front of the block: their octets. Each is written by a call that is given the part of the block that is left.
-fn put_records(s: &[u8], from: usize, n: usize, style: Style, block: &mut [u8]) -> usize
+fn put_records(s: &[u8], from: usize, n: usize, cr: u8, style: Style, block: &mut [u8]) -> usize
     requires { ⌜
         (from ≤ length (now s))
-        × (length (image (line-entries style (front-lines n (drop from (now s))))) ≤ length (now block))
-        × All Short (line-entries style (front-lines n (drop from (now s))))
+        × (length (image (line-entries style (front-lines cr n (drop from (now s))))) ≤ length (now block))
+        × All Short (line-entries style (front-lines cr n (drop from (now s))))
         ⌝ }
     ensures { λ r. ⌜
-        Puts (image (line-entries style (front-lines n (drop from (now (s .entry)))))) r (now (block .entry)) (now (block .exit))
+        Puts (image (line-entries style (front-lines cr n (drop from (now (s .entry)))))) r (now (block .entry)) (now (block .exit))
         ⌝ }
 {
     let mut used = 0usize;
     let mut at = from;
     let mut i = 0usize;
     while i < n {
-        let l = crate::layout::line_at(s, at);
+        let l = crate::layout::line_at(s, at, cr);
         let colon = l.colon;
         let value = l.value;
         let end = l.end;
@@ -104,12 +104,12 @@ fn put_records(s: &[u8], from: usize, n: usize, style: Style, block: &mut [u8]) 
     used
 }
 
-// The entries of exactly one frame, decoded, as records at the front of the block. Every refusal is settled before the first octet
+// The entries of exactly one frame of a protocol version, decoded, as records at the front of the block. Every refusal is settled before the first octet
 // is written: 16,544 octets hold the records of any frame, and only a shorter block is measured against them.
-pub fn decode(frame: &[u8], block: &mut [u8]) -> Decoded
-    ensures { λ r. ⌜ Decodes v1-2 (now (frame .entry)) (now (block .entry)) (decoded-says r) (now (block .exit)) ⌝ }
+pub fn decode(version: Version, frame: &[u8], block: &mut [u8]) -> Decoded
+    ensures { λ r. ⌜ Decodes version (now (frame .entry)) (now (block .entry)) (decoded-says r) (now (block .exit)) ⌝ }
 {
-    let Parsed::Complete(item) = crate::parse::parse(frame) else {
+    let Parsed::Complete(item) = crate::parse::parse(version, frame) else {
         return Decoded::NotFrame;
     };
     if item.kind == 1 {
@@ -118,13 +118,15 @@ pub fn decode(frame: &[u8], block: &mut [u8]) -> Decoded
     if item.len != frame.len() {
         return Decoded::NotFrame;
     }
-    let style = crate::word::style_of(item.command);
-    let from = crate::layout::first_line(frame);
+    let crlf = crate::version::has_crlf(version);
+    let style = crate::word::style_of(crlf, item.command);
+    let cr = crate::ahead::or_10(crlf, 13);
+    let from = crate::layout::first_line(frame, cr);
     if crate::limits::BLOCK <= block.len() {
-        return Decoded::Length(put_records(frame, from, item.headers, style, block));
+        return Decoded::Length(put_records(frame, from, item.headers, cr, style, block));
     }
-    if block.len() < measure(frame, from, item.headers, style) {
+    if block.len() < measure(frame, from, item.headers, cr, style) {
         return Decoded::TooShort;
     }
-    Decoded::Length(put_records(frame, from, item.headers, style, block))
+    Decoded::Length(put_records(frame, from, item.headers, cr, style, block))
 }

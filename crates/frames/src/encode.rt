@@ -9,11 +9,12 @@ ghost use Rattle.headers.specs.Numbers.{decimal, is-amount};
 ghost use Rattle.headers.specs.Block.{entries, listed};
 ghost use Rattle.headers.specs.Stretches.{unescaped};
 ghost use Rattle.headers.specs.Answers.{is-block};
-ghost use Rattle.frames.specs.Grammar.{v1-2};
+ghost use Rattle.frames.specs.Grammar.{crlf};
 ghost use Rattle.frames.specs.Encoding.{written-lines, Encodes};
 ghost use Rattle.frames.specs.Scanning.{style-of};
 ghost use Rattle.frames.specs.Writing.{Told, Sums, Settles, lengths-of};
 ghost use Rattle.frames.specs.Answers.{encoded-says};
+use crate::version::Version;
 use headers::DecimalRead;
 use headers::DecimalWritten;
 use headers::EntryAt;
@@ -176,6 +177,7 @@ fn is_plain(sums: Totals, block: usize) -> bool
 // The answer of a call whose command is known and whose block is well formed: each refusal from 52 on in its order, or the image's
 // length, and then the entries are few and all of them can be written.
 fn answer_of(
+    version: Version,
     command: u32,
     block: &[u8],
     declared: Declared,
@@ -188,10 +190,10 @@ fn answer_of(
         Told (now block) declared
         × (is-block (now block) ≡ true)
         × ((eqb command 0 || ltb 15 command) ≡ false)
-        × Sums (style-of command) (listed (entries (now block))) sums
+        × Sums (style-of (crlf version) command) (listed (entries (now block))) sums
         ⌝ }
     ensures { λ r. ⌜
-        Settles command (now (block .entry)) (now (body .entry)) adds room (encoded-says r)
+        Settles version command (now (block .entry)) (now (body .entry)) adds room (encoded-says r)
         × ((n : ℕ) → r ≡ Encoded.Length n → (length (listed (entries (now (block .entry)))) ≤ 32) × (sums .count ≤ sums .good))
         ⌝ }
 {
@@ -221,6 +223,7 @@ fn answer_of(
 
 // The answer, and, where it is a length, how the lines are to be written.
 fn settle(
+    version: Version,
     command: u32,
     block: &[u8],
     declared: Declared,
@@ -230,9 +233,10 @@ fn settle(
 ) -> Settled
     requires { ⌜ Told (now block) declared ⌝ }
     ensures { λ r. ⌜
-        Settles command (now (block .entry)) (now (body .entry)) adds room (encoded-says (r .answer))
+        Settles version command (now (block .entry)) (now (body .entry)) adds room (encoded-says (r .answer))
         × ((n : ℕ) → r .answer ≡ Encoded.Length n → r .plain ≡ true
-        → written-lines (style-of command) (listed (entries (now (block .entry)))) ≡ written-lines unescaped (listed (entries (now (block .entry)))))
+        → written-lines (style-of (crlf version) command) (listed (entries (now (block .entry))))
+        ≡ written-lines unescaped (listed (entries (now (block .entry)))))
         ⌝ }
 {
     if (command == 0) | (15 < command) {
@@ -247,26 +251,34 @@ fn settle(
             plain: false,
         };
     }
-    let s = sum(block, crate::word::style_of(command));
+    let style = crate::word::style_of(crate::version::has_crlf(version), command);
+    let s = sum(block, style);
     Settled {
-        answer: answer_of(command, block, declared, s, adds, body, room),
+        answer: answer_of(version, command, block, declared, s, adds, body, room),
         plain: is_plain(s, block.len()),
     }
 }
 
-// The octets of a frame at the front of the target; counted asks for a length line, which is added without it only where the body holds
+// The octets of a frame, in a protocol version, at the front of the target; counted asks for a length line, which is added without it only where the body holds
 // octet 0. Every refusal is settled before the first octet is written.
-pub fn encode(command: u32, block: &[u8], body: &[u8], target: &mut [u8], counted: bool) -> Encoded
-    ensures { λ r. ⌜ Encodes v1-2
+pub fn encode(
+    version: Version,
+    command: u32,
+    block: &[u8],
+    body: &[u8],
+    target: &mut [u8],
+    counted: bool,
+) -> Encoded
+    ensures { λ r. ⌜ Encodes version
         (record { command = command; block = now (block .entry); body = now (body .entry); counted = counted })
         (now (target .entry)) (encoded-says r) (now (target .exit)) ⌝ }
 {
     let declared = declared_length(block);
     let adds = adds_length(declared, body, counted);
-    let settled = settle(command, block, declared, adds, body, target.len());
+    let settled = settle(version, command, block, declared, adds, body, target.len());
     let answer = settled.answer;
     if let Encoded::Length(n) = answer {
-        crate::put::put_frame(target, command, block, adds, body, settled.plain);
+        crate::put::put_frame(target, version, command, block, adds, body, settled.plain);
     }
     answer
 }

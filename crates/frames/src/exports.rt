@@ -7,7 +7,7 @@ ghost use Rattle.frames.specs.Parsing.{parsed};
 ghost use Rattle.frames.specs.Exactness.{Exact};
 ghost use Rattle.headers.specs.Answers.{find-answer};
 ghost use Rattle.frames.specs.Answers.{parsed-says, packed, unpacked, SmallFrame, packed-decode, unpacked-decode};
-ghost use Rattle.frames.specs.Answers.{packed-encode, unpacked-encode, is-counted, packed-find, unpacked-find};
+ghost use Rattle.frames.specs.Answers.{version-in, packed-encode, unpacked-encode, is-counted, packed-find, unpacked-find};
 ghost use Rattle.frames.specs.Answers.{place-alone, later-alone, packed-later, unpacked-later};
 ghost use Rattle.frames.specs.Decoding.{Decodes};
 ghost use Rattle.frames.specs.Encoding.{Encodes};
@@ -16,6 +16,7 @@ use crate::encode::Encoded;
 use crate::parse::Item;
 use crate::parse::Parsed;
 use crate::parse::Refusal;
+use crate::version::Version;
 use headers::Found;
 
 // A refusal of decode or encode is this many times its number: no length is as large.
@@ -45,7 +46,34 @@ fn pack_refusal(r: Refusal) -> u64
     3 + 4 * ((r.code as u64) + 256 * (r.offset as u64))
 }
 
-// What parse replies, in one number; its fields read back.
+// What parse replies in a version, in one number; its fields read back.
+fn parse_packed(version: Version, octets: &[u8]) -> u64
+    ensures { λ r. ⌜
+        (r ≡ packed (parsed version (now (octets .entry))))
+        × (unpacked r ≡ parsed version (now (octets .entry)))
+        × Exact version (now (octets .entry)) (unpacked r)
+        ⌝ }
+{
+    match crate::parse::parse(version, octets) {
+        Parsed::Complete(i) => pack_item(i),
+        Parsed::Incomplete => 0,
+        Parsed::Invalid(r) => pack_refusal(r),
+    }
+}
+
+// The same in the version that the options ask for.
+#[no_mangle]
+pub extern "C" fn stomp_parse_with(options: u32, octets: &[u8]) -> u64
+    ensures { λ r. ⌜
+        (r ≡ packed (parsed (version-in options) (now (octets .entry))))
+        × (unpacked r ≡ parsed (version-in options) (now (octets .entry)))
+        × Exact (version-in options) (now (octets .entry)) (unpacked r)
+        ⌝ }
+{
+    parse_packed(crate::version::of_options(options), octets)
+}
+
+// The same in version 1.2.
 #[no_mangle]
 pub extern "C" fn stomp_parse(octets: &[u8]) -> u64
     ensures { λ r. ⌜
@@ -54,11 +82,7 @@ pub extern "C" fn stomp_parse(octets: &[u8]) -> u64
         × Exact v1-2 (now (octets .entry)) (unpacked r)
         ⌝ }
 {
-    match crate::parse::parse(octets) {
-        Parsed::Complete(i) => pack_item(i),
-        Parsed::Incomplete => 0,
-        Parsed::Invalid(r) => pack_refusal(r),
-    }
+    parse_packed(Version::V12, octets)
 }
 
 // What find answers, in one number; it reads back with the block and the name.
@@ -91,7 +115,32 @@ pub extern "C" fn stomp_later(block: &[u8], name: &[u8]) -> u64
     }
 }
 
-// What decode answers, in one number: what is read back of it is the answer, and its content of the block is decode's.
+// What decode answers in a version, in one number: what is read back of it is the answer, and its content of the block is decode's.
+fn decode_packed(version: Version, frame: &[u8], block: &mut [u8]) -> u64
+    ensures { λ r. ⌜
+        Decodes version (now (frame .entry)) (now (block .entry)) (unpacked-decode r) (now (block .exit))
+        × (r ≡ packed-decode (unpacked-decode r))
+        ⌝ }
+{
+    match crate::decode::decode(version, frame, block) {
+        Decoded::Length(n) => n as u64,
+        Decoded::NotFrame => REFUSED * Decoded::NOT_FRAME,
+        Decoded::TooShort => REFUSED * Decoded::TOO_SHORT,
+    }
+}
+
+// The same in the version that the options ask for.
+#[no_mangle]
+pub extern "C" fn stomp_decode_with(options: u32, frame: &[u8], block: &mut [u8]) -> u64
+    ensures { λ r. ⌜
+        Decodes (version-in options) (now (frame .entry)) (now (block .entry)) (unpacked-decode r) (now (block .exit))
+        × (r ≡ packed-decode (unpacked-decode r))
+        ⌝ }
+{
+    decode_packed(crate::version::of_options(options), frame, block)
+}
+
+// The same in version 1.2.
 #[no_mangle]
 pub extern "C" fn stomp_decode(frame: &[u8], block: &mut [u8]) -> u64
     ensures { λ r. ⌜
@@ -99,15 +148,11 @@ pub extern "C" fn stomp_decode(frame: &[u8], block: &mut [u8]) -> u64
         × (r ≡ packed-decode (unpacked-decode r))
         ⌝ }
 {
-    match crate::decode::decode(frame, block) {
-        Decoded::Length(n) => n as u64,
-        Decoded::NotFrame => REFUSED * Decoded::NOT_FRAME,
-        Decoded::TooShort => REFUSED * Decoded::TOO_SHORT,
-    }
+    decode_packed(Version::V12, frame, block)
 }
 
 // What encode answers, in one number; it reads back, and the target is as encode leaves it. The lowest bit of the options asks for a
-// length line; the others are not looked at.
+// length line, the next for version 1.1; the others are not looked at.
 #[no_mangle]
 pub extern "C" fn stomp_encode_with(
     options: u32,
@@ -117,13 +162,20 @@ pub extern "C" fn stomp_encode_with(
     target: &mut [u8],
 ) -> u64
     ensures { λ r. ⌜
-        Encodes v1-2
+        Encodes (version-in options)
         (record { command = command; block = now (block .entry); body = now (body .entry); counted = is-counted options })
         (now (target .entry)) (unpacked-encode r) (now (target .exit))
         × (r ≡ packed-encode (unpacked-encode r))
         ⌝ }
 {
-    match crate::encode::encode(command, block, body, target, options % 2 == COUNTED) {
+    match crate::encode::encode(
+        crate::version::of_options(options),
+        command,
+        block,
+        body,
+        target,
+        options % 2 == COUNTED,
+    ) {
         Encoded::Length(n) => n as u64,
         Encoded::UnknownCommand => REFUSED * Encoded::UNKNOWN_COMMAND,
         Encoded::Malformed => REFUSED * Encoded::MALFORMED,

@@ -124,7 +124,7 @@ pub(crate) fn on_name(st: Scan, x: u8) -> Scan
     requires { ⌜ Bounded st ⌝ }
     ensures { λ r. ⌜ r ≡ on-name st fresh x ⌝ }
 {
-    let style = style_of(st.command);
+    let style = style_of(st.crlf, st.command);
     if headers::is_stop(style, Field::Name, x) {
         if x != 58 {
             return refused(st, Refusal::NO_COLON);
@@ -152,11 +152,11 @@ pub(crate) fn on_name(st: Scan, x: u8) -> Scan
 // An octet after a backslash: one more where it is the letter of an escape.
 fn on_back(st: Scan, most: usize, phase: u8, matched: usize, x: u8) -> Scan
     requires { ⌜ Bounded st ⌝ }
-    ensures { λ r. ⌜ r ≡ cond (is-letter (style-of (st .command)) x)
+    ensures { λ r. ⌜ r ≡ cond (is-letter (style-of (st .crlf) (st .command)) x)
         (cond (ltb (st .len) most) (in-line st phase matched (st .size) (st .len + 1)) (invalid st (numbered long-line)))
         (cond (starts x) (invalid st (numbered wrong-escape)) (invalid st (numbered not-utf8))) ⌝ }
 {
-    if headers::is_letter(style_of(st.command), x) {
+    if headers::is_letter(style_of(st.crlf, st.command), x) {
         return grow(st, most, phase, matched);
     }
     if begins_character(x) {
@@ -215,7 +215,7 @@ pub(crate) fn on_value_part(st: Scan, x: u8) -> Scan
 pub(crate) fn is_nameless(st: Scan, x: u8) -> bool
     ensures { λ r. ⌜ r ≡ nameless-at st x ⌝ }
 {
-    ((x == 10) | (x == 13)) | ((x == 58) | (limits::LINES <= st.lines))
+    ((x == 10) | ((x == 13) & st.crlf)) | ((x == 58) | (limits::LINES <= st.lines))
 }
 
 // An octet that begins no name where a line would begin.
@@ -226,7 +226,7 @@ pub(crate) fn on_begin(st: Scan, x: u8) -> Scan
     if x == 10 {
         return body_begins(st);
     }
-    if x == 13 {
+    if (x == 13) & st.crlf {
         return in_head(st, Scan::BLANK_CR, st.lines, st.sized, st.size);
     }
     if x == 58 {
@@ -246,7 +246,7 @@ fn line_read(st: Scan, x: u8, sized: bool, size: usize) -> Scan
     if x == 10 {
         return in_head(st, Scan::LINE_START, st.lines + 1, sized, size);
     }
-    if x == 13 {
+    if (x == 13) & st.crlf {
         return in_head(st, Scan::LINE_CR, st.lines + 1, sized, size);
     }
     refused(st, Refusal::SECOND_COLON)
@@ -256,7 +256,7 @@ pub(crate) fn on_value(st: Scan, x: u8) -> Scan
     requires { ⌜ Bounded st ⌝ }
     ensures { λ r. ⌜ r ≡ on-value st fresh x ⌝ }
 {
-    let style = style_of(st.command);
+    let style = style_of(st.crlf, st.command);
     if headers::is_stop(style, Field::Value, x) {
         if x == 58 {
             return refused(st, Refusal::SECOND_COLON);
@@ -294,7 +294,7 @@ pub(crate) fn on_length(st: Scan, x: u8) -> Scan
     requires { ⌜ Bounded st ⌝ }
     ensures { λ r. ⌜ r ≡ on-length st x ⌝ }
 {
-    let style = style_of(st.command);
+    let style = style_of(st.crlf, st.command);
     if headers::is_stop(style, Field::Value, x) {
         if x == 58 {
             return refused(st, Refusal::SECOND_COLON);

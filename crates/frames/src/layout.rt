@@ -31,16 +31,16 @@ fn on(i: usize, k: usize, n: usize) -> usize
     if n - i < k { n } else { i + k }
 }
 
-// The place of the first 10, 13 or colon from i on, or the end; 10 for the colon where it does not count.
-fn stop_at(s: &[u8], i: usize, colon: u8) -> usize
+// The place of the first 10, cr or colon from i on, or the end; 10 in the place of one that does not count.
+fn stop_at(s: &[u8], i: usize, cr: u8, colon: u8) -> usize
     requires { ⌜ i ≤ length (now s) ⌝ }
-    ensures { λ r. ⌜ (r ≡ i + stop-span colon (drop i (now (s .entry)))) × (r ≤ length (now (s .entry))) ⌝ }
+    ensures { λ r. ⌜ (r ≡ i + stop-span cr colon (drop i (now (s .entry)))) × (r ≤ length (now (s .entry))) ⌝ }
 {
     i
         + headers::plain_span(
             &s[i..],
             Stops {
-                cr: 13,
+                cr,
                 colon,
                 back: 10,
                 top: 255,
@@ -49,18 +49,18 @@ fn stop_at(s: &[u8], i: usize, colon: u8) -> usize
 }
 
 // The same, and how far the text goes without a backslash: one search finds the end of a text without one, and a text that has one is searched on.
-fn text_end(s: &[u8], i: usize, colon: u8) -> TextEnd
+fn text_end(s: &[u8], i: usize, cr: u8, colon: u8) -> TextEnd
     requires { ⌜ i ≤ length (now s) ⌝ }
     ensures { λ r. ⌜
-        (r .at ≡ i + stop-span colon (drop i (now (s .entry))))
+        (r .at ≡ i + stop-span cr colon (drop i (now (s .entry))))
         × (r .at ≤ length (now (s .entry)))
-        × Stretch (take (stop-span colon (drop i (now (s .entry)))) (drop i (now (s .entry)))) (r .known)
+        × Stretch (take (stop-span cr colon (drop i (now (s .entry)))) (drop i (now (s .entry)))) (r .known)
         ⌝ }
 {
     let known = headers::plain_span(
         &s[i..],
         Stops {
-            cr: 13,
+            cr,
             colon,
             back: 92,
             top: 255,
@@ -72,7 +72,7 @@ fn text_end(s: &[u8], i: usize, colon: u8) -> TextEnd
     }
     if s[stop] == 92 {
         return TextEnd {
-            at: stop_at(s, stop, colon),
+            at: stop_at(s, stop, cr, colon),
             known,
         };
     }
@@ -93,27 +93,27 @@ fn behind_end(s: &[u8], i: usize) -> usize
 }
 
 // Where the header lines begin: behind the line of the command.
-pub(crate) fn first_line(s: &[u8]) -> usize
-    ensures { λ r. ⌜ (r ≤ length (now (s .entry))) × (drop r (now (s .entry)) ≡ behind-word (now (s .entry))) ⌝ }
+pub(crate) fn first_line(s: &[u8], cr: u8) -> usize
+    ensures { λ r. ⌜ (r ≤ length (now (s .entry))) × (drop r (now (s .entry)) ≡ behind-word cr (now (s .entry))) ⌝ }
 {
-    behind_end(s, stop_at(s, 0, 10))
+    behind_end(s, stop_at(s, 0, cr, 10))
 }
 
 // The parts of the header line at i.
-pub(crate) fn line_at(s: &[u8], i: usize) -> LineAt
+pub(crate) fn line_at(s: &[u8], i: usize, cr: u8) -> LineAt
     requires { ⌜ i ≤ length (now s) ⌝ }
     ensures { λ r. ⌜
         ((i ≤ r .colon) × (r .colon ≤ r .value) × (r .value ≤ r .end) × (r .end ≤ r .next) × (r .next ≤ length (now (s .entry))))
-        × (take (r .colon - i) (drop i (now (s .entry))) ≡ front-name (drop i (now (s .entry))))
-        × (take (r .end - r .value) (drop (r .value) (now (s .entry))) ≡ front-value (drop i (now (s .entry))))
-        × (drop (r .next) (now (s .entry)) ≡ behind-line (drop i (now (s .entry))))
-        × Stretch (front-name (drop i (now (s .entry)))) (r .known .name)
-        × Stretch (front-value (drop i (now (s .entry)))) (r .known .value)
+        × (take (r .colon - i) (drop i (now (s .entry))) ≡ front-name cr (drop i (now (s .entry))))
+        × (take (r .end - r .value) (drop (r .value) (now (s .entry))) ≡ front-value cr (drop i (now (s .entry))))
+        × (drop (r .next) (now (s .entry)) ≡ behind-line cr (drop i (now (s .entry))))
+        × Stretch (front-name cr (drop i (now (s .entry)))) (r .known .name)
+        × Stretch (front-value cr (drop i (now (s .entry)))) (r .known .value)
         ⌝ }
 {
-    let name = text_end(s, i, 58);
+    let name = text_end(s, i, cr, 58);
     let value = on(name.at, 1, s.len());
-    let text = text_end(s, value, 10);
+    let text = text_end(s, value, cr, 10);
     LineAt {
         colon: name.at,
         value,

@@ -1,5 +1,6 @@
 // Frames: the grammar of items, parsing, decoding and encoding.
 pub mod limits; // the sizes of frames
+pub mod version; // the protocol versions
 mod word; // the words of commands, and what a command asks
 mod state; // what of an item has been read, in numbers
 mod head; // the octets of a head

@@ -1,12 +1,12 @@
 // Parsing: the reply to any octets.
 ghost use mathlib.Core.Path.{_≡_};
 ghost use Prim.Native.Nat.{_-_};
-ghost use Rattle.frames.specs.Grammar.{v1-2};
 ghost use Rattle.frames.specs.Parsing.{parsed};
 ghost use Rattle.frames.specs.Scanning.{scan-reply};
 ghost use Rattle.frames.specs.Exactness.{Exact};
 ghost use Rattle.frames.specs.Answers.{parsed-says};
 use crate::state::Scan;
+use crate::version::Version;
 
 // The first item: 1 a heart-beat, 2 a frame; the octets used; of a frame its command, the number of its headers, and where its body
 // begins and how long it is.
@@ -30,7 +30,7 @@ impl Refusal {
     // It leaves no command, and does not begin a heart-beat.
     pub const NO_COMMAND: u32 = 1;
 
-    // It follows 13 and is not 10.
+    // It follows 13 and is not 10; never in version 1.1.
     pub const NO_10: u32 = 2;
 
     // It is no escape's letter after a backslash.
@@ -110,12 +110,13 @@ pub(crate) fn reply(st: Scan) -> Parsed
     Parsed::Incomplete
 }
 
-// The reply to the octets: of the item that they begin with, that they can still be finished, or where and why not.
-pub fn parse(octets: &[u8]) -> Parsed
+// The reply to the octets, in a protocol version: of the item that they begin with, that they can still be finished, or where and why not.
+pub fn parse(version: Version, octets: &[u8]) -> Parsed
     ensures { λ r. ⌜
-        (parsed-says r ≡ parsed v1-2 (now (octets .entry)))
-        × Exact v1-2 (now (octets .entry)) (parsed-says r)
+        (parsed-says r ≡ parsed version (now (octets .entry)))
+        × Exact version (now (octets .entry)) (parsed-says r)
         ⌝ }
 {
-    reply(crate::run::run(octets, 0, crate::state::nothing_read()))
+    let begin = crate::state::nothing_read(crate::version::has_crlf(version));
+    reply(crate::run::run(octets, 0, begin))
 }

@@ -73,7 +73,7 @@ fn pass_name(s: &[u8], i: usize, st: Scan) -> Scan
     ensures { λ r. ⌜ Passed (now (s .entry)) i st r ⌝ }
 {
     let e = crate::ahead::upto(i, limits::NAME - st.len, s.len());
-    let stops = crate::ahead::name_stops(crate::word::style_of(st.command));
+    let stops = crate::ahead::name_stops(crate::word::style_of(st.crlf, st.command));
     let k = crate::ahead::text_span(&s[i..e], stops);
     crate::ahead::skip(st, k)
 }

@@ -7,9 +7,11 @@ ghost use lib.ListN.{length, drop};
 ghost use Rattle.headers.specs.Block.{entries, listed};
 ghost use Rattle.headers.specs.Answers.{is-block, Puts};
 ghost use Rattle.headers.specs.Stretches.{unescaped};
+ghost use Rattle.frames.specs.Grammar.{crlf};
 ghost use Rattle.frames.specs.Scanning.{word-of, style-of};
 ghost use Rattle.frames.specs.Encoding.{written-lines};
 ghost use Rattle.frames.specs.Writing.{length-octets, added-octets, image-of};
+use crate::version::Version;
 use headers::DecimalWritten;
 use headers::EntryAt;
 use headers::LineWritten;
@@ -102,7 +104,10 @@ fn line_style(style: Style, plain: bool) -> Style
     ensures { λ r. ⌜ r ≡ cond plain unescaped style ⌝ }
 {
     if plain {
-        return Style { escapes: false };
+        return Style {
+            escapes: false,
+            crlf: true,
+        };
     }
     style
 }
@@ -110,6 +115,7 @@ fn line_style(style: Style, plain: bool) -> Style
 // A whole frame. Where plain is true, no octet of the block is escaped in its lines.
 pub(crate) fn put_frame(
     d: &mut [u8],
+    version: Version,
     command: u32,
     block: &[u8],
     adds: bool,
@@ -119,13 +125,14 @@ pub(crate) fn put_frame(
     requires { ⌜
         (command ≤ 15)
         × (is-block (now block) ≡ true)
-        × (length (image-of command (listed (entries (now block))) adds (now body)) ≤ length (now d))
-        × (plain ≡ true → written-lines (style-of command) (listed (entries (now block))) ≡ written-lines unescaped (listed (entries (now block))))
+        × (length (image-of (crlf version) command (listed (entries (now block))) adds (now body)) ≤ length (now d))
+        × (plain ≡ true
+        → written-lines (style-of (crlf version) command) (listed (entries (now block))) ≡ written-lines unescaped (listed (entries (now block))))
         ⌝ }
-    ensures { λ _. ⌜ now (d .exit) ≡ image-of command (listed (entries (now (block .entry)))) adds (now (body .entry))
-        ++ drop (length (image-of command (listed (entries (now (block .entry)))) adds (now (body .entry)))) (now (d .entry)) ⌝ }
+    ensures { λ _. ⌜ now (d .exit) ≡ image-of (crlf version) command (listed (entries (now (block .entry)))) adds (now (body .entry))
+        ++ drop (length (image-of (crlf version) command (listed (entries (now (block .entry)))) adds (now (body .entry)))) (now (d .entry)) ⌝ }
 {
-    let style = crate::word::style_of(command);
+    let style = crate::word::style_of(crate::version::has_crlf(version), command);
     let lines = line_style(style, plain);
     let mut at = put_word(d, command);
     at += put_lines(&mut d[at..], block, lines);

@@ -48,7 +48,7 @@ fn on_word(st: Scan, x: u8) -> Scan
     if x == 10 {
         return to_phase(st, Scan::LINE_START, w);
     }
-    if x == 13 {
+    if (x == 13) & st.crlf {
         return to_phase(st, Scan::COMMAND_CR, w);
     }
     refused(st, Refusal::NO_COMMAND)
@@ -56,7 +56,7 @@ fn on_word(st: Scan, x: u8) -> Scan
 
 // A line end at the start.
 fn on_start(st: Scan, x: u8) -> Scan
-    requires { ⌜ Bounded st × (line-ends x ≡ true) ⌝ }
+    requires { ⌜ Bounded st × (line-ends st x ≡ true) ⌝ }
     ensures { λ r. ⌜ r ≡ on-start st x ⌝ }
 {
     if x == 10 {
@@ -127,7 +127,7 @@ fn step_word(st: Scan, x: u8) -> Scan
     if phase == Scan::HEART_BEAT_CR {
         return on_10(st, to_phase(st, Scan::HEART_BEAT_READ, 0), x);
     }
-    if (phase == Scan::START) & ((x == 10) | (x == 13)) {
+    if (phase == Scan::START) & ((x == 10) | ((x == 13) & st.crlf)) {
         return on_start(st, x);
     }
     on_word(st, x)

@@ -20,6 +20,8 @@ pub struct Scan {
     pub rest: u8,
     // Whether a content-length is declared.
     pub sized: bool,
+    // Whether octet 13 begins a line end, as in version 1.2.
+    pub crlf: bool,
     // The number of the refusal.
     pub code: u32,
     // The command's number; while its word is read, the first command that begins so.
@@ -81,8 +83,8 @@ impl Scan {
 }
 
 // Before the first octet.
-pub(crate) fn nothing_read() -> Scan
-    ensures { λ r. ⌜ r ≡ nothing-read ⌝ }
+pub(crate) fn nothing_read(crlf: bool) -> Scan
+    ensures { λ r. ⌜ r ≡ nothing-read crlf ⌝ }
 {
     Scan {
         phase: Scan::START,
@@ -95,6 +97,7 @@ pub(crate) fn nothing_read() -> Scan
         at: 0,
         code: 0,
         rest: 0,
+        crlf,
     }
 }
 
@@ -114,6 +117,7 @@ pub(crate) fn to_phase(st: Scan, phase: u8, command: u32) -> Scan
         at: st.at + 1,
         code: 0,
         rest: 0,
+        crlf: st.crlf,
     }
 }
 
@@ -133,6 +137,7 @@ pub(crate) fn in_head(st: Scan, phase: u8, lines: usize, sized: bool, size: usiz
         at: st.at + 1,
         code: 0,
         rest: 0,
+        crlf: st.crlf,
     }
 }
 
@@ -152,6 +157,7 @@ pub(crate) fn in_line(st: Scan, phase: u8, matched: usize, size: usize, len: usi
         at: st.at + 1,
         code: 0,
         rest: 0,
+        crlf: st.crlf,
     }
 }
 
@@ -178,6 +184,7 @@ pub(crate) fn in_part(
         at: st.at + 1,
         code: 0,
         rest,
+        crlf: st.crlf,
     }
 }
 
@@ -197,6 +204,7 @@ pub(crate) fn frame_read(st: Scan) -> Scan
         at: st.at + 1,
         code: 0,
         rest: 0,
+        crlf: st.crlf,
     }
 }
 
@@ -215,5 +223,6 @@ pub(crate) fn refused(st: Scan, code: u32) -> Scan
         at: st.at,
         code,
         rest: 0,
+        crlf: st.crlf,
     }
 }

@@ -2,9 +2,10 @@
 ghost use mathlib.Core.Path.{_≡_};
 ghost use Prim.Native.Nat.{_+_, _*_, _≤_, _<_};
 ghost use lib.ListN.{length};
-ghost use Rattle.frames.specs.Answers.{parsed-says};
-ghost use Rattle.frames.specs.Streams.{feed-answer, feed-state, feed-buffer};
-ghost use Rattle.frames.specs.Records.{mark, record-of, is-record, pair-at, fields, read-record, record-left, packed-taken, packed-feed, Packable};
+ghost use Rattle.frames.specs.Answers.{parsed-says, version-in};
+ghost use Rattle.frames.specs.Streams.{feed-answer, feed-state, feed-buffer, is-taken};
+ghost use Rattle.frames.specs.Records.{mark, record-of, is-record, pair-at, fields, read-record, record-left, told-record};
+ghost use Rattle.frames.specs.Records.{packed-taken, packed-feed, Packable};
 use crate::parse::Item;
 use crate::parse::Parsed;
 use crate::parse::Refusal;
@@ -37,7 +38,7 @@ fn is_record(r: &[u8]) -> bool
     if r.len() != 16 {
         return false;
     }
-    (r[4] <= 1) & ((r[12] == 0) & ((r[13] == 0) & (r[15] == 0)))
+    (r[4] <= 1) & ((r[12] <= 1) & ((r[13] == 0) & (r[15] == 0)))
 }
 
 // The state that the octets of a record have.
@@ -48,6 +49,7 @@ fn fields(r: &[u8]) -> Scan
     let command = wide(r[1]) as u32;
     let code = wide(r[5]) as u32;
     let sized = r[4] == 1;
+    let crlf = r[12] == 0;
     Scan {
         lines: wide(r[2]),
         matched: wide(r[3]),
@@ -57,6 +59,7 @@ fn fields(r: &[u8]) -> Scan
         phase: r[0],
         rest: r[14],
         sized,
+        crlf,
         command,
         code,
     }
@@ -78,6 +81,7 @@ fn read_record(r: &[u8]) -> Scan
         phase: 255,
         rest: 0,
         sized: false,
+        crlf: true,
         command: 0,
         code: 0,
     }
@@ -96,6 +100,7 @@ fn write_record(r: &mut [u8], st: Scan)
     ensures { λ _. ⌜ now (r .exit) ≡ record-of st ⌝ }
 {
     let sized = mark(st.sized);
+    let version = mark(!st.crlf);
     let octets = [
         st.phase,
         (st.command % 256) as u8,
@@ -109,7 +114,7 @@ fn write_record(r: &mut [u8], st: Scan)
         (st.len % 256) as u8,
         (st.at / 256 % 256) as u8,
         (st.at % 256) as u8,
-        0,
+        version,
         0,
         st.rest,
         0,
@@ -176,4 +181,22 @@ pub extern "C" fn stomp_feed(state: &mut [u8], buffer: &mut [u8], piece: &[u8]) 
         Fed::ShortBuffer => 3 + 4 * (65536 * Fed::SHORT_BUFFER),
         Fed::InvalidParser => 3 + 4 * (65536 * Fed::INVALID_PARSER),
     }
+}
+
+// The version of the options is told to the stream parser whose record the octets are: 1 where it was taken, 0 where it was not.
+#[no_mangle]
+pub extern "C" fn stomp_feed_tell(state: &mut [u8], options: u32) -> u64
+    ensures { λ r. ⌜
+        (r ≡ mark (is-taken (read-record (now (state .entry)))))
+        × (now (state .exit) ≡ told-record (version-in options) (now (state .entry)))
+        ⌝ }
+{
+    let scan = read_record(state);
+    let told = crate::stream::tell(StreamParser { scan }, crate::version::of_options(options));
+    let parser = told.parser;
+    if told.taken {
+        write_record(state, parser.scan);
+        return 1;
+    }
+    0
 }

@@ -136,13 +136,13 @@ fn is_so_far(st: Scan) -> bool
 // Whether how far a character is read is such as a run can leave inside one, and 0 elsewhere.
 fn is_rest_clean(st: Scan) -> bool
     ensures { λ r. ⌜ r ≡ (eqb (st .phase) 6 || (eqb (st .phase) 8 || eqb (st .rest) 0))
-        && (not (eqb (st .phase) 6 || eqb (st .phase) 8) || is-begun (style-of (st .command)) (st .rest)) ⌝ }
+        && (not (eqb (st .phase) 6 || eqb (st .phase) 8) || is-begun (style-of (st .crlf) (st .command)) (st .rest)) ⌝ }
 {
     let phase = st.phase;
     if (phase != Scan::NAME_PART) & (phase != Scan::VALUE_PART) {
         return st.rest == 0;
     }
-    let style = crate::word::style_of(st.command);
+    let style = crate::word::style_of(st.crlf, st.command);
     (style.escapes & (st.rest == 92))
         | ((st.rest == 1) | ((st.rest == 2) | (headers::missing_after(st.rest) != 0)))
 }

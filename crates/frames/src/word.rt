@@ -100,17 +100,26 @@ pub(crate) fn whole_command(c: u32, k: usize) -> u32
     if letter(c, k) == 64 { c } else { 0 }
 }
 
-// What a command makes of header text.
-pub(crate) fn style_of(command: u32) -> Style
-    ensures { λ r. ⌜ r ≡ style-of command ⌝ }
+// What a command makes of header text, where octet 13 begins a line end or does not.
+pub(crate) fn style_of(crlf: bool, command: u32) -> Style
+    ensures { λ r. ⌜ r ≡ style-of crlf command ⌝ }
 {
     if command == 5 {
-        return Style { escapes: false };
+        return Style {
+            escapes: false,
+            crlf,
+        };
     }
     if command == 6 {
-        return Style { escapes: false };
+        return Style {
+            escapes: false,
+            crlf,
+        };
     }
-    Style { escapes: true }
+    Style {
+        escapes: true,
+        crlf,
+    }
 }
 
 // The longest body of a command.

@@ -1,4 +1,5 @@
 // Every octet of ASCII in a value, and longer characters, written as a line and read back from it.
+use crate::calls::escaped;
 use crate::calls::length;
 use crate::calls::length_of;
 use crate::calls::lengths;
@@ -8,7 +9,6 @@ use crate::show::yes_or_no;
 use headers::EntryAt;
 use headers::Field;
 use headers::LineWritten;
-use headers::Style;
 
 // The octets 0 to 127.
 fn all_octets() -> [u8; 128] {
@@ -58,7 +58,7 @@ fn again(value: &[u8]) {
 
 // Writes the line of a value, whose name has one octet: its length, or 0.
 fn line_of(d: &mut [u8], value: &[u8]) -> usize {
-    match headers::write_line(d, b"x", value, Style { escapes: true }) {
+    match headers::write_line(d, b"x", value, escaped()) {
         LineWritten::Length(n) => n,
         LineWritten::Unwritable => 0,
         LineWritten::TooShort => 0,
@@ -70,9 +70,9 @@ fn raw_again(text: &[u8], value: &[u8]) {
     say(b"its raw value: ");
     number(text.len() as u64);
     say(b" ");
-    yes_or_no(headers::is_raw(text, Style { escapes: true }, Field::Value));
+    yes_or_no(headers::is_raw(text, escaped(), Field::Value));
     let mut block = [0u8; 600];
-    headers::write_decoded(&mut block, b"x", text, Style { escapes: true });
+    headers::write_decoded(&mut block, b"x", text, escaped());
     compare(&block, value);
 }
 

@@ -17,17 +17,43 @@ use headers::LineWritten;
 use headers::RecordWritten;
 use headers::Style;
 
+// How text is written in version 1.2, with or without escapes.
+fn style(escapes: bool) -> Style {
+    Style {
+        escapes,
+        crlf: true,
+    }
+}
+
+pub(crate) fn escaped() -> Style {
+    style(true)
+}
+
+// How text is written in version 1.1, with escapes.
+fn older() -> Style {
+    Style {
+        escapes: true,
+        crlf: false,
+    }
+}
+
 // Writes a record of raw text into room octets of sevens, and shows the answer, the octets written and the next one after them.
 pub(crate) fn record(label: &[u8], name: &[u8], value: &[u8], escapes: bool, room: usize) {
     say(label);
     let mut d = [7u8; 600];
     if room <= 600 {
-        record_in(&mut d[0..room], name, value, escapes);
+        record_in(&mut d[0..room], name, value, style(escapes));
     }
 }
 
-fn record_in(d: &mut [u8], name: &[u8], value: &[u8], escapes: bool) {
-    let style = Style { escapes };
+// The same in version 1.1, with room for any.
+pub(crate) fn older_record(label: &[u8], name: &[u8], value: &[u8]) {
+    say(label);
+    let mut d = [7u8; 600];
+    record_in(&mut d, name, value, older());
+}
+
+fn record_in(d: &mut [u8], name: &[u8], value: &[u8], style: Style) {
     if !headers::is_raw(name, style, Field::Name) {
         say(b"not raw text\n");
         return;
@@ -46,7 +72,7 @@ fn record_in(d: &mut [u8], name: &[u8], value: &[u8], escapes: bool) {
 pub(crate) fn long_record(label: &[u8], name: &[u8], value: &[u8]) {
     say(label);
     let mut d = [7u8; 65600];
-    match headers::write_decoded(&mut d, name, value, Style { escapes: true }) {
+    match headers::write_decoded(&mut d, name, value, escaped()) {
         RecordWritten::Length(n) => number(n as u64),
         RecordWritten::TooShort => number(21),
     }
@@ -58,12 +84,19 @@ pub(crate) fn line(label: &[u8], name: &[u8], value: &[u8], escapes: bool, room:
     say(label);
     let mut d = [7u8; 600];
     if room <= 600 {
-        line_in(&mut d[0..room], name, value, escapes);
+        line_in(&mut d[0..room], name, value, style(escapes));
     }
 }
 
-fn line_in(d: &mut [u8], name: &[u8], value: &[u8], escapes: bool) {
-    match headers::write_line(d, name, value, Style { escapes }) {
+// The same in version 1.1, with room for any.
+pub(crate) fn older_line(label: &[u8], name: &[u8], value: &[u8]) {
+    say(label);
+    let mut d = [7u8; 600];
+    line_in(&mut d, name, value, older());
+}
+
+fn line_in(d: &mut [u8], name: &[u8], value: &[u8], style: Style) {
+    match headers::write_line(d, name, value, style) {
         LineWritten::Length(n) => written(d, n),
         LineWritten::Unwritable => refused(d, 53),
         LineWritten::TooShort => refused(d, 56),
@@ -113,13 +146,13 @@ pub(crate) fn valid(label: &[u8], block: &[u8]) {
 // The length of the line of a value.
 pub(crate) fn length(label: &[u8], value: &[u8], escapes: bool) {
     say(label);
-    line_length(headers::line_length(b"x", value, Style { escapes }));
+    line_length(headers::line_length(b"x", value, style(escapes)));
 }
 
 // The length of the line of a name and a value in one text.
 pub(crate) fn length_of(label: &[u8], text: &[u8], name: usize, escapes: bool) {
     say(label);
-    line_length(headers::entry_length(text, name, Style { escapes }));
+    line_length(headers::entry_length(text, name, style(escapes)));
 }
 
 fn line_length(answer: LineLength) {
@@ -132,8 +165,8 @@ fn line_length(answer: LineLength) {
 // The length of a value encoded, and that of it decoded.
 pub(crate) fn lengths(label: &[u8], value: &[u8]) {
     say(label);
-    let encoded = headers::encoded_length(value, Style { escapes: true });
-    let decoded = headers::decoded_length(value, Style { escapes: true });
+    let encoded = headers::encoded_length(value, escaped());
+    let decoded = headers::decoded_length(value, escaped());
     pair(encoded as u64, decoded as u64);
     say(b"\n");
 }

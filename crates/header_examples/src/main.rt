@@ -13,6 +13,8 @@ use crate::calls::length;
 use crate::calls::length_of;
 use crate::calls::line;
 use crate::calls::long_record;
+use crate::calls::older_line;
+use crate::calls::older_record;
 use crate::calls::record;
 use crate::calls::shortest;
 use crate::calls::valid;
@@ -21,6 +23,7 @@ fn main() {
     document_blocks();
     document_lines();
     one_pass();
+    octet_13();
     every_octet();
     characters();
     not_raw();
@@ -65,6 +68,21 @@ fn one_pass() {
     let value: &[u8] = b"\\\\c";
     record(b"\\\\c: ", x, value, true, 600);
     record(b"\\\\c, no escapes: ", x, value, false, 600);
+}
+
+// Octet 13, which 1.2 escapes as \r and 1.1 has in its text as it is: \r is no escape there. The other escapes are those of both.
+fn octet_13() {
+    let id: &[u8] = b"id";
+    let plain: &[u8] = b"a\rb";
+    let letter: &[u8] = b"a\\rb";
+    record(b"\\r: ", id, letter, true, 600);
+    older_record(b"\\r, in 1.1: ", id, letter);
+    record(b"13: ", id, plain, true, 600);
+    older_record(b"13, in 1.1: ", id, plain);
+    line(b"13 written: ", id, plain, true, 600);
+    older_line(b"13 written, in 1.1: ", id, plain);
+    older_record(b"\\n, \\c and \\\\, in 1.1: ", id, b"\\n\\c\\\\");
+    older_line(b"10, colon and backslash written, in 1.1: ", id, b"\n:\\");
 }
 
 // Text that is not raw text.

@@ -19,10 +19,10 @@ use Rattle.headers.specs.Escapes.{meaning, encode, writable, means, char
 use Rattle.headers.specs.Characters.{part-number, utf8-part, text-part, is-begun, into-number, is-wide, wide-front, front-character, Wides, no-wide, one-wide, WideStretch}
 use Rattle.headers.specs.declared.text.Style.{Style}
 use Rattle.headers.specs.declared.text.Field.{Field}
-use Rattle.headers.proofs.Rows.{cond-case, and-left, and-right, and-no, any-key, refuted, never, every-left, every-right}
+use Rattle.headers.proofs.Rows.{cond-case, and-left, and-right, and-no, refuted, never, every-left, every-right}
 use Rattle.headers.specs.declared.text.Field.the-variants.{Value}
 use Rattle.headers.proofs.Reading.{missing-high, missing-top, missing-few, owes-left}
-use Rattle.headers.proofs.Coding.{decode-means, decode-encode, encode-text}
+use Rattle.headers.proofs.Coding.{decode-means, decode-encode, encode-text, meaning-ascii}
 
 -- ---- a character of more than one octet is passed whole
 
@@ -59,7 +59,7 @@ utf8-append {ys = ys} (utf8-wide {u = c} {xs = xs} w u) v = subst Utf8 (sym (app
 
 character-utf8 : {s : Style} {f : Field} {u : List ℕ} (c : Character s f u) → Utf8 (character-means c)
 character-utf8 (itself h a) = utf8-ascii a utf8-none
-character-utf8 {s} (escape {x = x} e h) = utf8-ascii (any-key (λ e. e .letter) (λ y. ascii (meaning s y) ≡ true) x (escape-table s) (refl, (refl, (refl, (refl, tt)))) h) utf8-none
+character-utf8 {s} (escape {x = x} e h) = utf8-ascii (meaning-ascii s x h) utf8-none
 character-utf8 (wide {x = x} {y = y} {t = t} e h k) = subst Utf8 (append-nil (x ∷ y ∷ t)) (utf8-wide (led-by {t = t} e h k) utf8-none)
 
 text-utf8 : {s : Style} {f : Field} {xs : List ℕ} (t : Text s f xs) → Utf8 (means t)
@@ -68,18 +68,18 @@ text-utf8 (more c t) = utf8-append (character-utf8 c) (text-utf8 t)
 
 passes-utf8 : (xs : List ℕ) → is-utf8 xs ≡ true → Utf8 xs
 passes-utf8 xs h =
-    let s : Style = record { escapes = true } in
+    let s : Style = record { escapes = true; crlf = true } in
     let t : Text s Value (encode s xs) = encode-text s Value xs (rw (every-writable xs, h)) in
     subst Utf8 (sym (decode-means t) ∙ decode-encode s xs) (text-utf8 t)
   where
-    every-writable : (xs : List ℕ) → every (writable (record { escapes = true }) Value) xs ≡ true
+    every-writable : (xs : List ℕ) → every (writable (record { escapes = true; crlf = true }) Value) xs ≡ true
     every-writable [] = refl
     every-writable (x ∷ xs) = rw (each x) (every-writable xs)
       where
-        each : (x : ℕ) → writable (record { escapes = true }) Value x ≡ true
+        each : (x : ℕ) → writable (record { escapes = true; crlf = true }) Value x ≡ true
         each x = by (eqb x 13) (eqb x 10) (eqb x 58) (eqb x 92)
           where
-            by : (a b c d : Bool) → (a || (b || (c || (d || false)))) || not (b || a || (c && true)) ≡ true
+            by : (a b c d : Bool) → (a || (b || (c || (d || false)))) || not (b || (a && true) || (c && true)) ≡ true
             by true b c d = refl
             by false true c d = refl
             by false false true d = refl

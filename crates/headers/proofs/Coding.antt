@@ -14,7 +14,7 @@
 --     encode-text                    what can be written is raw text when encoded
 --     decode-name                    a raw name without escapes, as content-length, is its decoded one, and only it is
 use mathlib.Core.Path.{_≡_, refl, sym, _∙_, ap, ap₂, subst}
-use mathlib.Core.Bool.{Bool, true, false, cond, _&&_, not}
+use mathlib.Core.Bool.{Bool, true, false, cond, _&&_, _||_, not}
 use mathlib.Core.List.{List, [], _∷_, _++_, append-assoc, append-nil}
 use mathlib.Core.Logic.{_⊎_, inl, inr, ⊎-elim}
 use Prim.Native.Nat.{ℕ, suc, _+_, _-_, _*_, _/_, _≤_, _<_}
@@ -26,31 +26,35 @@ use lib.Dec.{eqb, leb, ltb}
 use borrow.Author.Tests.{eqb-true, ne-eqb, ltb-false, not-true, leb-true, le-leb}
 use Rattle.headers.specs.Rows.{every, any}
 use Rattle.headers.specs.Stretches.{not-back, Stretch, kept}
-use Rattle.headers.specs.Text.{Escape, divides, stops, escape-table, is-letter, opens, plain, missing, tail, second, ascii, itself, escape, wide, Text, none, more, Part, fresh, back, led, tails, left, of-utf8, Into, bad, utf8-reads, then-reads, reads-whole, is-text-from, is-text, is-utf8-from, is-utf8}
+use Rattle.headers.specs.Text.{Escape, common, of-13, divides, stops, escape-table, is-letter, opens, plain, missing, tail, second, ascii, itself, escape, wide, Text, none, more, Part, fresh, back, led, tails, left, of-utf8, Into, bad, utf8-reads, then-reads, reads-whole, is-text-from, is-text, is-utf8-from, is-utf8}
 use Rattle.headers.specs.Escapes.{other-half, meaning, letter-of, means, at-escape, width, octet-at, decode, escaped, encode-octet, encode, writable}
 use Rattle.headers.specs.Lines.{content-length}
 use Rattle.headers.specs.declared.text.Style.{Style}
 use Rattle.headers.specs.declared.text.Field.{Field}
 use Rattle.headers.specs.declared.text.Field.the-variants.{Name, Value}
-use Rattle.headers.proofs.Rows.{cond-case, and-left, and-right, and-no, and-false, or-false-left, or-false-right, refuted, any-key, every-drop}
-use Rattle.headers.proofs.Reading.{missing-high, second-high, tail-high, letter-ascii, high-text, text-is, is-text-text}
+use Rattle.headers.proofs.Rows.{cond-case, and-left, and-right, and-no, and-yes, and-false, or-no, or-false-left, or-false-right, refuted, every-drop}
+use Rattle.headers.proofs.Reading.{styled, each-half, missing-high, second-high, tail-high, letter-ascii, high-text, text-is, is-text-text}
 
 -- ---- the table of escapes: each letter is that of its octet, and each octet that of its letter
 
 letter-back : (s : Style) (x : ℕ) → is-letter s x ≡ true → letter-of s (meaning s x) ≡ x
-letter-back s x h = any-key (λ e. e .letter) (λ y. letter-of s (meaning s y) ≡ y) x (escape-table s) (refl, (refl, (refl, (refl, tt)))) h
+letter-back s x h =
+    each-half (λ k. k .letter) (λ s y. letter-of s (meaning s y) ≡ y) (λ e. (refl, (refl, (refl, (refl, tt))))) (λ e. (refl, (refl, (refl, tt)))) s x h
 
 letter-escaped : (s : Style) (x : ℕ) → s .escapes ≡ true → is-letter s x ≡ true → escaped s (meaning s x) ≡ true
-letter-escaped s x e h =
-    any-key (λ e. e .letter) (λ y. escaped s (meaning s y) ≡ true) x (escape-table s) (rw e, (rw e, (rw e, (rw e, tt)))) h
+letter-escaped s x on h =
+    each-half (λ k. k .letter) (λ s y. s .escapes ≡ true → escaped s (meaning s y) ≡ true)
+    (λ e. (λ t. rw t, (λ t. rw t, (λ t. rw t, (λ t. rw t, tt))))) (λ e. (λ t. rw t, (λ t. rw t, (λ t. rw t, tt)))) s x h on
 
 octet-letter : (s : Style) (x : ℕ) → escaped s x ≡ true → is-letter s (letter-of s x) ≡ true
 octet-letter s x h =
-    any-key (λ e. e .octet) (λ y. is-letter s (letter-of s y) ≡ true) x (escape-table s) (refl, (refl, (refl, (refl, tt)))) (and-right (s .escapes) _ h)
+    each-half (λ k. k .octet) (λ s y. is-letter s (letter-of s y) ≡ true)
+    (λ e. (refl, (refl, (refl, (refl, tt))))) (λ e. (refl, (refl, (refl, tt)))) s x (and-right (s .escapes) _ h)
 
 octet-back : (s : Style) (x : ℕ) → escaped s x ≡ true → meaning s (letter-of s x) ≡ x
 octet-back s x h =
-    any-key (λ e. e .octet) (λ y. meaning s (letter-of s y) ≡ y) x (escape-table s) (refl, (refl, (refl, (refl, tt)))) (and-right (s .escapes) _ h)
+    each-half (λ k. k .octet) (λ s y. meaning s (letter-of s y) ≡ y)
+    (λ e. (refl, (refl, (refl, (refl, tt))))) (λ e. (refl, (refl, (refl, tt)))) s x (and-right (s .escapes) _ h)
 
 divides-on : (s : Style) (f : Field) → s .escapes ≡ true → divides s f ≡ true
 divides-on s Name e = refl
@@ -59,12 +63,19 @@ divides-on s Value e = e
 -- an escaped octet stands raw in no field, or begins an escape
 octet-not-plain : (s : Style) (f : Field) (x : ℕ) → escaped s x ≡ true → plain s f x ≡ false
 octet-not-plain s f x h =
-    let on : s .escapes ≡ true = and-left (s .escapes) _ h in
-    any-key (λ e. e .octet) (λ y. plain s f y ≡ false) x (escape-table s) (refl, (refl, (rw (divides-on s f on), (rw on, tt)))) (and-right (s .escapes) _ h)
+    each-half (λ k. k .octet) (λ s y. s .escapes ≡ true → plain s f y ≡ false)
+    (λ e. (λ t. refl, (λ t. refl, (λ t. rw (divides-on (styled e true) f t), (λ t. rw t, tt)))))
+    (λ e. (λ t. refl, (λ t. rw (divides-on (styled e false) f t), (λ t. rw t, tt)))) s x (and-right (s .escapes) _ h) (and-left (s .escapes) _ h)
 
 -- what begins an escape is escaped
 opens-escaped : (s : Style) (x : ℕ) → opens s x ≡ true → escaped s x ≡ true
-opens-escaped s x h = rw (and-left (s .escapes) (eqb x 92) h, eqb-true x 92 (and-right (s .escapes) (eqb x 92) h))
+opens-escaped s x h =
+    let e : x ≡ 92 = eqb-true x 92 (and-right (s .escapes) (eqb x 92) h) in
+    rw (and-left (s .escapes) (eqb x 92) h, e) (by (s .crlf))
+  where
+    by : (c : Bool) → any (λ k. eqb 92 (k .octet)) (escape-table (styled true c)) ≡ true
+    by true = refl
+    by false = refl
 
 contrary : (a b : Bool) → (a ≡ true → b ≡ true) → b ≡ false → a ≡ false
 contrary true b h k = let z : _≡_ {A = ℕ} 0 1 = cc (h refl) in absurd (omega arith)
@@ -74,6 +85,31 @@ contrary false b h k = refl
 other-none : (key to : Escape → ℕ) (x : ℕ) (es : List Escape) → any (λ e. eqb x (key e)) es ≡ false → other-half key to x es ≡ x
 other-none key to x [] h = refl
 other-none key to x (e ∷ es) h = rw (or-false-left (eqb x (key e)) _ h) (other-none key to x es (or-false-right (eqb x (key e)) _ h))
+
+-- the other half, where the escape of 13 is picked by a test
+pub half-is :
+    (key to : Escape → ℕ) (s : Style) (x : ℕ)
+    → other-half key to x (escape-table s) ≡ cond (eqb x (key of-13) && s .crlf) (to of-13) (other-half key to x common)
+half-is key to s x = by (s .crlf)
+  where
+    by : (c : Bool)
+        → other-half key to x (escape-table (styled (s .escapes) c)) ≡ cond (eqb x (key of-13) && c) (to of-13) (other-half key to x common)
+    by true = rw (and-yes (eqb x (key of-13)))
+    by false = rw (and-no (eqb x (key of-13)))
+
+-- which octets are escaped, by comparisons: 10 is compared again in the place of 13 where that is not
+pub escaped-by :
+    (s : Style) (x : ℕ) → s .escapes && (eqb x (cond (s .crlf) 13 10) || (eqb x 10 || (eqb x 58 || eqb x 92))) ≡ escaped s x
+escaped-by s x = ap (s .escapes &&_) (by (s .crlf))
+  where
+    again : (a b : Bool) → a || (a || b) ≡ a || b
+    again true b = refl
+    again false b = refl
+
+    by : (c : Bool)
+        → eqb x (cond c 13 10) || (eqb x 10 || (eqb x 58 || eqb x 92)) ≡ any (λ k. eqb x (k .octet)) (escape-table (styled (s .escapes) c))
+    by true = rw (or-no (eqb x 92))
+    by false = rw (or-no (eqb x 92)) (again (eqb x 10) (eqb x 58 || eqb x 92))
 
 pub letter-last : (s : Style) (x : ℕ) → s .escapes ≡ true → letter-of s x ≡ cond (escaped s x) (letter-of s x) x
 letter-last s x on =
@@ -169,7 +205,12 @@ wide-high x y t e h k = rw (missing-high x (omega arith), second-high y′ y h) 
 unescaped-high : (s : Style) (x : ℕ) → ascii x ≡ false → escaped s x ≡ false
 unescaped-high s x h =
     let l : 128 ≤ x = ltb-false x 128 h in
-    simp (ne-eqb x 13 (omega arith), ne-eqb x 10 (omega arith), ne-eqb x 58 (omega arith), ne-eqb x 92 (omega arith), and-no)
+    by (s .escapes) (s .crlf) l
+  where
+    by : (e c : Bool) → 128 ≤ x → escaped (styled e c) x ≡ false
+    by false c l = refl
+    by true true l = simp (ne-eqb x 13 (omega arith), ne-eqb x 10 (omega arith), ne-eqb x 58 (omega arith), ne-eqb x 92 (omega arith))
+    by true false l = simp (ne-eqb x 10 (omega arith), ne-eqb x 58 (omega arith), ne-eqb x 92 (omega arith))
 
 decode-high : (s : Style) (u xs : List ℕ) → every high u ≡ true → decode s (u ++ xs) ≡ u ++ decode s xs
 decode-high s [] xs h = refl
@@ -246,11 +287,14 @@ inside-out back d = absurd d
 inside-out (led y) d = inr (λ x a. rw (ascii-second y x a))
 inside-out (tails n) d = inr (λ x a. rw (ascii-tail x a))
 
-meaning-ascii : (s : Style) (x : ℕ) → is-letter s x ≡ true → ascii (meaning s x) ≡ true
-meaning-ascii s x h = any-key (λ e. e .letter) (λ y. ascii (meaning s y) ≡ true) x (escape-table s) (refl, (refl, (refl, (refl, tt)))) h
+pub meaning-ascii : (s : Style) (x : ℕ) → is-letter s x ≡ true → ascii (meaning s x) ≡ true
+meaning-ascii s x h =
+    each-half (λ k. k .letter) (λ s y. ascii (meaning s y) ≡ true) (λ e. (refl, (refl, (refl, (refl, tt))))) (λ e. (refl, (refl, (refl, tt)))) s x h
 
 escaped-ascii : (s : Style) (x : ℕ) → escaped s x ≡ true → ascii x ≡ true
-escaped-ascii s x h = any-key (λ e. e .octet) (λ y. ascii y ≡ true) x (escape-table s) (refl, (refl, (refl, (refl, tt)))) (and-right (s .escapes) _ h)
+escaped-ascii s x h =
+    each-half (λ k. k .octet) (λ s y. ascii y ≡ true)
+    (λ e. (refl, (refl, (refl, (refl, tt))))) (λ e. (refl, (refl, (refl, tt)))) s x (and-right (s .escapes) _ h)
 
 -- what becomes of the rest, where one test of it is the other and w
 module _ (w : Bool) (f g : Part → Bool) (h : (q : Part) → Settled q → f q ≡ w && g q) where
@@ -509,4 +553,10 @@ pub decode-bare : (s : Style) (name : List ℕ) → every (bare s) name ≡ true
 decode-bare s name b = rw (encode-bare s name b) at (decode-encode s name)
 
 pub content-length-bare : (s : Style) → every (bare s) content-length ≡ true
-content-length-bare s = simp (and-no)
+content-length-bare s = by (s .escapes) (s .crlf)
+  where
+    by : (e c : Bool) → every (bare (styled e c)) content-length ≡ true
+    by true true = refl
+    by true false = refl
+    by false true = refl
+    by false false = refl

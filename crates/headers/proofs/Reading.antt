@@ -5,7 +5,7 @@
 --     raw-feeds                        so is what has been read, up to the character at hand
 --     digits-text, reads-on            digits are text; what begins a character is no stop
 use mathlib.Core.Path.{_≡_, refl, sym, ap}
-use mathlib.Core.Bool.{Bool, true, false, cond, not}
+use mathlib.Core.Bool.{Bool, true, false, cond, _&&_, _||_, not}
 use mathlib.Core.List.{List, [], _∷_, _++_, append-assoc, append-nil}
 use Prim.Native.Nat.{ℕ, suc, _+_, _-_, _≤_, _<_}
 use native.Mathlib.Nat.{zero-add}
@@ -13,13 +13,37 @@ use native.Mathlib.Omega.{arith}
 use lib.ListN.{length, length-append, replicate, length-replicate}
 use lib.Dec.{eqb, leb, ltb}
 use borrow.Author.Tests.{eqb-true, eqb-false, ne-eqb, leb-true, ltb-true, ltb-false, lt-leb, lt-ltb, le-ltb, not-true}
-use Rattle.headers.specs.Rows.{every, is-octet}
-use Rattle.headers.specs.Text.{stops, escape-table, is-letter, opens, plain, between, missing, tail, second, ascii, Character, itself, escape, wide, Text, none, more, Part, fresh, back, led, tails, owes, Cut, Raw, of-utf8, of-escape, starts, starts-with, left, fault, owing, Into, into, bad, stop, reads, then-reads, reads-whole, is-text-from, is-text}
+use Rattle.headers.specs.Rows.{every, any, All, is-octet}
+use Rattle.headers.specs.Text.{stops, Escape, common, of-13, escape-table, is-letter, opens, plain, between, missing, tail, second, ascii, Character, itself, escape, wide, Text, none, more, Part, fresh, back, led, tails, owes, Cut, Raw, of-utf8, of-escape, starts, starts-with, left, fault, owing, Into, into, bad, stop, reads, then-reads, reads-whole, is-text-from, is-text}
 use Rattle.headers.specs.Numbers.{is-digit}
 use Rattle.headers.specs.declared.text.Style.{Style}
 use Rattle.headers.specs.declared.text.Field.{Field}
-use Rattle.headers.proofs.Rows.{cond-case, and-left, and-right, and-no, any-key, every-append, every-snoc, every-replicate}
+use Rattle.headers.proofs.Rows.{cond-case, and-left, and-right, and-no, and-yes, any-key, every-append, every-snoc, every-replicate}
 use Rattle.headers.proofs.Decimals.{digit-range, digit-apart}
+
+-- a style by its two flags: each style is one
+abbrev pub styled : Bool → Bool → Style
+styled e c = record { escapes = e; crlf = c }
+
+-- what holds of one half, letter or octet, of each escape of a style holds of every octet that is such a half
+pub each-half :
+    (key : Escape → ℕ) (P : Style → ℕ → Type 0)
+    → ((e : Bool) → All (λ k. P (styled e true) (key k)) (escape-table (styled e true)))
+    → ((e : Bool) → All (λ k. P (styled e false) (key k)) (escape-table (styled e false)))
+    → (s : Style) (x : ℕ) → any (λ k. eqb x (key k)) (escape-table s) ≡ true → P s x
+each-half key P t f s x h = by (s .escapes) (s .crlf) h
+  where
+    by : (e c : Bool) → any (λ k. eqb x (key k)) (escape-table (styled e c)) ≡ true → P (styled e c) x
+    by e true k = any-key key (P (styled e true)) x (escape-table (styled e true)) (t e) k
+    by e false k = any-key key (P (styled e false)) x (escape-table (styled e false)) (f e) k
+
+-- the same as one test: the escape of 13 counts where it is one
+pub table-is : (key : Escape → ℕ) (s : Style) (x : ℕ) → any (λ k. eqb x (key k)) (escape-table s) ≡ (eqb x (key of-13) && s .crlf) || any (λ k. eqb x (key k)) common
+table-is key s x = by (s .crlf)
+  where
+    by : (c : Bool) → any (λ k. eqb x (key k)) (escape-table (styled (s .escapes) c)) ≡ (eqb x (key of-13) && c) || any (λ k. eqb x (key k)) common
+    by true = rw (and-yes (eqb x (key of-13)))
+    by false = rw (and-no (eqb x (key of-13)))
 
 text-snoc : {s : Style} {f : Field} {xs u : List ℕ} → Text s f xs → Character s f u → Text s f (xs ++ u)
 text-snoc {u = u} none h = rw (append-nil u) at (more h none)
@@ -63,9 +87,13 @@ fill-octet x = by (eqb x 224) (eqb x 240)
 closed : {s : Style} {f : Field} {raw : List ℕ} {p : Part} (r : Raw s f raw p) (u : List ℕ) → Character s f (r .pend ++ u) → Text s f (raw ++ u)
 closed r u h = rw (r .whole, append-assoc) (text-snoc (r .text) h)
 
+backslash-letter : (e c : Bool) → is-letter (styled e c) 92 ≡ true
+backslash-letter e true = refl
+backslash-letter e false = refl
+
 pub raw-finish : {s : Style} {f : Field} {raw : List ℕ} (p : Part) → Raw s f raw p → (w : List ℕ) × (length w ≡ owes p) × (every is-octet w ≡ true) × Text s f (raw ++ w)
 raw-finish fresh r = ([], refl, refl, rw append-nil (raw-text r))
-raw-finish back r = (92 ∷ [], refl, refl, closed r (92 ∷ []) (rw (r .part .1) (escape (r .part .0) refl)))
+raw-finish {s} back r = (92 ∷ [], refl, refl, closed r (92 ∷ []) (rw (r .part .1) (escape {x = 92} (r .part .0) (backslash-letter (s .escapes) (s .crlf)))))
 raw-finish (led x) r =
     let n = missing x - 1 in
     let l : missing x ≡ suc (length (replicate {A = ℕ} n 128)) = omega (arith, r .part .0, length-replicate {A = ℕ} n 128) in (
@@ -224,7 +252,8 @@ reads-on s f q x h = by (stops s f x) h
 
 -- what follows a backslash is no stop
 letter-on : (s : Style) (f : Field) (x : ℕ) → is-letter s x ≡ true → stops s f x ≡ false
-letter-on s f x h = any-key (λ e. e .letter) (λ y. stops s f y ≡ false) x (escape-table s) (refl, (refl, (refl, (refl, tt)))) h
+letter-on s f x h =
+    each-half (λ k. k .letter) (λ s y. stops s f y ≡ false) (λ e. (refl, (refl, (refl, (refl, tt))))) (λ e. (refl, (refl, (refl, tt)))) s x h
 
 stop-plain : (s : Style) (f : Field) (x : ℕ) → stops s f x ≡ true → eqb x 92 ≡ false
 stop-plain s f x t = by (eqb x 92) refl
@@ -302,7 +331,8 @@ missing-top x h =
     by false e false f false g l = absurd (omega arith)
 
 pub letter-ascii : (s : Style) (x : ℕ) → is-letter s x ≡ true → ascii x ≡ true
-letter-ascii s x h = any-key (λ e. e .letter) (λ y. ascii y ≡ true) x (escape-table s) (refl, (refl, (refl, (refl, tt)))) h
+letter-ascii s x h =
+    each-half (λ k. k .letter) (λ s y. ascii y ≡ true) (λ e. (refl, (refl, (refl, (refl, tt))))) (λ e. (refl, (refl, (refl, tt)))) s x h
 
 opens-ascii : (s : Style) (x : ℕ) → opens s x ≡ true → ascii x ≡ true
 opens-ascii s x h = rw (eqb-true x 92 (and-right (s .escapes) (eqb x 92) h))

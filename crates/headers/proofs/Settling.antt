@@ -26,6 +26,7 @@ use Rattle.headers.specs.declared.text.Style.{Style}
 use Rattle.headers.specs.declared.text.Field.{Field}
 use Rattle.headers.specs.declared.text.Field.the-variants.{Name, Value}
 use Rattle.headers.proofs.Rows.{and-left, and-right, and-no, refuted, every-right, every-append, every-also}
+use Rattle.headers.proofs.Reading.{table-is}
 use Rattle.headers.proofs.Coding.{kept-clear, decode-off, encode-long, encode-append}
 use Rattle.headers.proofs.Blocks.{length-record}
 use Rattle.headers.proofs.LaidOut.{entries-record}
@@ -183,9 +184,10 @@ drop-place k e xs inside past = take-all (length xs - e) (drop e xs) (omega (ari
         let p = past l in
         drop-of-length-le xs {i = e} (omega arith) ∙ sym (drop-of-length-le xs {i = k} (omega arith))
 
--- what can be written, by whether there are escapes: each stop has one. Octets 13, 10, 58 and 92 are escaped, 10, 13 and 58 are stops.
+-- what can be written, by whether there are escapes: each stop has one. Octets 10, 58 and 92 are escaped, and 13 where it is a stop.
 pub writable-is : (s : Style) (f : Field) (x : ℕ) → s .escapes || not (stops s f x) ≡ writable s f x
-writable-is s f x = by (s .escapes) (eqb x 13) (eqb x 10) (eqb x 58) (eqb x 92) (divides s f)
+writable-is s f x =
+    rw (table-is (λ k. k .octet) s x) (by (s .escapes) (eqb x 13 && s .crlf) (eqb x 10) (eqb x 58) (eqb x 92) (divides s f))
   where
     by : (e cr lf colon back d : Bool) → e || not (lf || cr || (colon && d)) ≡ e && (cr || (lf || (colon || (back || false)))) || not (lf || cr || (colon && d))
     by false cr lf colon back d = refl
@@ -202,7 +204,7 @@ all-writable s f e (x ∷ xs) = rw (sym (writable-is s f x) ∙ ap (λ b. b || n
 
 -- what can be written in a name can be in a value
 name-value : (s : Style) (x : ℕ) → writable s Name x ≡ true → writable s Value x ≡ true
-name-value s x h = by (escaped s x) (eqb x 10 || eqb x 13) (eqb x 58) (s .escapes) h
+name-value s x h = by (escaped s x) (eqb x 10 || (eqb x 13 && s .crlf)) (eqb x 58) (s .escapes) h
   where
     by : (e a c d : Bool) → e || not (a || (c && true)) ≡ true → e || not (a || (c && d)) ≡ true
     by true a c d k = refl

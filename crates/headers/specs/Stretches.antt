@@ -37,7 +37,7 @@ pub record Stretch (xs : List ℕ) (n : ℕ) : Type 0 where
 
 -- the style without escapes: every octet stands for itself
 abbrev pub unescaped : Style
-unescaped = record { escapes = false }
+unescaped = record { escapes = false; crlf = true }
 
 -- the raw line, with its line end, of an entry of which no octet is escaped
 abbrev pub plain-line : List ℕ → List ℕ → List ℕ

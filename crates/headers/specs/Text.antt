@@ -18,23 +18,29 @@ abbrev pub divides : Style → Field → Bool
 divides s Name = true
 divides s Value = s .escapes
 
--- "Neither holds a raw 10, 13 or colon": the colon where it divides.
+-- "Neither holds a raw 10, 13 or colon": the colon where it divides, and the 13 where it begins a line end; in version 1.1 "13 is an
+-- ordinary header octet" (C-18).
 abbrev pub stops : Style → Field → ℕ → Bool
-stops s f x = eqb x 10 || eqb x 13 || (eqb x 58 && divides s f)
+stops s f x = eqb x 10 || (eqb x 13 && s .crlf) || (eqb x 58 && divides s f)
 
 -- an escape: the letter after the backslash, and the octet that the two stand for
 pub record Escape : Type 0 where
   pub letter : ℕ
   pub octet : ℕ
 
--- "`\r` `\n` `\c` `\\` stand for octets 13, 10, 58, 92."
-abbrev pub escape-table : Style → List Escape
-escape-table s =
-    record { letter = 114; octet = 13 } ∷
+-- "`\r` `\n` `\c` `\\` stand for octets 13, 10, 58, 92"; where 13 begins no line end "`\r` is undefined" (C-18).
+abbrev pub common : List Escape
+common =
     record { letter = 110; octet = 10 } ∷
     record { letter = 99; octet = 58 } ∷
     record { letter = 92; octet = 92 } ∷
     []
+
+abbrev pub of-13 : Escape
+of-13 = record { letter = 114; octet = 13 }
+
+abbrev pub escape-table : Style → List Escape
+escape-table s = cond (s .crlf) (of-13 ∷ common) common
 
 -- what may follow a backslash
 abbrev pub is-letter : Style → ℕ → Bool

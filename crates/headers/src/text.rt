@@ -18,6 +18,8 @@ use crate::utf8::utf8_next;
 pub struct Style {
     // Whether a backslash begins an escape.
     pub escapes: bool,
+    // Whether octet 13 begins a line end: otherwise it is an ordinary octet, and no escape stands for it.
+    pub crlf: bool,
 }
 
 // The two fields of a header line.
@@ -40,14 +42,14 @@ fn is_divided(style: Style, field: Field) -> bool
 pub fn is_stop(style: Style, field: Field, x: u8) -> bool
     ensures { λ r. ⌜ r ≡ stops style field x ⌝ }
 {
-    (x == 10) | (x == 13) | ((x == 58) & is_divided(style, field))
+    (x == 10) | ((x == 13) & style.crlf) | ((x == 58) & is_divided(style, field))
 }
 
 // Whether the octet may follow a backslash.
 pub fn is_letter(style: Style, x: u8) -> bool
     ensures { λ r. ⌜ r ≡ is-letter style x ⌝ }
 {
-    (x == 114) | ((x == 110) | ((x == 99) | (x == 92)))
+    ((x == 114) & style.crlf) | ((x == 110) | ((x == 99) | (x == 92)))
 }
 
 // Whether the octet begins an escape.
@@ -63,7 +65,18 @@ fn meaning_of(style: Style, x: u8) -> u8
 {
     let colon: u8 = if x == 99 { 58 } else { x };
     let newline: u8 = if x == 110 { 10 } else { colon };
-    if x == 114 { 13 } else { newline }
+    if (x == 114) & style.crlf { 13 } else { newline }
+}
+
+// The octets that are written as an escape, in one word: each at the place that its bits 2 and 4 say.
+fn escape_word(style: Style) -> u64
+    ensures { λ r. ⌜ r ≡ cond (style .crlf) 101404177861898 101404177858570 ⌝ }
+{
+    if style.crlf {
+        0x5c3a00000d0a
+    } else {
+        0x5c3a0000000a
+    }
 }
 
 // Whether the octet is written as an escape, by one comparison: bits 2 and 4 tell 10, 13, 58 and 92 apart, and say where in a word
@@ -72,7 +85,7 @@ fn is_escaped(style: Style, x: u8) -> bool
     ensures { λ r. ⌜ r ≡ escaped style x ⌝ }
 {
     let n = x as u64;
-    style.escapes & (n == (0x5c3a00000d0a >> (2 * (n & 20))) & 255)
+    style.escapes & (n == (escape_word(style) >> (2 * (n & 20))) & 255)
 }
 
 // The letter of an octet that is written as an escape: without branches too.
@@ -81,7 +94,7 @@ fn letter_for(style: Style, x: u8) -> u8
 {
     let colon: u8 = if x == 58 { 99 } else { x };
     let newline: u8 = if x == 10 { 110 } else { colon };
-    if x == 13 { 114 } else { newline }
+    if (x == 13) & style.crlf { 114 } else { newline }
 }
 
 // One octet of raw text, from how far its character is read on: how far it is then, or 255 where the octet does not go on with the text.
@@ -190,11 +203,18 @@ pub(crate) fn put_decoded(d: &mut [u8], raw: &[u8], style: Style) -> usize
     }
 }
 
+// The octet 13 where there is an escape for it, and otherwise 10, for which there is one.
+fn escaped_cr(style: Style) -> u8
+    ensures { λ r. ⌜ r ≡ cond (style .crlf) 13 10 ⌝ }
+{
+    if style.crlf { 13 } else { 10 }
+}
+
 // The same as is_escaped by plain comparisons, so that a loop takes many octets at a time.
 pub(crate) fn has_escape(style: Style, x: u8) -> bool
     ensures { λ r. ⌜ r ≡ escaped style x ⌝ }
 {
-    style.escapes & ((x == 13) | ((x == 10) | ((x == 58) | (x == 92))))
+    style.escapes & ((x == escaped_cr(style)) | ((x == 10) | ((x == 58) | (x == 92))))
 }
 
 // How many octets an octet has encoded, in a narrow number.

@@ -1,8 +1,10 @@
 // What decode and encode answer in one number, as the calls for C give it, taken apart.
 ghost use mathlib.Core.Path.{_≡_};
-ghost use Prim.Native.Nat.{_≤_};
+ghost use Prim.Native.Nat.{_≤_, _<_};
 ghost use lib.ListN.{length};
 use frames::exports::COUNTED;
+use frames::version::OPTION_1_1;
+use frames::version::Version;
 
 // The number of a refusal, or 0 where len octets were written.
 pub(crate) struct Written {
@@ -20,28 +22,41 @@ fn unpacked(answer: u64, room: usize) -> Written
     }
 }
 
-// The header block of a frame, decoded to the front of block.
-pub(crate) fn decode(frame: &[u8], block: &mut [u8]) -> Written
+// Options, and with counted the one that asks for a length line.
+fn with_length(options: u32, counted: bool) -> u32
+    requires { ⌜ options < 4 ⌝ }
+{
+    if counted { options + COUNTED } else { options }
+}
+
+// The options that ask for a version and, with counted, for a length line.
+fn options(version: Version, counted: bool) -> u32 {
+    match version {
+        Version::V11 => with_length(OPTION_1_1, counted),
+        Version::V12 => with_length(0, counted),
+    }
+}
+
+// The header block of a frame of a version, decoded to the front of block.
+pub(crate) fn decode(version: Version, frame: &[u8], block: &mut [u8]) -> Written
     ensures { λ r. ⌜ (r .len ≤ length (now (block .entry))) × (length (now (block .exit)) ≡ length (now (block .entry))) ⌝ }
 {
-    let answer = frames::exports::stomp_decode(frame, block);
+    let answer = frames::exports::stomp_decode_with(options(version, false), frame, block);
     unpacked(answer, block.len())
 }
 
-// A frame's octets, encoded to the front of out; counted asks for a length line.
+// A frame's octets in a version, encoded to the front of out; counted asks for a length line.
 pub(crate) fn encode(
+    version: Version,
+    counted: bool,
     command: u32,
     block: &[u8],
     body: &[u8],
     out: &mut [u8],
-    counted: bool,
 ) -> Written
     ensures { λ r. ⌜ (r .len ≤ length (now (out .entry))) × (length (now (out .exit)) ≡ length (now (out .entry))) ⌝ }
 {
-    if counted {
-        let answer = frames::exports::stomp_encode_with(COUNTED, command, block, body, out);
-        return unpacked(answer, out.len());
-    }
-    let answer = frames::exports::stomp_encode(command, block, body, out);
+    let asked = options(version, counted);
+    let answer = frames::exports::stomp_encode_with(asked, command, block, body, out);
     unpacked(answer, out.len())
 }

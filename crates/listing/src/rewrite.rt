@@ -1,5 +1,4 @@
-// The rewriting of a stream: each frame decoded and encoded again, each heart-beat one line end. The flag counted, that a length line is
-// asked for, is handed down to encoding.
+// The rewriting of a stream: each frame decoded and encoded again in one protocol version, each heart-beat one line end.
 ghost use mathlib.Core.Path.{_≡_};
 ghost use Prim.Native.Nat.{_+_, _≤_, _<_};
 ghost use lib.ListN.{length};
@@ -8,6 +7,13 @@ use crate::packed::Written;
 use crate::stream::Progress;
 use frames::parse::Item;
 use frames::parse::Parsed;
+use frames::version::Version;
+
+// What is asked: the version that items are read and written in, and a length line in each frame that has a body.
+pub struct Asked {
+    pub version: Version,
+    pub counted: bool,
+}
 
 fn failed(code: u32) -> Written
     ensures { λ r. ⌜ r .len ≡ 0 ⌝ }
@@ -16,7 +22,7 @@ fn failed(code: u32) -> Written
 }
 
 // A frame encoded again at the front of out, from its block and its body.
-fn encode_again(frame: &[u8], item: Item, block: &[u8], out: &mut [u8], counted: bool) -> Written
+fn encode_again(frame: &[u8], item: Item, block: &[u8], out: &mut [u8], asked: Asked) -> Written
     ensures { λ r. ⌜ (r .len ≤ length (now (out .entry))) × (length (now (out .exit)) ≡ length (now (out .entry))) ⌝ }
 {
     let from = item.body;
@@ -27,32 +33,41 @@ fn encode_again(frame: &[u8], item: Item, block: &[u8], out: &mut [u8], counted:
         return failed(20);
     }
     let end = from + item.body_len;
-    crate::packed::encode(item.command, block, &frame[from..end], out, counted)
+    let version = asked.version;
+    crate::packed::encode(
+        version,
+        asked.counted,
+        item.command,
+        block,
+        &frame[from..end],
+        out,
+    )
 }
 
 // A frame decoded into the block and encoded again at the front of out.
-fn recode(frame: &[u8], item: Item, block: &mut [u8], out: &mut [u8], counted: bool) -> Written
+fn recode(frame: &[u8], item: Item, block: &mut [u8], out: &mut [u8], asked: Asked) -> Written
     ensures { λ r. ⌜
         (r .len ≤ length (now (out .entry)))
         × (length (now (out .exit)) ≡ length (now (out .entry))) × (length (now (block .exit)) ≡ length (now (block .entry)))
         ⌝ }
 {
-    let decoded = crate::packed::decode(frame, block);
+    let version = asked.version;
+    let decoded = crate::packed::decode(version, frame, block);
     if decoded.code != 0 {
         return failed(decoded.code);
     }
     let n = decoded.len;
-    encode_again(frame, item, &block[0..n], out, counted)
+    encode_again(frame, item, &block[0..n], out, asked)
 }
 
-// An item again, behind the octets laid out.
+// An item again, after the octets laid out.
 fn lay(
     octets: &[u8],
     item: Item,
     block: &mut [u8],
     out: &mut [u8],
     used: usize,
-    counted: bool,
+    asked: Asked,
 ) -> Written
     requires { ⌜ used < length (now out) ⌝ }
     ensures { λ r. ⌜
@@ -64,7 +79,7 @@ fn lay(
         out[used] = 10;
         return Written { len: 1, code: 0 };
     }
-    recode(octets, item, block, &mut out[used..], counted)
+    recode(octets, item, block, &mut out[used..], asked)
 }
 
 // The first n octets of a text on standard error.
@@ -126,7 +141,7 @@ fn rewrite_item(
     out: &mut [u8],
     p: Progress,
     item: Item,
-    counted: bool,
+    asked: Asked,
 ) -> Progress
     requires { ⌜ (p .lo + length (now octets) ≤ p .hi) × (p .used < length (now out)) ⌝ }
     ensures { λ r. ⌜
@@ -134,7 +149,7 @@ fn rewrite_item(
         × (length (now (out .exit)) ≡ length (now (out .entry))) × (length (now (block .exit)) ≡ length (now (block .entry)))
         ⌝ }
 {
-    let w = lay(octets, item, block, out, p.used, counted);
+    let w = lay(octets, item, block, out, p.used, asked);
     if w.code != 0 {
         complain_unwritten(p.start, w.code);
         return stopped(p);
@@ -149,7 +164,7 @@ fn turn(
     block: &mut [u8],
     out: &mut [u8],
     p: Progress,
-    counted: bool,
+    asked: Asked,
 ) -> Progress
     requires { ⌜ Room (length (now buf)) (length (now out)) p ⌝ }
     ensures { λ r. ⌜
@@ -163,20 +178,21 @@ fn turn(
         return crate::stream::flush(out, p);
     }
     let lo = p.lo;
-    let reply = crate::stream::reply_to(buf, lo, p.hi);
+    let version = asked.version;
+    let reply = crate::stream::reply_to(version, buf, lo, p.hi);
     let end = lo + crate::stream::used_of(reply);
     let Parsed::Complete(item) = reply else {
         return no_item(fd, buf, p, reply);
     };
-    rewrite_item(&buf[lo..end], block, out, p, item, counted)
+    rewrite_item(&buf[lo..end], block, out, p, item, asked)
 }
 
 // Rewrites the octets of fd to standard output, with three buffers: whether reading and writing went well.
-fn rewrite_in(fd: i32, buf: &mut [u8], block: &mut [u8], out: &mut [u8], counted: bool) -> bool {
+fn rewrite_in(fd: i32, buf: &mut [u8], block: &mut [u8], out: &mut [u8], asked: Asked) -> bool {
     let mut p = crate::stream::nothing_listed();
     let mut turns = u64::MAX;
     while turns > 0 && !(p.failed | p.done) {
-        p = turn(fd, buf, block, out, p, counted);
+        p = turn(fd, buf, block, out, p, asked);
         turns -= 1;
     }
     let q = crate::stream::flush(out, p);
@@ -184,10 +200,10 @@ fn rewrite_in(fd: i32, buf: &mut [u8], block: &mut [u8], out: &mut [u8], counted
 }
 
 // Rewrites the octets of fd to standard output, up to their end or to what cannot be read or written, which a line on standard error
-// tells: whether reading and writing went well. With counted a length line is asked for in each frame.
-pub fn rewrite(fd: i32, counted: bool) -> bool {
+// tells: whether reading and writing went well.
+pub fn rewrite(fd: i32, asked: Asked) -> bool {
     let mut octets = io::large_buffer();
     let mut block = io::large_buffer();
     let mut image = io::large_buffer();
-    rewrite_in(fd, &mut octets, &mut block, &mut image, counted)
+    rewrite_in(fd, &mut octets, &mut block, &mut image, asked)
 }

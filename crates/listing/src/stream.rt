@@ -2,12 +2,12 @@
 ghost use mathlib.Core.Path.{_≡_};
 ghost use Prim.Native.Nat.{_+_, _-_, _≤_, _<_, min};
 ghost use lib.ListN.{length, take, drop};
-ghost use Rattle.frames.specs.Grammar.{v1-2};
 ghost use Rattle.frames.specs.Parsing.{parsed};
 ghost use Rattle.frames.specs.Replies.{used-of};
 ghost use Rattle.frames.specs.Answers.{parsed-says};
 ghost use Rattle.listing.specs.Streams.{Room, moved};
 use frames::parse::Parsed;
+use frames::version::Version;
 
 // How far a stream is listed.
 pub(crate) struct Progress {
@@ -47,7 +47,7 @@ struct Filled {
     failed: bool,
 }
 
-// Octets of fd behind the first ones of buf, until buf is full or fd has no more.
+// Octets of fd after the first ones of buf, until buf is full or fd has no more.
 fn fill(fd: i32, buf: &mut [u8], from: usize) -> Filled
     requires { ⌜ from ≤ length (now buf) ⌝ }
     ensures { λ r. ⌜ (r .hi ≤ length (now (buf .entry))) × (length (now (buf .exit)) ≡ length (now (buf .entry))) ⌝ }
@@ -110,19 +110,27 @@ pub(crate) fn lesser(a: u64, b: u64) -> u64
     if a < b { a } else { b }
 }
 
-// A line of k octets is laid out, for n octets of the stream. Behind the largest position there is none, and counting fails.
-pub(crate) fn advance(mut p: Progress, n: usize, k: usize, last: bool) -> Progress
-    requires { ⌜ (p .lo + n ≤ p .hi) × (p .used + k < 18446744073709551616) ⌝ }
-    ensures { λ r. ⌜ (r .lo ≡ p .lo + n) × (r .hi ≡ p .hi) × (r .used ≡ p .used + k) ⌝ }
+// A line of k octets is laid out, for an item of n octets. After the largest position there is none, and counting fails.
+pub(crate) fn count(mut p: Progress, n: usize, k: usize, last: bool) -> Progress
+    requires { ⌜ p .used + k < 18446744073709551616 ⌝ }
+    ensures { λ r. ⌜ (r .lo ≡ p .lo) × (r .hi ≡ p .hi) × (r .used ≡ p .used + k) ⌝ }
 {
     let most = u64::MAX - p.start;
     let on = lesser(n as u64, most);
-    p.lo += n;
     p.used += k;
     p.start += on;
     p.failed = on < (n as u64);
     p.done = last;
     p
+}
+
+// The same where the item is the next n octets that were read.
+pub(crate) fn advance(mut p: Progress, n: usize, k: usize, last: bool) -> Progress
+    requires { ⌜ (p .lo + n ≤ p .hi) × (p .used + k < 18446744073709551616) ⌝ }
+    ensures { λ r. ⌜ (r .lo ≡ p .lo + n) × (r .hi ≡ p .hi) × (r .used ≡ p .used + k) ⌝ }
+{
+    p.lo += n;
+    count(p, n, k, last)
 }
 
 // The octets of the item that a reply tells of, or 0.
@@ -143,18 +151,18 @@ pub(crate) fn is_incomplete(reply: Parsed) -> bool {
     }
 }
 
-// The reply to the octets from lo to hi.
-pub(crate) fn reply_to(buf: &[u8], lo: usize, hi: usize) -> Parsed
+// The reply to the octets from lo to hi, in a version.
+pub(crate) fn reply_to(version: Version, buf: &[u8], lo: usize, hi: usize) -> Parsed
     requires { ⌜ (lo ≤ hi) × (hi ≤ length (now buf)) ⌝ }
     ensures { λ r. ⌜
-        (parsed-says r ≡ parsed v1-2 (take (hi - lo) (drop lo (now (buf .entry)))))
+        (parsed-says r ≡ parsed version (take (hi - lo) (drop lo (now (buf .entry)))))
         × (lo + used-of (parsed-says r) ≤ hi)
         ⌝ }
 {
-    frames::parse::parse(&buf[lo..hi])
+    frames::parse::parse(version, &buf[lo..hi])
 }
 
-// The line of a reply behind the lines laid out: its length.
+// The line of a reply after the lines laid out: its length.
 pub(crate) fn lay(
     out: &mut [u8],
     used: usize,
@@ -202,7 +210,7 @@ fn turn(fd: i32, buf: &mut [u8], out: &mut [u8], p: Progress) -> Progress
     if out.len() - used < 160 {
         return flush(out, p);
     }
-    let reply = reply_to(buf, p.lo, p.hi);
+    let reply = reply_to(Version::V12, buf, p.lo, p.hi);
     tell(fd, buf, out, p, reply, used_of(reply))
 }
 

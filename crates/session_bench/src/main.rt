@@ -5,6 +5,7 @@
 // line: how many calls were accepted, and the session's last-heard; or that other deliveries are pending than the case has.
 ghost use Prim.Native.Nat.{_≤_};
 use frames::decode::Decoded;
+use frames::version::Version;
 use headers::DecimalRead;
 use libc::STDOUT_FILENO;
 use sessions::commands;
@@ -44,7 +45,7 @@ fn block_of(frame: &[u8]) -> Block
     ensures { λ r. ⌜ r .len ≤ 256 ⌝ }
 {
     let mut octets = [0u8; 256];
-    let len = used_of(frames::decode::decode(frame, &mut octets));
+    let len = used_of(frames::decode::decode(Version::V12, frame, &mut octets));
     Block { octets, len }
 }
 

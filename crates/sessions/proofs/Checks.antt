@@ -44,6 +44,7 @@ left-case P (refused k) before after p q r = cond-case P (eqb k 38 || eqb k 39) 
 pub record Passed (s : Session) (n : ℕ) (es : List Entry) : Type 0 where
   pub in-turn : out-of-phase s n ≡ false
   pub needs : lacks-needed s n es ≡ false
+  pub opening : All Passes (opening-checks s n es)
   pub named : All Passes (id-checks s (uses-of s n es))
   pub asked : All Passes (delivery-checks s n es)
 
@@ -58,7 +59,7 @@ frame-passed s n block v e =
     asked-of-entries in
     let (opening, after-opening) = all-parts (opening-checks s n es) (id-checks s (uses-of s n es) ++ delivery-checks s n es) after-needs in
     let (named, asked) = all-parts (id-checks s (uses-of s n es)) (delivery-checks s n es) after-opening in
-    record { in-turn = in-turn; needs = needs .0; named = named; asked = asked }
+    record { in-turn = in-turn; needs = needs .0; opening = opening; named = named; asked = asked }
 
 -- what a delivery that was recorded passed
 pub record Delivered (s : Session) (id label : List ℕ) : Type 0 where

@@ -5,11 +5,11 @@
 --     looks-..                        the same by the command
 --     decides-.., uses-..             steps
 use mathlib.Core.Path.{_≡_, refl, sym, ap, ap₂, subst, _∙_}
-use mathlib.Core.Bool.{true, false}
+use mathlib.Core.Bool.{Bool, true, false}
 use mathlib.Core.Option.{Option, none, some}
 use mathlib.Core.List.{List, []}
 use Prim.Native.Nat.{ℕ, _+_, _-_, _≤_, _<_}
-use lib.ListN.{length}
+use lib.ListN.{length, getD}
 use Rattle.headers.specs.Rows.{same}
 use Rattle.headers.specs.Block.{Entry, entries, listed}
 use Rattle.headers.specs.Answers.{Check, settle}
@@ -19,16 +19,16 @@ use Rattle.stores.specs.Searches.{first-from}
 use Rattle.sessions.specs.Stores.{ids}
 use Rattle.sessions.specs.Places.{Settles, stored}
 use Rattle.sessions.specs.Headers.{is, settles, value-of, mode-asked, put-before, changed-id}
-use Rattle.sessions.specs.Deliveries.{auto-mode, with-mode, pending, labelled, settle-label, dropped}
+use Rattle.sessions.specs.Deliveries.{auto-mode, with-mode, Pending, pending, labelled, settle-label, dropped}
 use Rattle.sessions.specs.Sessions.{subscriptions-max, id-max, ids-of, with-subscriptions, with-transactions, with-deliveries}
-use Rattle.sessions.specs.Sessions.{heard, is-valid, Sized}
-use Rattle.sessions.specs.Calls.{uses-of, id-effect, delivery-checks, modes-effect, delivery-effect, label-named, place-named, free-place}
+use Rattle.sessions.specs.Sessions.{spoken, heard, is-valid, Sized}
+use Rattle.sessions.specs.Calls.{uses-of, id-effect, delivery-checks, modes-effect, delivery-effect, place-named, free-place, may-name, lacks-needed}
 use Rattle.sessions.specs.Notes.{Locates}
 use Rattle.sessions.specs.Steps.{closed-by, accepted-by, Gives, GivesUses, SettlesUse, use-named, put-of, count-of, label-checks, outcome-with}
 use Rattle.sessions.specs.Changes.{Lends, PutFits, part-of, put-by, modes-by, deliveries-by, label-of, Does, Looks}
-use Rattle.sessions.specs.Changes.{LooksLabel, LooksFurther, use-of, Uses, Applies, closing-step, accepting-step, outcome-of, Decides}
+use Rattle.sessions.specs.Changes.{LooksLabel, LooksNamed, LooksFurther, use-of, Uses, Applies, closing-step, accepting-step, outcome-of, Decides}
 use Rattle.sessions.specs.Changes.{DecidesUses, put-sub, put-tx, set-modes, used-by}
-use Rattle.sessions.specs.declared.command.Header.the-variants.{Id}
+use Rattle.sessions.specs.declared.command.Header.the-variants.{Id, Subscription}
 use Rattle.sessions.specs.declared.command.Kind.{Kind}
 use Rattle.sessions.specs.declared.command.Kind.the-variants.{Subscriptions, Transactions}
 use Rattle.sessions.specs.declared.command.Naming.{Naming}
@@ -46,6 +46,7 @@ use Rattle.sessions.specs.declared.step.Further.{Further}
 use Rattle.sessions.specs.declared.step.Looked.{Looked}
 use Rattle.sessions.specs.declared.step.Step.{Step}
 use Rattle.sessions.proofs.Steps.{gives-refused, settle-refused, then-accepted, then-delivery}
+use Rattle.sessions.proofs.Tables.{settling-label}
 use Rattle.sessions.proofs.Uses.{naming-asked, naming-put}
 use Rattle.sessions.proofs.Kept.{Kept, first-passes}
 use Rattle.sessions.proofs.Delivering.{label-found, label-missed}
@@ -106,16 +107,20 @@ pub does-drop : (s : Session) (o : Option ℕ) (k : ℕ) → o ≡ some k → k 
     → Does s (with-mode o auto-mode (s .subscriptions .modes)) (dropped o (s .deliveries)) (Further.Drop k)
 does-drop s o k e h = rw e (record { modes-are = refl; deliveries-are = refl; mode-fits = h; settle-fits = tt })
 
--- a label that is pending, and one that is not
-module _ (s : Session) (kept : Kept s) (x : List ℕ) where
-  pub label-settles : (i : ℕ) → first-from (labelled x) 0 (pending (s .deliveries)) ≡ some i → LooksLabel s x (Looked.Does (Further.Settle i))
-  label-settles i e =
+-- a label that is pending, of a delivery that may be named or not, and one that is not
+module _ (s : Session) (kept : Kept s) (may : Pending → Bool) (x : List ℕ) where
+  abbrev numbered : ℕ → Pending
+  numbered i = getD (pending (s .deliveries)) i (record { place = 0; label = [] })
+
+  pub label-settles : (i : ℕ) → first-from (labelled x) 0 (pending (s .deliveries)) ≡ some i → may (numbered i) ≡ true
+      → LooksLabel s may x (Looked.Does (Further.Settle i))
+  label-settles i e t =
       let d = s .deliveries in
-      let (inside, passes) = label-found s kept x i e in
+      let (inside, passes, fails) = label-found s kept may x i e in
       let same-label : label-of i d ≡ x =
       same-eq (label-of i d) x (first-passes (labelled x) (record { place = 0; label = [] }) i (pending d) e .1) in
       record {
-        passed = passes;
+        passed = passes t;
         does = record {
           modes-are = refl;
           deliveries-are = ap (λ z. settle-label (s .subscriptions .modes) z d) (sym same-label);
@@ -124,8 +129,15 @@ module _ (s : Session) (kept : Kept s) (x : List ℕ) where
         };
       }
 
-  pub label-fails : first-from (labelled x) 0 (pending (s .deliveries)) ≡ none → LooksLabel s x (Looked.Refused 60)
-  label-fails e = (label-missed s kept x e, refl)
+  pub label-other : (i : ℕ) → first-from (labelled x) 0 (pending (s .deliveries)) ≡ some i → may (numbered i) ≡ false → LooksLabel s may x (Looked.Refused 60)
+  label-other i e t = (label-found s kept may x i e .2 t, refl)
+
+  pub label-fails : first-from (labelled x) 0 (pending (s .deliveries)) ≡ none → LooksLabel s may x (Looked.Refused 60)
+  label-fails e = (label-missed s kept may x e, refl)
+
+-- the same label, and the same test of the deliveries that may be named
+pub label-as : (s : Session) {may other : Pending → Bool} {x y : List ℕ} (r : Looked) → may ≡ other → x ≡ y → LooksLabel s may x r → LooksLabel s other y r
+label-as s {other = other} {x = x} r e q h = subst (λ z. LooksLabel s other z r) q (subst (λ z. LooksLabel s z x r) e h)
 
 -- ---- the same by the command
 
@@ -150,9 +162,11 @@ module _ (s : Session) (n : ℕ) (es : List Entry) where
   looks-dropped e id f h does = record { passed = λ v. rw e refl; does = does-as s _ _ (rw (e, h) refl) (rw (e, h) refl) does }
 
   module _ (a : is SUBSCRIBE n ≡ false) (b : is UNSUBSCRIBE n ≡ false) where
-    pub looks-label : settles n ≡ true → (l : List ℕ) → label-named es ≡ some l → (r : Looked) → LooksLabel s l r → LooksFurther s n es r
-    looks-label t l h r g =
-        looks-as (label-checks (some l) (s .deliveries)) (delivery-checks s n es) (s .subscriptions .modes) (modes-effect s n es)
+    pub looks-label : settles n ≡ true → lacks-needed s n es ≡ false → (r : Looked) → LooksNamed s es r → LooksFurther s n es r
+    looks-label t there r named =
+        let (l, h) = settling-label (spoken s) n es t there in
+        let g : LooksLabel s (may-name (spoken s) (place-named s (value-of Subscription es))) l r = named l h in
+        looks-as (label-checks (may-name (spoken s) (place-named s (value-of Subscription es))) (some l) (s .deliveries)) (delivery-checks s n es) (s .subscriptions .modes) (modes-effect s n es)
         (settle-label (s .subscriptions .modes) l (s .deliveries)) (delivery-effect s n es) (λ v. rw (a, t, h) refl) (rw (a, b) refl) (rw (b, t, h) refl) r g
 
     pub looks-none : settles n ≡ false → LooksFurther s n es (Looked.Does Further.Nothing)

@@ -31,12 +31,14 @@ use Rattle.sessions.specs.Deliveries.{is-pending, mode-of, settled, sett
 use Rattle.sessions.specs.Deliveries.{record-label, acknowledging, idle-modes, Laid}
 use Rattle.sessions.specs.Sessions.{subscriptions-max, id-max, open-phase, ids-of, with-deliveries, is-valid, SizedDeliveries}
 use Rattle.sessions.specs.Held.{delivery-of, held-deliveries, nth, nothing-told, told-of, pending-answer}
-use Rattle.sessions.specs.Calls.{free-place, place-named, is-auto, deliver-checks, deliver-answer, deliver-session, recording}
+use Rattle.sessions.specs.Calls.{free-place, place-named, is-auto, deliver-checks, deliver-answer, deliver-session, recording, may-name}
 use Rattle.sessions.specs.Steps.{Records, RecordsAt, MayRecord, unrecorded-by}
 use Rattle.sessions.specs.Steps.{recorded-as, recording-at, label-checks}
 use Rattle.sessions.specs.Answers.{delivery-says}
 use Rattle.stores.specs.declared.search.Search.{Search}
 use Rattle.sessions.specs.declared.command.Kind.the-variants.{Subscriptions}
+use Rattle.frames.specs.declared.version.Version.{Version}
+use Rattle.frames.specs.declared.version.Version.the-variants.{V11}
 use Rattle.sessions.specs.declared.delivery.Deliveries.{Deliveries}
 use Rattle.sessions.specs.declared.session.Session.{Session}
 use Rattle.sessions.specs.declared.session.Recording.{Recording}
@@ -195,6 +197,37 @@ says-at r o k e h = sym e ∙ ap search-says h
 pub says-nowhere : (r : Search) (o : Option ℕ) → search-says r ≡ o → r ≡ Search.Nowhere → o ≡ none
 says-nowhere r o e h = sym e ∙ ap search-says h
 
+-- the first that passes a test, by its number
+first-number : {A : Type 0} (f : A → Bool) (z : A) (n i : ℕ) (xs : List A) → first-from f n xs ≡ some i → (n ≤ i) × (first-of f xs ≡ some (getD xs (i - n) z))
+unfolding first-from
+first-number f z n i [] e = absurd (let y : _≡_ {A = ℕ} 0 1 = cc in omega arith)
+first-number f z n i (x ∷ xs) e = by (f x) e (first-number f z (suc n) i xs)
+  where
+    by : (t : Bool) → cond t (some n) (first-from f (suc n) xs) ≡ some i
+        → (first-from f (suc n) xs ≡ some i → (suc n ≤ i) × (first-of f xs ≡ some (getD xs (i - suc n) z)))
+        → (n ≤ i) × (cond t (some x) (first-of f xs) ≡ some (getD (x ∷ xs) (i - n) z))
+    by true q go =
+        let same : n ≡ i = cc in
+        let none : i - n ≡ 0 = omega arith in
+        (omega arith, ap (λ k. some (getD (x ∷ xs) k z)) (sym none))
+    by false q go =
+        let (l, h) = go q in
+        let next : suc (i - suc n) ≡ i - n = omega arith in
+        (omega arith, h ∙ ap (λ k. some (getD (x ∷ xs) k z)) next)
+
+first-at : {A : Type 0} (f : A → Bool) (z : A) (i : ℕ) (xs : List A) → first-from f 0 xs ≡ some i → first-of f xs ≡ some (getD xs i z)
+first-at f z i xs e = let same : i - 0 ≡ i = omega arith in first-number f z 0 i xs e .1 ∙ ap (λ k. some (getD xs k z)) same
+
+first-gone : {A : Type 0} (f : A → Bool) (n : ℕ) (xs : List A) → first-from f n xs ≡ none → first-of f xs ≡ none
+unfolding first-from
+first-gone f n [] e = refl
+first-gone f n (x ∷ xs) e = by (f x) e (first-gone f (suc n) xs)
+  where
+    by : (t : Bool) → cond t (some n) (first-from f (suc n) xs) ≡ none → (first-from f (suc n) xs ≡ none → first-of f xs ≡ none)
+        → cond t (some x) (first-of f xs) ≡ none
+    by true q go = absurd (let y : _≡_ {A = ℕ} 0 1 = cc in omega arith)
+    by false q go = go q
+
 -- ---- a session
 
 module _ (s : Session) (kept : Kept s) where
@@ -227,17 +260,24 @@ module _ (s : Session) (kept : Kept s) where
   place-inside p k e = omega (arith, first-passes p [] k (ids-of Subscriptions s) e .0, held-long s (kept .ids) Subscriptions)
 
   -- 60
-  pub label-found : (x : List ℕ) (i : ℕ) → first-from (labelled x) 0 (pending (s .deliveries)) ≡ some i → (i < s .deliveries .count)
-      × ((v : List ℕ) → settle (label-checks (some x) (s .deliveries)) v ≡ accepted v)
-  label-found x i e =
-      let there : is-pending x (s .deliveries) ≡ true = told-any (labelled x) 0 (pending (s .deliveries)) (Search.At i) (sym e) in (
+  pub label-found : (may : Pending → Bool) (x : List ℕ) (i : ℕ) → first-from (labelled x) 0 (pending (s .deliveries)) ≡ some i → (i < s .deliveries .count)
+      × (may (getD (pending (s .deliveries)) i none-pending) ≡ true → (v : List ℕ) → settle (label-checks may (some x) (s .deliveries)) v ≡ accepted v)
+      × (may (getD (pending (s .deliveries)) i none-pending) ≡ false → settle (label-checks may (some x) (s .deliveries)) [] ≡ refused 60)
+  label-found may x i e =
+      let is = first-at (labelled x) none-pending i (pending (s .deliveries)) e in (
         omega (arith, first-passes (labelled x) none-pending i (pending (s .deliveries)) e .0, pending-count (s .deliveries) (kept .holds .sized) laid-of),
-        λ v. rw there,
+        λ t v. rw (is, t) refl,
+        λ t. rw (is, t) refl,
       )
 
-  pub label-missed : (x : List ℕ) → first-from (labelled x) 0 (pending (s .deliveries)) ≡ none → settle (label-checks (some x) (s .deliveries)) [] ≡ refused 60
-  label-missed x e =
-      let gone : is-pending x (s .deliveries) ≡ false = told-any (labelled x) 0 (pending (s .deliveries)) Search.Nowhere (sym e) in rw gone
+  pub label-missed : (may : Pending → Bool) (x : List ℕ) → first-from (labelled x) 0 (pending (s .deliveries)) ≡ none
+      → settle (label-checks may (some x) (s .deliveries)) [] ≡ refused 60
+  label-missed may x e = rw (first-gone (labelled x) 0 (pending (s .deliveries)) e) refl
+
+-- whether an ACK or NACK of 1.1 may name the one with a number
+pub may-at : (d : Deliveries) (sized : SizedDeliveries d) (l : Laid d) (i : ℕ) → i < d .count → (ver : Version) (o : Search) (k w : ℕ) → ver ≡ V11
+    → o ≡ Search.At k → w ≡ getD (d .places) i 0 → eqb w k ≡ may-name ver (search-says o) (getD (pending d) i none-pending)
+may-at d sized l i h ver o k w e q p = rw (e, q) (ap (λ z. eqb z k) (p ∙ sym (place-at d sized l i h)))
 
 -- ---- a delivery recorded
 

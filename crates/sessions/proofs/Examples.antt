@@ -23,6 +23,7 @@ use Rattle.sessions.specs.Accounts.{fate, accounts}
 use Rattle.sessions.specs.Held.{pending-answer}
 use Rattle.sessions.specs.declared.session.Session.{Session}
 use Rattle.sessions.specs.Examples.{Holds, lives, entry, invalid, with-place, FlagsAndClock, PendingAsked}
+use Rattle.sessions.specs.Examples.{record-versions, versions-chosen, named-in-1-1, unnamed-in-1-1}
 use Rattle.sessions.specs.Examples.{intervals, clocks, makings, versions-counted, versions-malformed, heart-beats-malformed}
 use Rattle.sessions.specs.Examples.{missing-headers, accepted-frames, repeated-headers, server-commands, out-of-turn, bad-lengths}
 use Rattle.sessions.specs.Examples.{live-ids, full-stores, kept-and-closed, record-ids, record-numbers, modes-asked, settled-deliveries}
@@ -83,7 +84,7 @@ clocks-hold = (refl, (refl, (refl, (refl, (refl, tt)))))
 
 makings-hold : All Holds makings
 unfolding makings calls blocks stores
-makings-hold = (refl, (refl, (refl, (refl, (refl, (refl, (refl, (refl, tt))))))))
+makings-hold = (refl, (refl, (refl, (refl, (refl, (refl, (refl, (refl, (refl, (refl, tt))))))))))
 
 versions-counted-hold : All Holds versions-counted
 unfolding versions-counted calls blocks stores
@@ -185,6 +186,22 @@ record-places-hold : All Holds record-places
 unfolding record-places calls blocks stores
 record-places-hold = (refl, (refl, (refl, (refl, (refl, (refl, (refl, tt)))))))
 
+record-versions-hold : All Holds record-versions
+unfolding record-versions calls blocks stores
+record-versions-hold = (refl, (refl, (refl, (refl, (refl, (refl, (refl, (refl, (refl, tt)))))))))
+
+versions-chosen-hold : All Holds versions-chosen
+unfolding versions-chosen calls blocks stores
+versions-chosen-hold = (refl, (refl, (refl, (refl, (refl, (refl, (refl, (refl, (refl, tt)))))))))
+
+named-in-1-1-hold : All Holds named-in-1-1
+unfolding named-in-1-1 calls blocks stores
+named-in-1-1-hold = (refl, (refl, (refl, (refl, (refl, (refl, tt))))))
+
+unnamed-in-1-1-hold : All Holds unnamed-in-1-1
+unfolding unnamed-in-1-1 calls blocks stores
+unnamed-in-1-1-hold = (refl, (refl, (refl, (refl, (refl, (refl, (refl, (refl, (refl, (refl, tt))))))))))
+
 -- ---- The whole table
 
 -- a group of rows holds, and so do those after it
@@ -220,6 +237,10 @@ lives-hold =
     record-modes-hold also
     record-labels-hold also
     record-places-hold also
+    record-versions-hold also
+    versions-chosen-hold also
+    named-in-1-1-hold also
+    unnamed-in-1-1-hold also
     tt
 
 pub flags-and-clock-hold : FlagsAndClock
@@ -236,6 +257,10 @@ flags-and-clock-hold =
       highest-1-0 = refl;
       highest-1-1 = refl;
       highest-1-2 = refl;
+      chosen-none = refl;
+      chosen-1-1 = refl;
+      chosen-1-2 = refl;
+      chosen-both = refl;
     }
 
 pub pending-asked-hold : PendingAsked

@@ -18,7 +18,7 @@ use Rattle.frames.specs.Grammar.{number, CONNECT, DISCONNECT, STOMP}
 use Rattle.sessions.specs.Stores.{ids, live, used, use-checks}
 use Rattle.sessions.specs.Values.{HeartBeats}
 use Rattle.sessions.specs.Headers.{IdUse, changed-id, is, opens}
-use Rattle.sessions.specs.Sessions.{subscriptions-max, transactions-max, id-max, ids-of, with-ids, with-modes, with-deliveries, closed, heard}
+use Rattle.sessions.specs.Sessions.{spoken, subscriptions-max, transactions-max, id-max, ids-of, with-ids, with-modes, with-deliveries, closed, heard}
 use Rattle.sessions.specs.Calls.{left-by, making-answer, made-by, made, shared-by, client-versions, client-heart-beats, opened-by, uses-of}
 use Rattle.sessions.specs.Calls.{id-checks, frame-answer, id-effect, effect, frame-session, heart-beat-answer, heart-beat-session, modes-effect}
 use Rattle.sessions.specs.Calls.{delivery-effect, recorded-by, recording, deliver-answer, deliver-session}
@@ -32,6 +32,7 @@ use Rattle.sessions.specs.declared.parts.SubscriptionStore.{Subscription
 use Rattle.sessions.specs.declared.parts.TransactionStore.{TransactionStore}
 use Rattle.sessions.specs.declared.session.Session.{Session}
 use Rattle.sessions.proofs.Rows.{or-either}
+use Rattle.sessions.proofs.Tables.{changed-alike}
 use Rattle.headers.proofs.Settling.{Passes}
 use Rattle.sessions.proofs.Checks.{Passed, frame-passed, changed-settles, left-case}
 use Rattle.sessions.proofs.Stores.{are-short, ids-laid, used-short, use-short, used-live, zeros-ids, none-live}
@@ -102,7 +103,8 @@ module _ (s : Session) (h : Held s) (k : Kind) (id : List ℕ) (some-id : id ≢
       (λ o. cond-case (λ r. live id (ids-of k r) ≡ named-live s k id (told-uses n es)) (is DISCONNECT n)
       (λ d. ap (live id) (ids-same k (closed s) s (refl, refl)) ∙ sym (ap (named-live s k id) (closing-names n es d)))
       (λ d. ap (live id) (ids-named k (id-effect s (changed-id (uses-of s n es))) (modes-effect s n es) (delivery-effect s n es))
-      ∙ live-uses (uses-of s n es) (p .named) (changed-id (uses-of s n es)) refl))
+      ∙ live-uses (uses-of s n es) (p .named) (changed-id (uses-of s n es)) refl
+      ∙ ap (live-changed k id (live id (ids-of k s))) (changed-alike (spoken s) n es)))
     where
       ids-opened : (shared : List Bool) (o : Option HeartBeats) → ids-of k (opened-by s shared o) ≡ ids-of k s
       ids-opened shared none = refl

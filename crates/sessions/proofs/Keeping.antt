@@ -24,11 +24,11 @@ use Rattle.headers.specs.Parts.{split}
 use Rattle.sessions.specs.Stores.{distinct, valid-store, used, use-checks}
 use Rattle.sessions.specs.Places.{Fits}
 use Rattle.sessions.specs.Values.{HeartBeats, heart-beat-max, both, heart-beats-in, heart-beats}
-use Rattle.sessions.specs.Opening.{may-offer, interval}
+use Rattle.sessions.specs.Opening.{flag, shared-flags, none-shared, may-offer, all-among, interval}
 use Rattle.sessions.specs.Headers.{IdUse, changed-id, value-of, mode-asked, is, opens}
 use Rattle.sessions.specs.Sessions.{subscriptions-max, transactions-max, id-max, fresh-phase, open-phase, closed-phase, in-phase, fresh}
 use Rattle.sessions.specs.Sessions.{ids-of, with-subscriptions, with-transactions, with-ids, with-modes, with-phase, with-deliveries, closed, heard}
-use Rattle.sessions.specs.Sessions.{right-flags, valid-offers, valid-agreed, valid-numbers, valid-subscriptions, valid-transactions, valid-ids}
+use Rattle.sessions.specs.Sessions.{right-flags, right-shared, valid-offers, valid-agreed, valid-numbers, valid-subscriptions, valid-transactions, valid-ids}
 use Rattle.sessions.specs.Sessions.{right-deliveries, is-valid, Sized, SizedSubscriptions, SizedTransactions}
 use Rattle.sessions.specs.declared.parts.SubscriptionStore.{SubscriptionStore}
 use Rattle.sessions.specs.declared.parts.TransactionStore.{TransactionStore}
@@ -56,6 +56,7 @@ pub record Valid (s : Session) : Type 0 where
   pub offers : (s .offers .sends ≤ heart-beat-max) × (s .offers .wants ≤ heart-beat-max)
   pub intervals : (s .agreed .inbound ≤ heart-beat-max) × (s .agreed .outbound ≤ heart-beat-max)
   pub flags : right-flags s ≡ true
+  pub shared : right-shared s ≡ true
   pub subscriptions : valid-store id-max (s .subscriptions .ids) (s .subscriptions .lens) ≡ true
   pub transactions : valid-store id-max (s .transactions .ids) (s .transactions .lens) ≡ true
 
@@ -69,7 +70,8 @@ valid-record s h =
     let (numbers, rest) = pair (valid-numbers s) _ h in
     let (stores, deliveries) = pair (valid-ids s) (right-deliveries s) rest in
     let (phase, others) = pair (leb (s .phase) closed-phase) _ numbers in
-    let (small, flags) = pair (valid-offers (s .offers) && valid-agreed (s .agreed)) _ others in
+    let (small, versions) = pair (valid-offers (s .offers) && valid-agreed (s .agreed)) _ others in
+    let (flags, shared) = pair (right-flags s) (right-shared s) versions in
     let (offers, intervals) = pair (valid-offers (s .offers)) _ small in
     let (sends, wants) = pair (leb (s .offers .sends) heart-beat-max) _ offers in
     let (inbound, outbound) = pair (leb (s .agreed .inbound) heart-beat-max) _ intervals in
@@ -79,6 +81,7 @@ valid-record s h =
       offers = (leb-true (s .offers .sends) heart-beat-max sends, leb-true (s .offers .wants) heart-beat-max wants);
       intervals = (leb-true (s .agreed .inbound) heart-beat-max inbound, leb-true (s .agreed .outbound) heart-beat-max outbound);
       flags = flags;
+      shared = shared;
       subscriptions = and-left (valid-store id-max (s .subscriptions .ids) (s .subscriptions .lens)) _ subscriptions;
       transactions = transactions;
     }
@@ -94,7 +97,7 @@ pub record-valid : (s : Session) → Valid s → valid-modes (s .subscriptions .
     → is-valid s ≡ true
 unfolding is-valid
 record-valid s v m o =
-    ap₂ (_&&_) (ap₂ (_&&_) (le-leb (s .phase) closed-phase (v .known)) (ap₂ (_&&_) small (v .flags)))
+    ap₂ (_&&_) (ap₂ (_&&_) (le-leb (s .phase) closed-phase (v .known)) (ap₂ (_&&_) small (ap₂ (_&&_) (v .flags) (v .shared))))
     (ap₂ (_&&_) (ap₂ (_&&_) (ap₂ (_&&_) (v .subscriptions) m) (v .transactions)) o)
   where
     small : valid-offers (s .offers) && valid-agreed (s .agreed) ≡ true
@@ -174,8 +177,8 @@ module _ (s : Session) (h : Held s) where
 
   -- a session with the same stores
   held-by : (r : Session) → SameStores r s → r .phase ≤ closed-phase → (r .offers .sends ≤ heart-beat-max) × (r .offers .wants ≤ heart-beat-max)
-      → (r .agreed .inbound ≤ heart-beat-max) × (r .agreed .outbound ≤ heart-beat-max) → right-flags r ≡ true → Held r
-  held-by r (a, b) known offers intervals flags =
+      → (r .agreed .inbound ≤ heart-beat-max) × (r .agreed .outbound ≤ heart-beat-max) → right-flags r ≡ true → right-shared r ≡ true → Held r
+  held-by r (a, b) known offers intervals flags shared =
       record {
         sized = record {
           subscriptions = subst SizedSubscriptions (sym a) (h .sized .subscriptions);
@@ -186,6 +189,7 @@ module _ (s : Session) (h : Held s) where
           offers = offers;
           intervals = intervals;
           flags = flags;
+          shared = shared;
           subscriptions = ap (λ (x : SubscriptionStore). valid-store id-max (x .ids) (x .lens)) a ∙ h .valid .subscriptions;
           transactions = ap valid-transactions b ∙ h .valid .transactions;
         };
@@ -194,23 +198,27 @@ module _ (s : Session) (h : Held s) where
   -- ---- each change keeps them
 
   pub held-closed : Held (closed s)
-  held-closed = held-by (closed s) (refl, refl) (omega arith) (h .valid .offers) (h .valid .intervals) refl
+  held-closed = held-by (closed s) (refl, refl) (omega arith) (h .valid .offers) (h .valid .intervals) refl refl
 
   pub held-heard : (time : ℕ) → Held (heard s time)
-  held-heard time = held-by (heard s time) (refl, refl) (h .valid .known) (h .valid .offers) (h .valid .intervals) (h .valid .flags)
+  held-heard time = held-by (heard s time) (refl, refl) (h .valid .known) (h .valid .offers) (h .valid .intervals) (h .valid .flags) (h .valid .shared)
 
   -- a fresh one offers what it may
   fresh-flags : in-phase fresh-phase s ≡ true → may-offer (s .offers .versions) ≡ true
   fresh-flags f = sym (ap (λ p. eqb p closed-phase || may-offer (s .offers .versions)) (eqb-true (s .phase) fresh-phase f)) ∙ h .valid .flags
 
-  pub held-opened : in-phase fresh-phase s ≡ true → (shared : List Bool) (o : Option HeartBeats) → OfSome Small o → Held (opened-by s shared o)
-  held-opened f shared none small = h
-  held-opened f shared (some b) small =
+  -- versions that are shared, of those offered
+  abbrev pub Shares : List Bool → Type 0
+  Shares shared = not (none-shared shared) && all-among shared (s .offers .versions) ≡ true
+
+  pub held-opened : in-phase fresh-phase s ≡ true → (shared : List Bool) (o : Option HeartBeats) → Shares shared → OfSome Small o → Held (opened-by s shared o)
+  held-opened f shared none some-shared small = h
+  held-opened f shared (some b) some-shared small =
       held-by (opened-by s shared (some b)) (refl, refl) (omega arith) (h .valid .offers) (
         interval-small (b .sends) (s .offers .wants) heart-beat-max (small .0) (h .valid .offers .1),
         interval-small (s .offers .sends) (b .wants) heart-beat-max (h .valid .offers .0) (small .1),
       )
-      (fresh-flags f)
+      (fresh-flags f) some-shared
 
   -- with other stores
   stored : {subscriptions : SubscriptionStore} {transactions : TransactionStore} → valid-store id-max (subscriptions .ids) (subscriptions .lens) ≡ true
@@ -221,6 +229,7 @@ module _ (s : Session) (h : Held s) where
         offers = h .valid .offers;
         intervals = h .valid .intervals;
         flags = h .valid .flags;
+        shared = h .valid .shared;
         subscriptions = a;
         transactions = b;
       }
@@ -273,7 +282,28 @@ module _ (s : Session) (h : Held s) where
       }
 
   pub held-deliveries : (d : Deliveries) → Held (with-deliveries s d)
-  held-deliveries d = held-by (with-deliveries s d) (refl, refl) (h .valid .known) (h .valid .offers) (h .valid .intervals) (h .valid .flags)
+  held-deliveries d = held-by (with-deliveries s d) (refl, refl) (h .valid .known) (h .valid .offers) (h .valid .intervals) (h .valid .flags) (h .valid .shared)
+
+-- the versions that both sides have are among those offered
+shared-among : (a b : List Bool) → all-among (shared-flags a b) b ≡ true
+shared-among a b = ap₂ (_&&_) (one (flag a 0) (flag b 0)) (ap₂ (_&&_) (one (flag a 1) (flag b 1)) (one (flag a 2) (flag b 2)))
+  where
+    one : (x y : Bool) → not (x && y) || y ≡ true
+    one true true = refl
+    one true false = refl
+    one false y = refl
+
+opening-shares : (s : Session) (es : List Entry) → none-shared (shared-by s (client-versions es)) ≡ false
+    → not (none-shared (shared-by s (client-versions es))) && all-among (shared-by s (client-versions es)) (s .offers .versions) ≡ true
+opening-shares s es h = ap₂ (λ a b. not a && b) h (by (client-versions es))
+  where
+    by : (o : Option (List Bool)) → all-among (shared-by s o) (s .offers .versions) ≡ true
+    by none = refl
+    by (some client) = shared-among client (s .offers .versions)
+
+pub passed-shares : (s : Session) (n : ℕ) (es : List Entry) → Passed s n es → opens n ≡ true
+    → not (none-shared (shared-by s (client-versions es))) && all-among (shared-by s (client-versions es)) (s .offers .versions) ≡ true
+passed-shares s n es p o = opening-shares s es (sym (ap (_&& none-shared (shared-by s (client-versions es))) o) ∙ p .opening .1 .0)
 
 -- modes with one set are as many
 mode-long : (o : Option ℕ) (m : ℕ) (ms : List ℕ) → length (with-mode o m ms) ≡ length ms
@@ -300,7 +330,7 @@ module _ (s : Session) (h : Held s) where
       cond-case Held (opens n)
       (λ o. held-opened s h
       (not-false (in-phase fresh-phase s) (sym (ap (λ t. cond t (not (in-phase fresh-phase s)) (not (in-phase open-phase s))) o) ∙ p .in-turn))
-      (shared-by s (client-versions es)) (client-heart-beats es) (of-small (value-of HeartBeat es)))
+      (shared-by s (client-versions es)) (client-heart-beats es) (passed-shares s n es p o) (of-small (value-of HeartBeat es)))
       (λ o. cond-case Held (is DISCONNECT n) (λ d. held-closed s h) (λ d. held-named n es p))
 
 pub held-frame : (s : Session) (n : ℕ) (block : List ℕ) (time : ℕ) → Held s → Held (frame-session s n block time)
@@ -324,8 +354,8 @@ held-deliver s id label h = by (deliver-answer s id label)
 -- ---- a session that is made
 
 pub held-fresh : (sends wants : ℕ) (offered : List Bool) (phase : ℕ) → sends ≤ heart-beat-max → wants ≤ heart-beat-max → phase ≤ closed-phase
-    → eqb phase closed-phase || may-offer offered ≡ true → Held (with-phase (fresh sends wants offered) phase)
-held-fresh sends wants offered phase a b known flags =
+    → eqb phase closed-phase || may-offer offered ≡ true → eqb phase open-phase ≡ false → Held (with-phase (fresh sends wants offered) phase)
+held-fresh sends wants offered phase a b known flags not-open =
     record {
       sized = record {
         subscriptions = record {
@@ -343,6 +373,7 @@ held-fresh sends wants offered phase a b known flags =
         offers = (a, b);
         intervals = (omega arith, omega arith);
         flags = flags;
+        shared = ap (λ t. not t || false) not-open;
         subscriptions = zeros-valid id-max subscriptions-max;
         transactions = zeros-valid id-max transactions-max;
       };
@@ -361,5 +392,5 @@ held-made sends wants offered = by (making-answer sends wants offered) refl
         (ltb-false heart-beat-max sends (or-false-left (ltb heart-beat-max sends) (ltb heart-beat-max wants || not (may-offer offered)) small))
         (ltb-false heart-beat-max wants (or-false-left (ltb heart-beat-max wants) (not (may-offer offered)) rest))
         (omega arith)
-        (not-false (may-offer offered) (or-false-right (ltb heart-beat-max wants) (not (may-offer offered)) rest))
-    by (refused k) e = held-fresh 0 0 (replicate 3 false) closed-phase (omega arith) (omega arith) (omega arith) refl
+        (not-false (may-offer offered) (or-false-right (ltb heart-beat-max wants) (not (may-offer offered)) rest)) refl
+    by (refused k) e = held-fresh 0 0 (replicate 3 false) closed-phase (omega arith) (omega arith) (omega arith) refl refl

@@ -21,14 +21,14 @@ use Rattle.stores.specs.Searches.{replaced, first-from}
 use Rattle.sessions.specs.Stores.{lengths, live, used, use-checks, bad-length}
 use Rattle.sessions.specs.Values.{HeartBeats}
 use Rattle.sessions.proofs.Tables.{transaction-named}
-use Rattle.sessions.specs.Headers.{IdUse, changed-id, value-of, has, is, opens, mode-named, mode-asked, settles, is-some}
+use Rattle.sessions.specs.Headers.{IdUse, changed-id, value-of, has, is, opens, mode-named, mode-asked, settles, label-named, is-some}
 use Rattle.sessions.specs.Deliveries.{individual-mode, auto-mode, label-max, Pending, pending, labelled, is-pending, mode-of, goes-with}
 use Rattle.sessions.specs.Deliveries.{deliveries-of, settled-as, with-mode, dropped, record-label, valid-modes, valid-deliveries, no-deliveries}
 use Rattle.sessions.specs.Sessions.{spoken, id-max, fresh-phase, open-phase, in-phase, fresh, ids-of, with-ids, with-deliveries}
 use Rattle.sessions.specs.Sessions.{no-subscriptions, closed, heard, valid-numbers, valid-ids, right-deliveries, is-valid, Sized, SizedDeliveries}
 use Rattle.sessions.specs.Calls.{out-of-phase, lacks-needed, opening, shared-by, client-versions, client-heart-beats, opened-by, uses-of}
 use Rattle.sessions.specs.Calls.{frame-answer, id-effect, effect, frame-session, heart-beat-answer, heart-beat-session, place-named, free-place}
-use Rattle.sessions.specs.Calls.{mode-or-auto, settle-named, label-named, modes-effect, delivery-effect, named-effect, deliver-checks}
+use Rattle.sessions.specs.Calls.{mode-or-auto, settle-named, modes-effect, delivery-effect, named-effect, deliver-checks}
 use Rattle.sessions.specs.Calls.{deliver-answer, recorded-by, recording, deliver-session, is-auto, making-answer, made-by, made}
 use Rattle.sessions.specs.Histories.{Call, frame, heart-beat, deliver, next, after}
 use Rattle.sessions.specs.declared.command.Header.the-variants.{Id, Ack, Destination, HeartBeat}
@@ -43,7 +43,7 @@ use Rattle.sessions.proofs.Checks.{unsubscribe-settles, left-case}
 use Rattle.stores.proofs.Searching.{is-some as finds, found-at, any-first, first-at}
 use Rattle.sessions.proofs.Stores.{lengths-ids, lengths-set, use-some, use-live, use-room, zeros-ids}
 use Rattle.sessions.proofs.Pending.{Holds, Proper, holds-none, holds-settled, holds-snoc, holds-dropped, holds-subscribed}
-use Rattle.sessions.proofs.Keeping.{Held, valid-record, record-modes, record-valid, subscriptions-fit, held-closed, held-heard, held-opened}
+use Rattle.sessions.proofs.Keeping.{Shares, passed-shares, Held, valid-record, record-modes, record-valid, subscriptions-fit, held-closed, held-heard, held-opened}
 use Rattle.sessions.proofs.Keeping.{held-named, held-made, held-deliveries, OfSome, Small, of-small}
 
 -- two sessions with the same subscriptions
@@ -130,9 +130,9 @@ module _ (s : Session) (kept : Kept s) where
 
   -- ---- the opening
 
-  pub kept-opened : in-phase fresh-phase s ≡ true → (shared : List Bool) (o : Option HeartBeats) → OfSome Small o → Kept (opened-by s shared o)
-  kept-opened f shared none small = kept
-  kept-opened f shared (some b) small = record { ids = held-opened s (kept .ids) f shared (some b) small; holds = kept .holds; only-open = refl }
+  pub kept-opened : in-phase fresh-phase s ≡ true → (shared : List Bool) (o : Option HeartBeats) → Shares s (kept .ids) shared → OfSome Small o → Kept (opened-by s shared o)
+  kept-opened f shared none shares small = kept
+  kept-opened f shared (some b) shares small = record { ids = held-opened s (kept .ids) f shared (some b) shares small; holds = kept .holds; only-open = refl }
 
   -- ---- a frame that may name an id
 
@@ -223,10 +223,10 @@ module _ (s : Session) (kept : Kept s) where
   together n es p = by (is SUBSCRIBE n) (is UNSUBSCRIBE n) refl refl
     where
       others : is SUBSCRIBE n ≡ false → is UNSUBSCRIBE n ≡ false
-          → Holds (s .subscriptions .lens) ms (cond (settles n) (settle-named ms (label-named es) (s .deliveries)) (s .deliveries)) → Together n es
+          → Holds (s .subscriptions .lens) ms (cond (settles n) (settle-named ms (label-named (spoken s) es) (s .deliveries)) (s .deliveries)) → Together n es
       others a b h =
           let modes-stay : modes-effect s n es ≡ ms = rw (a, b) in
-          let left-is : delivery-effect s n es ≡ cond (settles n) (settle-named ms (label-named es) (s .deliveries)) (s .deliveries) = rw b in
+          let left-is : delivery-effect s n es ≡ cond (settles n) (settle-named ms (label-named (spoken s) es) (s .deliveries)) (s .deliveries) = rw b in
           subst (λ z. Holds z (modes-effect s n es) (delivery-effect s n es)) (sym (ap (λ (x : SubscriptionStore). x .lens) (other-lens n es a b)))
           (subst (λ z. Holds (s .subscriptions .lens) z (delivery-effect s n es)) (sym modes-stay) (subst (Holds (s .subscriptions .lens) ms) (sym left-is) h))
 
@@ -246,7 +246,7 @@ module _ (s : Session) (kept : Kept s) where
       by : (a b : Bool) → is SUBSCRIBE n ≡ a → is UNSUBSCRIBE n ≡ b → Together n es
       by true b e f = let k : n ≡ 14 = eqb-true n 14 e in subst (λ z. Passed s z es → Together z es) (sym k) (entering k) p
       by false true e f = let k : n ≡ 15 = eqb-true n 15 f in subst (λ z. Passed s z es → Together z es) (sym k) (freeing k) p
-      by false false e f = others e f (cond-case (Holds (s .subscriptions .lens) ms) (settles n) (λ t. together-settled (label-named es)) (λ t. kept .holds))
+      by false false e f = others e f (cond-case (Holds (s .subscriptions .lens) ms) (settles n) (λ t. together-settled (label-named (spoken s) es)) (λ t. kept .holds))
 
   -- a frame that is not the opening one comes in an open session
   open-yet : (n : ℕ) → opens n ≡ false → out-of-phase s n ≡ false → in-phase open-phase s ≡ true
@@ -258,7 +258,7 @@ module _ (s : Session) (kept : Kept s) where
       by : (a b : Bool) → opens n ≡ a → is DISCONNECT n ≡ b → Kept (cond a (opening s es) (cond b (closed s) (named-effect s n es)))
       by true b o d =
           kept-opened (not-false (in-phase fresh-phase s) (sym (ap (λ t. cond t (not (in-phase fresh-phase s)) (not (in-phase open-phase s))) o) ∙ p .in-turn))
-          (shared-by s (client-versions es)) (client-heart-beats es) (of-small (value-of HeartBeat es))
+          (shared-by s (client-versions es)) (client-heart-beats es) (passed-shares s n es p o) (of-small (value-of HeartBeat es))
       by false true o d = kept-closed
       by false false o d =
           record {

@@ -22,6 +22,7 @@ pub mod Keeping
 pub mod Kept
 pub mod Delivering
 pub mod Deciding
+pub mod Versions
 pub mod Told
 pub mod Histories
 pub mod Closing

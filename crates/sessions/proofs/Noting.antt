@@ -91,6 +91,8 @@ tabled Header.Id = record { below = omega arith; there = refl; itself = refl }
 tabled Header.Transaction = record { below = omega arith; there = refl; itself = refl }
 tabled Header.Receipt = record { below = omega arith; there = refl; itself = refl }
 tabled Header.Ack = record { below = omega arith; there = refl; itself = refl }
+tabled Header.Subscription = record { below = omega arith; there = refl; itself = refl }
+tabled Header.MessageId = record { below = omega arith; there = refl; itself = refl }
 
 -- a name has the number of a header exactly where it is that header's name
 pub is-number : (x : List ℕ) (h : Header) → eqb (number-of-name x) (index-of h) ≡ same x (name-of h)

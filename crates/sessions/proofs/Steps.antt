@@ -16,16 +16,17 @@ use Rattle.headers.proofs.Rows.{and-left, and-right, or-false-left}
 use Rattle.frames.specs.Grammar.{number, ACK, NACK, CONNECT, DISCONNECT, STOMP, UNSUBSCRIBE}
 use Rattle.sessions.specs.Values.{heart-beat-max}
 use Rattle.sessions.specs.Opening.{may-offer}
-use Rattle.sessions.specs.Headers.{has, is, opens, settles, IdUse, changed-id}
-use Rattle.sessions.specs.Sessions.{fresh, with-modes, with-deliveries, closed, heard, is-valid}
+use Rattle.sessions.specs.Headers.{has, is, opens, needed-by, IdUse, changed-id}
+use Rattle.sessions.specs.Sessions.{fresh, with-modes, with-deliveries, closed, heard, spoken, is-valid}
 use Rattle.sessions.specs.Answers.{acceptance-says, answer-says}
 use Rattle.sessions.specs.Calls.{left-by, uses-of, id-effect, id-checks, delivery-checks, modes-effect, delivery-effect, named-effect}
-use Rattle.sessions.specs.Calls.{lacks-needed, frame-checks, acceptance-of, no-receipt}
+use Rattle.sessions.specs.Calls.{lacks-any, lacks-needed, frame-checks, acceptance-of, no-receipt}
 use Rattle.sessions.specs.Calls.{frame-answer, effect, frame-session, heart-beat-checks, heart-beat-answer, heart-beat-session, making-answer, made}
 use Rattle.sessions.specs.Calls.{is-timed-out, timed-out-answer}
 use Rattle.sessions.specs.Steps.{kept-by, closed-by, accepted-by, Gives, opening-only, GivesUses, GivesOpening, GivesDelivery, GivesEntries}
 use Rattle.sessions.specs.Steps.{after-answer, GivesThen, outcome-with}
 use Rattle.sessions.specs.Steps.{Records, unrecorded-by, recorded-as}
+use Rattle.frames.specs.declared.version.Version.{Version}
 use Rattle.sessions.specs.declared.command.Header.the-variants.{Id}
 use Rattle.sessions.specs.declared.delivery.Deliveries.{Deliveries}
 use Rattle.sessions.specs.declared.session.SessionAnswer.{SessionAnswer}
@@ -243,21 +244,14 @@ module _ (s : Session) (n : ℕ) (es : List Entry) (acceptance : Acceptance) (ti
       gives-then (id-checks s (uses-of s n es)) (delivery-checks s n es) acceptance s (heard (id-effect s (changed-id (uses-of s n es))) time)
       (modes-effect s n es) (delivery-effect s n es) named r g h
 
--- the id of an UNSUBSCRIBE, an ACK and a NACK is there
+-- what is missing, by the version that the session speaks
+pub lacks-spoken : (s : Session) (n : ℕ) (es : List Entry) {r : Bool} {v : Version} → v ≡ spoken s → r ≡ lacks-any (needed-by v n) es → r ≡ lacks-needed s n es
+lacks-spoken s n es e q = q ∙ ap (λ z. lacks-any (needed-by z n) es) e
+
+-- the id of an UNSUBSCRIBE is there
 module _ (s : Session) (n : ℕ) (es : List Entry) (there : lacks-needed s n es ≡ false) where
   pub dropping-has : n ≡ number UNSUBSCRIBE → has Id es ≡ true
   dropping-has e = not-false (has Id es) (or-false-left (not (has Id es)) false (rw e at there))
-
-  pub settling-has : settles n ≡ true → has Id es ≡ true
-  settling-has = by (is ACK n) (is NACK n) refl refl
-    where
-      named : (m : ℕ) → n ≡ m → lacks-needed s m es ≡ (not (has Id es) || false) → has Id es ≡ true
-      named m e q = not-false (has Id es) (or-false-left (not (has Id es)) false (sym q ∙ ap (λ z. lacks-needed s z es) (sym e) ∙ there))
-
-      by : (a b : Bool) → is ACK n ≡ a → is NACK n ≡ b → a || b ≡ true → has Id es ≡ true
-      by true b p q h = named (number ACK) (eqb-true n (number ACK) p) refl
-      by false true p q h = named (number NACK) (eqb-true n (number NACK) q) refl
-      by false false p q h = absurd (let z : _≡_ {A = ℕ} 0 1 = cc in omega arith)
 
 -- ---- a delivery that is recorded
 

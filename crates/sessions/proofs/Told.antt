@@ -17,9 +17,11 @@ use borrow.Author.Tests.{eqb-true, eqb-false, not-true}
 use Rattle.headers.specs.Rows.{any, empty, same, All, first-of}
 use Rattle.headers.proofs.Rows.{and-left, and-right, or-false-left, or-false-right, same-eq, same-self, empty-not, not-empty, empty-eqb}
 use Rattle.headers.specs.Block.{Entry, entries, listed}
+use Rattle.frames.specs.declared.version.Version.{Version}
+use Rattle.frames.specs.declared.version.Version.the-variants.{V11, V12}
 use Rattle.frames.specs.Grammar.{ACK, CONNECT, DISCONNECT, NACK, STOMP, SUBSCRIBE, UNSUBSCRIBE}
 use Rattle.sessions.specs.Values.{HeartBeats}
-use Rattle.sessions.specs.Headers.{changed-id, value-of, has, is, opens, mode-asked}
+use Rattle.sessions.specs.Headers.{changed-id, value-of, has, is, is-some, opens, needed, mode-asked, label-named}
 use Rattle.sessions.specs.Stores.{ids, live, distinct, used, use-checks}
 use Rattle.sessions.specs.Deliveries.{auto-mode, client-mode, Pending, pending, labelled, mode-of, goes-with, deliveries-of}
 use Rattle.sessions.specs.Deliveries.{without, settled, settled-as, settle-label, with-mode, dropped, record-label}
@@ -28,7 +30,7 @@ use Rattle.sessions.specs.Accounts.{Delivery, Event, subscribed, unsubsc
 use Rattle.sessions.specs.Accounts.{is-refused, is-dropped, recorded, delivered, acked, nacked, closed, nothing, settled-with, pending-in}
 use Rattle.sessions.specs.declared.delivery.Deliveries.{Deliveries}
 use Rattle.headers.specs.Answers.{Answer, accepted, refused, settle}
-use Rattle.sessions.specs.Sessions.{id-max, ids-of, with-ids, with-modes, with-deliveries, heard, closed as closed-session}
+use Rattle.sessions.specs.Sessions.{spoken, id-max, ids-of, with-ids, with-modes, with-deliveries, heard, closed as closed-session}
 use Rattle.sessions.specs.Histories.{Call, frame, heart-beat, deliver, answer-to, next, after, said, frame-event, refusal-event, event-of, events}
 use Rattle.sessions.specs.Held.{delivery-of, held-deliveries}
 use Rattle.sessions.specs.declared.command.Kind.the-variants.{Subscriptions}
@@ -39,15 +41,17 @@ use Rattle.sessions.proofs.Kept.{unsubscribe-id, deliver-place, deliver
 use Rattle.sessions.proofs.Kept.{made-ids}
 use Rattle.sessions.proofs.Keeping.{held-long, held-short, held-distinct}
 use Rattle.sessions.proofs.Checks.{Passed, frame-passed, subscribe-changes, subscribe-settles, unsubscribe-changes, unsubscribe-settles}
+use Rattle.sessions.proofs.Tables.{settling-label}
+use Rattle.sessions.proofs.Versions.{events-next}
 use Rattle.stores.proofs.Searching.{found-at}
 use Rattle.sessions.proofs.Stores.{ids-laid, used-short, use-short, use-some, use-new}
 use Rattle.sessions.specs.declared.store.Use.{Use}
 use Rattle.sessions.specs.declared.store.Use.the-variants.{Enter, Free}
-use Rattle.sessions.specs.declared.command.Header.the-variants.{Id}
+use Rattle.sessions.specs.declared.command.Header.the-variants.{Id, Subscription, MessageId}
 use Rattle.sessions.specs.Calls.{left-by as session-left, made, opened-by, opening, shared-by, client-versions, client-heart-beats, uses-of}
 use Rattle.sessions.specs.Calls.{id-effect, effect, free-place, place-named, settle-named, mode-or-auto, modes-effect, delivery-effect, named-effect}
 use Rattle.sessions.specs.Calls.{frame-answer, frame-session, heart-beat-answer, heart-beat-session, deliver-checks, deliver-answer, recorded-by}
-use Rattle.sessions.specs.Calls.{recording, deliver-session}
+use Rattle.sessions.specs.Calls.{lacks-any, recording, deliver-session}
 use Rattle.sessions.proofs.Accounts.{named, settled-for, settled-by, entered, left-by, Distinct, Agrees, same-turn, survivors, step-pending}
 use Rattle.sessions.proofs.Accounts.{none-later, all-accounted}
 use Rattle.sessions.proofs.Pending.{Apart, Elsewhere, Proper, Holds, good, holds-none, holds-dropped, free-elsewhere, all-with, any-map}
@@ -421,14 +425,15 @@ module _ (past : List Event) (s : Session) (kept : Kept s) (knows : Knows past s
 
   -- ---- an accepted frame
 
-  needs-label : (es : List Entry) → not (has Id es) || false ≡ false → (l : List ℕ) × (value-of Id es ≡ some l)
-  needs-label es h = unsubscribe-id s kept es h
+  -- the protocol version of the session
+  abbrev ver : Version
+  ver = spoken s
 
-  left-named : (n : ℕ) (es : List Entry) → Passed s n es → opens n ≡ false → is DISCONNECT n ≡ false → Left past s (named-effect s n es) (frame-event n es)
+  left-named : (n : ℕ) (es : List Entry) → Passed s n es → opens n ≡ false → is DISCONNECT n ≡ false → Left past s (named-effect s n es) (frame-event ver n es)
   left-named n es p o d = by (is SUBSCRIBE n) (is UNSUBSCRIBE n) (is ACK n) (is NACK n) refl refl refl refl
     where
       Goal : ℕ → Type 0
-      Goal z = Passed s z es → Left past s (named-effect s z es) (frame-event z es)
+      Goal z = Passed s z es → Left past s (named-effect s z es) (frame-event ver z es)
 
       -- the effect on the ids, and the session with that, and with other modes and deliveries
       ids-left : ℕ → Session
@@ -437,7 +442,7 @@ module _ (past : List Event) (s : Session) (kept : Kept s) (knows : Knows past s
       entering : Goal 14
       entering q =
           let (id, v) = subscribe-id s kept es (q .needs) in
-          subst (λ o. Left past s (with-deliveries (with-modes (id-effect s o) (modes-effect s 14 es)) (s .deliveries)) (frame-event 14 es))
+          subst (λ o. Left past s (with-deliveries (with-modes (id-effect s o) (modes-effect s 14 es)) (s .deliveries)) (frame-event ver 14 es))
           (sym (subscribe-changes s es id v))
           (subst (λ w. Left past s (left Enter id (modes-effect s 14 es) (s .deliveries)) (subscribed (said w) (mode-or-auto (mode-asked es)))) (sym v)
           (left-subscribe (mode-or-auto (mode-asked es)) id (subscribe-settles s es id v q)))
@@ -445,7 +450,7 @@ module _ (past : List Event) (s : Session) (kept : Kept s) (knows : Knows past s
       freeing : Goal 15
       freeing q =
           let (id, v) = unsubscribe-id s kept es (q .needs) in
-          subst (λ o. Left past s (with-deliveries (with-modes (id-effect s o) (modes-effect s 15 es)) (delivery-effect s 15 es)) (frame-event 15 es))
+          subst (λ o. Left past s (with-deliveries (with-modes (id-effect s o) (modes-effect s 15 es)) (delivery-effect s 15 es)) (frame-event ver 15 es))
           (sym (unsubscribe-changes s es id v))
           (subst (λ w. Left past s (left Free id (with-mode (place-named s w) auto-mode ms) (dropped (place-named s w) (s .deliveries)))
           (unsubscribed (said w))) (sym v)
@@ -453,24 +458,24 @@ module _ (past : List Event) (s : Session) (kept : Kept s) (knows : Knows past s
 
       acking : Goal 2
       acking q =
-          let (l, v) = needs-label es (q .needs) in
+          let (l, v) = settling-label ver 2 es refl (q .needs) in
           subst (λ w. Left past s (settled-in (ids-left 2) (settle-named ms w (s .deliveries))) (acked (said w))) (sym v)
           (left-settle (ids-left 2) l (acked l) (other-lens s kept 2 es refl refl) (λ ds. refl) (λ x. refl))
 
       nacking : Goal 10
       nacking q =
-          let (l, v) = needs-label es (q .needs) in
+          let (l, v) = settling-label ver 10 es refl (q .needs) in
           subst (λ w. Left past s (settled-in (ids-left 10) (settle-named ms w (s .deliveries))) (nacked (said w))) (sym v)
           (left-settle (ids-left 10) l (nacked l) (other-lens s kept 10 es refl refl) (λ ds. refl) (λ x. refl))
 
       by : (a b c e : Bool) → is SUBSCRIBE n ≡ a → is UNSUBSCRIBE n ≡ b → is ACK n ≡ c → is NACK n ≡ e
-          → Left past s (named-effect s n es) (frame-event n es)
+          → Left past s (named-effect s n es) (frame-event ver n es)
       by true b c e x y z w = subst Goal (sym (eqb-true n 14 x)) entering p
       by false true c e x y z w = subst Goal (sym (eqb-true n 15 y)) freeing p
       by false false true e x y z w = subst Goal (sym (eqb-true n 2 z)) acking p
       by false false false true x y z w = subst Goal (sym (eqb-true n 10 w)) nacking p
       by false false false false x y z w =
-          let event : frame-event n es ≡ nothing = rw (x, y, z, w, d) in
+          let event : frame-event ver n es ≡ nothing = rw (x, y, z, w, d) in
           let modes-stay : modes-effect s n es ≡ ms = rw (x, y) in
           let stays : delivery-effect s n es ≡ s .deliveries = rw (y, z, w) in
           subst (Left past s (named-effect s n es)) (sym event)
@@ -481,17 +486,17 @@ module _ (past : List Event) (s : Session) (kept : Kept s) (knows : Knows past s
   left-opened shared none = record { holds-are = refl; knows = knows }
   left-opened shared (some b) = record { holds-are = refl; knows = knows }
 
-  left-effect : (n : ℕ) (es : List Entry) → Passed s n es → Left past s (effect s n es) (frame-event n es)
+  left-effect : (n : ℕ) (es : List Entry) → Passed s n es → Left past s (effect s n es) (frame-event ver n es)
   left-effect n es p = by (opens n) (is DISCONNECT n) refl refl
     where
-      no-event : opens n ≡ true → frame-event n es ≡ nothing
+      no-event : opens n ≡ true → frame-event ver n es ≡ nothing
       no-event o =
-          or-either (is CONNECT n) (is STOMP n) o (λ e. ap (λ m. frame-event m es) (eqb-true n 5 e)) (λ e. ap (λ m. frame-event m es) (eqb-true n 13 e))
+          or-either (is CONNECT n) (is STOMP n) o (λ e. ap (λ m. frame-event ver m es) (eqb-true n 5 e)) (λ e. ap (λ m. frame-event ver m es) (eqb-true n 13 e))
 
       by : (a b : Bool) → opens n ≡ a → is DISCONNECT n ≡ b
-          → Left past s (cond a (opening s es) (cond b (closed-session s) (named-effect s n es))) (frame-event n es)
+          → Left past s (cond a (opening s es) (cond b (closed-session s) (named-effect s n es))) (frame-event ver n es)
       by true b o d = subst (Left past s (opening s es)) (sym (no-event o)) (left-opened (shared-by s (client-versions es)) (client-heart-beats es))
-      by false true o d = subst (Left past s (closed-session s)) (sym (ap (λ m. frame-event m es) (eqb-true n 7 d))) (left-closed past s kept knows)
+      by false true o d = subst (Left past s (closed-session s)) (sym (ap (λ m. frame-event ver m es) (eqb-true n 7 d))) (left-closed past s kept knows)
       by false false o d = left-named n es p o d
 
   left-heard : (r : Session) (e : Event) (time : ℕ) → Left past s r e → Left past s (heard r time) e
@@ -499,30 +504,30 @@ module _ (past : List Event) (s : Session) (kept : Kept s) (knows : Knows past s
 
   -- ---- the calls
 
-  left-frame : (n : ℕ) (block : List ℕ) (time : ℕ) → Left past s (frame-session s n block time) (event-of (frame n block time) (frame-answer s n block))
+  left-frame : (n : ℕ) (block : List ℕ) (time : ℕ) → Left past s (frame-session s n block time) (event-of ver (frame n block time) (frame-answer s n block))
   unfolding frame-session
   left-frame n block time = by (frame-answer s n block) refl
     where
       es : List Entry
       es = listed (entries block)
 
-      by : (A : Answer) → frame-answer s n block ≡ A → Left past s (session-left A s (heard (effect s n es) time)) (event-of (frame n block time) A)
-      by (accepted v) e = left-heard (effect s n es) (frame-event n es) time (left-effect n es (frame-passed s n block v e))
+      by : (A : Answer) → frame-answer s n block ≡ A → Left past s (session-left A s (heard (effect s n es) time)) (event-of ver (frame n block time) A)
+      by (accepted v) e = left-heard (effect s n es) (frame-event ver n es) time (left-effect n es (frame-passed s n block v e))
       by (refused k) e = left-refused past s kept knows k (heard (effect s n es) time)
 
-  left-heart-beat : (time : ℕ) → Left past s (heart-beat-session s time) (event-of (heart-beat time) (heart-beat-answer s))
+  left-heart-beat : (time : ℕ) → Left past s (heart-beat-session s time) (event-of ver (heart-beat time) (heart-beat-answer s))
   unfolding heart-beat-session
   left-heart-beat time = by (heart-beat-answer s)
     where
-      by : (A : Answer) → Left past s (session-left A s (heard s time)) (event-of (heart-beat time) A)
+      by : (A : Answer) → Left past s (session-left A s (heard s time)) (event-of ver (heart-beat time) A)
       by (accepted v) = record { holds-are = refl; knows = knows }
       by (refused k) = left-refused past s kept knows k (heard s time)
 
-  left-deliver : (id label : List ℕ) → Left past s (deliver-session s id label) (event-of (deliver id label) (deliver-answer s id label))
+  left-deliver : (id label : List ℕ) → Left past s (deliver-session s id label) (event-of ver (deliver id label) (deliver-answer s id label))
   unfolding deliver-session deliver-answer
   left-deliver id label = by (deliver-answer s id label) refl
     where
-      by : (A : Answer) → settle (deliver-checks s id label) [] ≡ A → Left past s (recorded-by A s (recording s id label)) (event-of (deliver id label) A)
+      by : (A : Answer) → settle (deliver-checks s id label) [] ≡ A → Left past s (recorded-by A s (recording s id label)) (event-of ver (deliver id label) A)
       by (refused k) e = left-same past s kept knows
       by (accepted v) e =
           let (k, f) = deliver-place s kept id label v e in
@@ -532,7 +537,7 @@ module _ (past : List Event) (s : Session) (kept : Kept s) (knows : Knows past s
           (λ a. deliver-entered s kept id label v e k f a .1))
           (λ j t. knows j t)
 
-  pub left-next : (c : Call) → Left past s (next s c) (event-of c (answer-to s c))
+  pub left-next : (c : Call) → Left past s (next s c) (event-of ver c (answer-to s c))
   left-next (frame n block time) = left-frame n block time
   left-next (heart-beat time) = left-heart-beat time
   left-next (deliver id label) = left-deliver id label
@@ -544,9 +549,11 @@ held-history : (past : List Event) (s : Session) → Kept s → Knows past s →
 held-history past s kept knows [] = none-later past (held-deliveries s)
 held-history past s kept knows (c ∷ cs) =
     let l = left-next past s kept knows c in
-    held-history (event-of c (answer-to s c) ∷ past) (next s c) (kept-next s c kept) (l .knows) cs
-    ∙ ap (λ ds. survivors ds (events (next s c) cs) ++ pending-in (event-of c (answer-to s c) ∷ past) (events (next s c) cs)) (l .holds-are)
-    ∙ step-pending past (event-of c (answer-to s c)) (held-deliveries s) (held-distinct-labels s kept) (held-agrees s kept past knows) (events (next s c) cs)
+    let e = event-of (spoken s) c (answer-to s c) in
+    held-history (e ∷ past) (next s c) (kept-next s c kept) (l .knows) cs
+    ∙ ap (λ ds. survivors ds (events (next s c) cs) ++ pending-in (e ∷ past) (events (next s c) cs)) (l .holds-are)
+    ∙ step-pending past e (held-deliveries s) (held-distinct-labels s kept) (held-agrees s kept past knows) (events (next s c) cs)
+    ∙ ap (λ es. survivors (held-deliveries s) es ++ pending-in past es) (sym (events-next s c cs))
 
 -- a session that is made holds none, and no place of it is taken
 none-held : (sends wants : ℕ) (offered : List Bool) → held-deliveries (made sends wants offered) ≡ []

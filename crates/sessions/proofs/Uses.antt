@@ -20,8 +20,10 @@ use Rattle.headers.specs.Block.{Entry, entries, listed}
 use Rattle.headers.specs.Answers.{Answer, accepted, refused, settle}
 use Rattle.sessions.specs.Stores.{changes, used, bad-length, live-again, not-live, no-room, use-checks}
 use Rattle.sessions.specs.Places.{Settles, stored}
-use Rattle.frames.specs.Grammar.{v1-2}
-use Rattle.sessions.specs.Headers.{namings-by, transaction, IdUse, id-use, id-uses, put-before, changed-id, value-of}
+use Rattle.frames.specs.Grammar.{ACK}
+use Rattle.frames.specs.declared.version.Version.{Version}
+use Rattle.frames.specs.declared.version.Version.the-variants.{V11, V12}
+use Rattle.sessions.specs.Headers.{namings, namings-by, transaction, acknowledged-subscription, IdUse, id-use, id-uses, put-before, changed-id, value-of}
 use Rattle.sessions.specs.Sessions.{id-max, ids-of, with-ids, spoken, is-valid, Sized}
 use Rattle.sessions.specs.Calls.{uses-of, id-checks, id-effect}
 use Rattle.sessions.specs.Notes.{value-at, Locates}
@@ -190,9 +192,18 @@ only-gives g h e =
     }
 
 -- the one id that a command names
-pub named-only : (n : ℕ) (x g : Naming) (r : Namings) → namings-by v1-2 n ≡ naming-list x [] → g ≡ x → GivesNamings (naming-list g []) r
-    → GivesNamings (namings-by v1-2 n) r
-named-only n x g r q e gives = subst (λ gs. GivesNamings gs r) (ap (λ (z : Naming). naming-list z []) e ∙ sym q) gives
+pub named-only : (ver : Version) (n : ℕ) (x g : Naming) (r : Namings) → namings-by ver n ≡ naming-list x [] → g ≡ x → GivesNamings (naming-list g []) r
+    → GivesNamings (namings-by ver n) r
+named-only ver n x g r q e gives = subst (λ gs. GivesNamings gs r) (ap (λ (z : Naming). naming-list z []) e ∙ sym q) gives
+
+-- those that an ACK or NACK names
+pub settling-two : (ver : Version) (x y : Naming) → ver ≡ V11 → x ≡ transaction Need → y ≡ acknowledged-subscription
+    → GivesNamings (namings ver ACK) (record { first = x; second = y })
+settling-two ver x y e p q = rw (e, p, q) (record { are = refl; second-stays = refl })
+
+pub settling-one : (ver : Version) (x : Naming) (r : Namings) → ver ≡ V12 → x ≡ transaction Need → GivesNamings (naming-list x []) r
+    → GivesNamings (namings ver ACK) r
+settling-one ver x r e p gives = rw e (subst (λ (z : Naming). GivesNamings (naming-list z []) r) p gives)
 
 -- an id that is neither entered nor freed is not the one that changes
 stays-last : (o p : Option IdUse) → ((u : IdUse) → p ≡ some u → changes (u .usage) ≡ false)

@@ -6,22 +6,24 @@ use mathlib.Core.List.{List, [], _∷_, _++_}
 use Prim.Native.Nat.{ℕ}
 use lib.ListN.{replicate}
 use lib.Dec.{eqb, leb, ltb}
-use Rattle.headers.specs.Rows.{empty, any, same}
+use Rattle.headers.specs.Rows.{empty, any, same, first-of}
 use Rattle.headers.specs.Block.{Entry, entries, listed, later}
 use Rattle.headers.specs.Answers.{Answer, accepted, refused, Check, settle, is-block}
 use Rattle.frames.specs.Grammar.{DISCONNECT, SUBSCRIBE, UNSUBSCRIBE}
+use Rattle.frames.specs.declared.version.Version.{Version}
+use Rattle.frames.specs.declared.version.Version.the-variants.{V11, V12}
 use Rattle.stores.specs.Searches.{first-from}
 use Rattle.sessions.specs.Stores.{live, used, bad-length, live-again, not-live, no-room}
-use Rattle.sessions.specs.Deliveries.{deliveries-max, label-max, auto-mode, mode-of, is-pending, settle-label, with-mode, dropped, record-label}
+use Rattle.sessions.specs.Deliveries.{deliveries-max, label-max, auto-mode, mode-of, Pending, pending, labelled, is-pending, settle-label, with-mode, dropped, record-label}
 use Rattle.sessions.specs.Values.{HeartBeats, versions, heart-beats, heart-beat-max}
 use Rattle.sessions.specs.Opening.{shared-flags, none-shared, may-offer, interval, overdue}
 use Rattle.sessions.specs.Headers.{name-of, value-of, has, is-some, is, unknown, from-server, opens, needed-by, namings-by, IdUse, id-uses, changed-id}
-use Rattle.sessions.specs.Headers.{mode-asked, settles}
+use Rattle.sessions.specs.Headers.{mode-asked, settles, label-named}
 use Rattle.sessions.specs.Sessions.{id-max, fresh-phase, open-phase, closed-phase, in-phase, fresh, ids-of, with-ids, with-deliveries, closed, opened}
 use Rattle.sessions.specs.Sessions.{with-modes, heard, spoken, is-valid}
 use Rattle.sessions.specs.Answers.{bit, acceptance-says}
 use Rattle.sessions.specs.declared.command.Header.{Header}
-use Rattle.sessions.specs.declared.command.Header.the-variants.{AcceptVersion, HeartBeat, Destination, Id, Transaction, Receipt}
+use Rattle.sessions.specs.declared.command.Header.the-variants.{AcceptVersion, HeartBeat, Destination, Id, Transaction, Receipt, Subscription}
 use Rattle.sessions.specs.declared.command.Kind.the-variants.{Subscriptions}
 use Rattle.sessions.specs.declared.delivery.Deliveries.{Deliveries}
 use Rattle.sessions.specs.declared.session.Session.{Session}
@@ -32,8 +34,8 @@ abbrev pub left-by : Answer → Session → Session → Session
 left-by (accepted values) before after = after
 left-by (refused k) before after = cond (eqb k 38 || eqb k 39) before (closed before)
 
--- Making a session: "with offers above 3,600,000, or with version marks other than 1.2 alone, is refused with 34 and gives a closed
--- session whose other fields are 0".
+-- Making a session: "with offers above 3,600,000 .. is refused with 34 and gives a closed session whose other fields are 0"; "34 where
+-- 1.0 is marked, or neither 1.1 nor 1.2" (C-18).
 abbrev pub making-checks : ℕ → ℕ → List Bool → List Check
 making-checks sends wants offered =
     record { fails = ltb heart-beat-max sends || (ltb heart-beat-max wants || not (may-offer offered)); number = 34 } ∷ []
@@ -102,19 +104,40 @@ id-checks s us =
 
 -- ---- the delivery that a frame names or the mode that it asks for
 
--- the label that an ACK or NACK names
-abbrev pub label-named : List Entry → Option (List ℕ)
-label-named es = value-of Id es
+-- the place of a subscription's id, and the first free one
+abbrev pub place-named : Session → Option (List ℕ) → Option ℕ
+place-named s none = none
+place-named s (some id) = first-from (λ x. same x id) 0 (ids-of Subscriptions s)
 
-abbrev pub is-no-label : Option (List ℕ) → Deliveries → Bool
-is-no-label none d = false
-is-no-label (some l) d = not (is-pending l d)
+abbrev pub free-place : Session → Option ℕ
+free-place s = first-from empty 0 (ids-of Subscriptions s)
 
--- "49 unknown mode, after 47; 60 the id of ACK or NACK is no outstanding label, after 46"
+-- A delivery that an ACK or NACK may name: in 1.2 any, in 1.1 one of the subscription that it names, which has this place.
+abbrev pub in-place : Option ℕ → Pending → Bool
+in-place none p = false
+in-place (some k) p = eqb (p .place) k
+
+abbrev pub may-name : Version → Option ℕ → Pending → Bool
+may-name V11 place p = in-place place p
+may-name V12 place p = true
+
+abbrev pub may-be : (Pending → Bool) → Option Pending → Bool
+may-be may none = false
+may-be may (some p) = may p
+
+abbrev pub is-no-label : (Pending → Bool) → Option (List ℕ) → Deliveries → Bool
+is-no-label may none d = false
+is-no-label may (some l) d = not (may-be may (first-of (labelled l) (pending d)))
+
+-- "49 unknown mode, after 47; 60 the id of ACK or NACK is no outstanding label, after 46", "60 also for another subscription's label"
+-- (C-18)
 abbrev pub delivery-checks : Session → ℕ → List Entry → List Check
 delivery-checks s n es =
     record { fails = is SUBSCRIBE n && not (is-some (mode-asked es)); number = 49 } ∷
-    record { fails = settles n && is-no-label (label-named es) (s .deliveries); number = 60 } ∷
+    record {
+      fails = settles n && is-no-label (may-name (spoken s) (place-named s (value-of Subscription es))) (label-named (spoken s) es) (s .deliveries);
+      number = 60;
+    } ∷
     []
 
 -- "43 header missing"
@@ -184,14 +207,6 @@ abbrev pub id-effect : Session → Option IdUse → Session
 id-effect s none = s
 id-effect s (some u) = with-ids (u .kind) s (used (u .usage) (u .id) (ids-of (u .kind) s))
 
--- the place of a subscription's id, and the first free one
-abbrev pub place-named : Session → Option (List ℕ) → Option ℕ
-place-named s none = none
-place-named s (some id) = first-from (λ x. same x id) 0 (ids-of Subscriptions s)
-
-abbrev pub free-place : Session → Option ℕ
-free-place s = first-from empty 0 (ids-of Subscriptions s)
-
 abbrev pub mode-or-auto : Option ℕ → ℕ
 mode-or-auto none = auto-mode
 mode-or-auto (some m) = m
@@ -210,7 +225,7 @@ settle-named ms (some l) d = settle-label ms l d
 abbrev pub delivery-effect : Session → ℕ → List Entry → Deliveries
 delivery-effect s n es =
     cond (is UNSUBSCRIBE n) (dropped (place-named s (value-of Id es)) (s .deliveries))
-    (cond (settles n) (settle-named (s .subscriptions .modes) (label-named es) (s .deliveries)) (s .deliveries))
+    (cond (settles n) (settle-named (s .subscriptions .modes) (label-named (spoken s) es) (s .deliveries)) (s .deliveries))
 
 -- all that a frame changes that may name an id or a delivery
 abbrev pub named-effect : Session → ℕ → List Entry → Session

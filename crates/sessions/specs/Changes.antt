@@ -1,6 +1,6 @@
 -- What a frame does to a session, as the code decides it: an answer and a change, and what the change makes of a session. Assumes nothing.
 use mathlib.Core.Path.{_≡_}
-use mathlib.Core.Bool.{false, _||_}
+use mathlib.Core.Bool.{Bool, false, _||_}
 use mathlib.Core.Option.{some}
 use mathlib.Core.List.{List, [], _++_}
 use Prim.Native.Nat.{ℕ, _-_, _≤_, _<_}
@@ -8,17 +8,17 @@ use lib.Dec.{eqb}
 use lib.ListN.{length, take, drop, getD, set}
 use Rattle.headers.specs.Block.{Entry, entries, listed}
 use Rattle.headers.specs.Answers.{Check, accepted, refused, settle}
-use Rattle.sessions.specs.Headers.{put-before, changed-id}
+use Rattle.sessions.specs.Headers.{put-before, changed-id, value-of, label-named}
 use Rattle.stores.specs.Searches.{first-from}
-use Rattle.sessions.specs.Deliveries.{auto-mode, pending, labelled, settle-label, dropped}
+use Rattle.sessions.specs.Deliveries.{auto-mode, Pending, pending, labelled, settle-label, dropped}
 use Rattle.sessions.specs.Sessions.{subscriptions-max, transactions-max, id-max, with-subscriptions, with-transactions, with-deliveries}
-use Rattle.sessions.specs.Sessions.{nothing-agreed, opened, closed, heard}
+use Rattle.sessions.specs.Sessions.{nothing-agreed, opened, closed, heard, spoken}
 use Rattle.sessions.specs.declared.parts.Agreed.{Agreed}
 use Rattle.sessions.specs.Calls.{id-effect, opening, uses-of, id-checks, delivery-checks, modes-effect, delivery-effect, named-effect}
-use Rattle.sessions.specs.Calls.{entry-checks, effect}
-use Rattle.sessions.specs.Calls.{acceptance-of, phase-checks}
+use Rattle.sessions.specs.Calls.{entry-checks, effect, acceptance-of, phase-checks, place-named, may-name}
 use Rattle.sessions.specs.Steps.{closed-by, accepted-by, Gives, GivesUses, SettlesUse, settled-number, use-named, put-subscription, put-transaction}
 use Rattle.sessions.specs.Steps.{opening-only, label-checks}
+use Rattle.sessions.specs.declared.command.Header.the-variants.{Subscription}
 use Rattle.sessions.specs.declared.parts.SubscriptionStore.{SubscriptionStore}
 use Rattle.sessions.specs.declared.parts.TransactionStore.{TransactionStore}
 use Rattle.sessions.specs.declared.delivery.Deliveries.{Deliveries}
@@ -136,9 +136,14 @@ Looks checks s ms d (Looked.Refused k) = (settle checks [] ≡ refused k) × (eq
 Looks checks s ms d (Looked.Does f) = Passes checks s ms d f
 
 -- the label that an ACK or NACK names; and all that a frame does to modes and deliveries
-abbrev pub LooksLabel : Session → List ℕ → Looked → Type 0
-LooksLabel s l r =
-    Looks (label-checks (some l) (s .deliveries)) s (s .subscriptions .modes) (settle-label (s .subscriptions .modes) l (s .deliveries)) r
+abbrev pub LooksLabel : Session → (Pending → Bool) → List ℕ → Looked → Type 0
+LooksLabel s may l r =
+    Looks (label-checks may (some l) (s .deliveries)) s (s .subscriptions .modes) (settle-label (s .subscriptions .modes) l (s .deliveries)) r
+
+-- the same by the entries: no promise where the label is not there
+abbrev pub LooksNamed : Session → List Entry → Looked → Type 0
+LooksNamed s es r =
+    (l : List ℕ) → label-named (spoken s) es ≡ some l → LooksLabel s (may-name (spoken s) (place-named s (value-of Subscription es))) l r
 
 abbrev pub LooksFurther : Session → ℕ → List Entry → Looked → Type 0
 LooksFurther s n es r = Looks (delivery-checks s n es) s (modes-effect s n es) (delivery-effect s n es) r

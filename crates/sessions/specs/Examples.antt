@@ -13,14 +13,15 @@ use Rattle.headers.specs.Answers.{Answer, accepted, refused}
 use Rattle.frames.specs.Grammar.{Command, number, ABORT, ACK, BEGIN, COMMIT, CONNECT, CONNECTED, DISCONNECT, ERROR}
 use Rattle.frames.specs.Grammar.{MESSAGE, NACK, RECEIPT, SEND, STOMP, SUBSCRIBE, UNSUBSCRIBE}
 use Rattle.sessions.specs.Values.{versions}
-use Rattle.sessions.specs.Opening.{shared-flags, highest, passed}
+use Rattle.sessions.specs.Opening.{shared-flags, highest, passed, chosen}
+use Rattle.frames.specs.declared.version.Version.the-variants.{V11, V12}
 use Rattle.sessions.specs.Sessions.{fresh-phase, open-phase, closed-phase, fresh, ids-of, with-ids, with-subscriptions, with-transactions, with-phase}
 use Rattle.sessions.specs.Sessions.{with-modes, with-deliveries, opened, heard}
 use Rattle.sessions.specs.Deliveries.{auto-mode, client-mode, individual-mode, Pending, deliveries-of}
 use Rattle.sessions.specs.Accounts.{Delivery, Event, recorded, accounts, with-fate, is-acknowledged, is-refused, is-dropped, pending-in}
 use Rattle.sessions.specs.Held.{held-deliveries, pending-answer}
 use Rattle.sessions.specs.Calls.{made, making-answer, timed-out-answer}
-use Rattle.sessions.specs.Histories.{Call, frame, heart-beat, deliver, Answered, trace, told, after}
+use Rattle.sessions.specs.Histories.{Call, frame, heart-beat, deliver, Answered, trace, events, after}
 use Rattle.sessions.specs.declared.command.Kind.the-variants.{Subscriptions, Transactions}
 use Rattle.sessions.specs.declared.delivery.Deliveries.{Deliveries}
 use Rattle.sessions.specs.declared.session.Session.{Session}
@@ -121,7 +122,7 @@ abbrev pub defined : Life → Life
 defined l = record {
   start = started (l .start);
   events = trace (session-of (l .start)) (calls (l .events));
-  left = state-of (after (session-of (l .start)) (calls (l .events))) (told (trace (session-of (l .start)) (calls (l .events))));
+  left = state-of (after (session-of (l .start)) (calls (l .events))) (events (session-of (l .start)) (calls (l .events)));
   asked = map (asked-of (after (session-of (l .start)) (calls (l .events)))) (l .asked);
 }
 
@@ -161,6 +162,12 @@ frame-of c es time = frame (number c) (image es) time
 abbrev v1-2 : List Bool
 v1-2 = false ∷ false ∷ true ∷ []
 
+abbrev v1-1 : List Bool
+v1-1 = false ∷ true ∷ false ∷ []
+
+abbrev both-versions : List Bool
+both-versions = false ∷ true ∷ true ∷ []
+
 -- a server that offers 1.2 and no heart-beats, and a client that opens a session with it at time 1
 abbrev server : Start
 server = making 0 0 v1-2 (accepted [])
@@ -172,22 +179,26 @@ connect = frame-of CONNECT (entry "accept-version" "1.2" ∷ entry "host" "h" �
 abbrev none-made : Counts
 none-made = record { made = 0; acknowledged = 0; refused = 0; dropped = 0; pending = 0 }
 
--- that session, in a phase, last heard from at a time, with these live ids
-abbrev having : ℕ → ℕ → List String → List String → State
-having phase time subscriptions transactions = record {
+-- a session that offers these versions and has chosen one, ten times its number; in a phase, last heard from at a time, with these live ids
+abbrev speaking : List Bool → ℕ → ℕ → ℕ → List String → List String → State
+speaking offered version phase time subscriptions transactions = record {
   sends = 0;
   wants = 0;
-  offered = v1-2;
+  offered = offered;
   phase = phase;
   inbound = 0;
   outbound = 0;
   last-heard = time;
   subscriptions = map octets-of subscriptions;
   transactions = map octets-of transactions;
-  highest-shared = 12;
+  highest-shared = version;
   pending = [];
   counts = none-made;
 }
+
+-- the same of that session
+abbrev having : ℕ → ℕ → List String → List String → State
+having phase time subscriptions transactions = speaking v1-2 12 phase time subscriptions transactions
 
 -- a state with these pending deliveries, and with what became of those that were made
 abbrev holding : State → List Delivery → Counts → State
@@ -235,20 +246,7 @@ delivery id mode label = record { subscription = octets-of id; mode = mode; labe
 
 -- the same before it is opened
 abbrev unopened : ℕ → ℕ → State
-unopened phase time = record {
-  sends = 0;
-  wants = 0;
-  offered = v1-2;
-  phase = phase;
-  inbound = 0;
-  outbound = 0;
-  last-heard = time;
-  subscriptions = [];
-  transactions = [];
-  highest-shared = 0;
-  pending = [];
-  counts = none-made;
-}
+unopened phase time = speaking v1-2 0 phase time [] []
 
 -- a frame that is refused with a number as the first, and as one after the session was opened
 abbrev first-refused : Command → List Entry → ℕ → Life
@@ -343,27 +341,19 @@ clocks =
     record { start = server; events = heart-beat 1 ⇒ ok ∷ []; left = unopened fresh-phase 1; asked = in-time 100 ∷ [] } ∷
     []
 
--- "offers above 3,600,000, or with version marks other than 1.2 alone": refused with 34, and a closed session whose other fields are 0
+-- "offers above 3,600,000", or version marks "where 1.0 is marked, or neither 1.1 nor 1.2" (C-18): refused with 34, and a closed session
+-- whose other fields are 0
 abbrev unmade : ℕ → ℕ → List Bool → Life
 unmade sends wants offered = record {
   start = making sends wants offered (refused 34);
   events = heart-beat 1 ⇒ refused 40 ∷ [];
-  left = record {
-    sends = 0;
-    wants = 0;
-    offered = false ∷ false ∷ false ∷ [];
-    phase = closed-phase;
-    inbound = 0;
-    outbound = 0;
-    last-heard = 0;
-    subscriptions = [];
-    transactions = [];
-    highest-shared = 0;
-    pending = [];
-    counts = none-made;
-  };
+  left = speaking (false ∷ false ∷ false ∷ []) 0 closed-phase 0 [] [];
   asked = in-time 100 ∷ [];
 }
+
+abbrev made-with : List Bool → Life
+made-with offered =
+    record { start = making 0 0 offered (accepted []); events = heart-beat 1 ⇒ ok ∷ []; left = speaking offered 0 fresh-phase 1 [] []; asked = [] }
 
 unfoldable pub makings : List Life
 makings =
@@ -371,10 +361,12 @@ makings =
     unmade 0 3600001 v1-2 ∷
     unmade 0 0 (false ∷ false ∷ false ∷ []) ∷
     unmade 0 0 (true ∷ false ∷ false ∷ []) ∷
-    unmade 0 0 (false ∷ true ∷ false ∷ []) ∷
+    unmade 0 0 (true ∷ true ∷ false ∷ []) ∷
     unmade 0 0 (true ∷ false ∷ true ∷ []) ∷
-    unmade 0 0 (false ∷ true ∷ true ∷ []) ∷
     unmade 0 0 (true ∷ true ∷ true ∷ []) ∷
+    made-with v1-2 ∷
+    made-with v1-1 ∷
+    made-with both-versions ∷
     []
 
 -- "An item counts only if it is exactly 1.0, 1.1 or 1.2; order and repeats don't matter"; 32 where no version is shared
@@ -730,7 +722,7 @@ kept-and-closed =
 -- over the limit, marks that making refuses unless closed)": before every other number, and the record stays as it is. Beside each of
 -- them, a record just within the rule.
 abbrev with-numbers : ℕ → ℕ → ℕ → ℕ → List Bool → ℕ → Session
-with-numbers sends wants inbound outbound offered phase = with-phase (opened (fresh sends wants offered) (replicate 3 false) inbound outbound) phase
+with-numbers sends wants inbound outbound offered phase = with-phase (opened (fresh sends wants offered) offered inbound outbound) phase
 
 abbrev in-state : List Bool → ℕ → Session
 in-state offered phase = with-numbers 0 0 0 0 offered phase
@@ -903,7 +895,7 @@ abbrev many-given : ℕ → Session
 many-given n = three-with (deliveries-of (labels-from n 1))
 
 abbrev all-given : Call → Answer → Life
-all-given c a = record { start = given (many-given 64); events = c ⇒ a ∷ []; left = state-of (many-given 64) (told (c ⇒ a ∷ [])); asked = [] }
+all-given c a = record { start = given (many-given 64); events = c ⇒ a ∷ []; left = state-of (many-given 64) (events (many-given 64) (c ∷ [])); asked = [] }
 
 unfoldable pub recordings : List Life
 recordings =
@@ -998,7 +990,7 @@ record-numbers =
     invalid (with-numbers 0 0 0 3600001 v1-2 closed-phase) ∷
     valid (with-numbers 3600000 3600000 3600000 3600000 v1-2 open-phase) ∷
     invalid (in-state (true ∷ false ∷ true ∷ []) open-phase) ∷
-    invalid (in-state (false ∷ true ∷ true ∷ []) fresh-phase) ∷
+    invalid (in-state (true ∷ true ∷ true ∷ []) fresh-phase) ∷
     invalid (in-state (false ∷ false ∷ false ∷ []) open-phase) ∷
     valid-closed (in-state (true ∷ true ∷ false ∷ []) closed-phase) ∷
     []
@@ -1055,6 +1047,118 @@ record-places =
     invalid (three-with (two-deliveries 7 7)) ∷
     []
 
+-- "38 also where an open session's shared marks are none, or not all among those it offers" (C-18): what a session that is not open shares
+-- is not looked at
+abbrev sharing : List Bool → List Bool → ℕ → Session
+sharing offered shared phase = with-phase (opened (fresh 0 0 offered) shared 0 0) phase
+
+unfoldable pub record-versions : List Life
+record-versions =
+    invalid (sharing v1-2 (false ∷ false ∷ false ∷ []) open-phase) ∷
+    invalid (sharing v1-2 v1-1 open-phase) ∷
+    invalid (sharing v1-1 both-versions open-phase) ∷
+    invalid (sharing both-versions (true ∷ false ∷ false ∷ []) open-phase) ∷
+    valid (sharing both-versions v1-1 open-phase) ∷
+    valid (sharing both-versions v1-2 open-phase) ∷
+    valid (sharing both-versions both-versions open-phase) ∷
+    valid (sharing v1-2 (true ∷ true ∷ false ∷ []) fresh-phase) ∷
+    valid-closed (sharing v1-2 (true ∷ true ∷ false ∷ []) closed-phase) ∷
+    []
+
+-- ---- Version 1.1 (document 02, C-18)
+
+-- "Offer versions 1.1 and 1.2": the highest that both sides have is chosen
+abbrev offering : List Bool → String → ℕ → Life
+offering offered versions version = record {
+  start = making 0 0 offered (accepted []);
+  events = frame-of CONNECT (entry "accept-version" versions ∷ entry "host" "h" ∷ []) 1 ⇒ ok ∷ [];
+  left = speaking offered version open-phase 1 [] [];
+  asked = [];
+}
+
+abbrev offering-refused : List Bool → String → ℕ → Life
+offering-refused offered versions k = record {
+  start = making 0 0 offered (accepted []);
+  events = frame-of CONNECT (entry "accept-version" versions ∷ entry "host" "h" ∷ []) 1 ⇒ refused k ∷ [];
+  left = speaking offered 0 closed-phase 0 [] [];
+  asked = [];
+}
+
+unfoldable pub versions-chosen : List Life
+versions-chosen =
+    offering both-versions "1.1" 11 ∷
+    offering both-versions "1.0,1.1" 11 ∷
+    offering both-versions "1.2" 12 ∷
+    offering both-versions "1.0,1.1,1.2" 12 ∷
+    offering v1-1 "1.1,1.2" 11 ∷
+    offering v1-2 "1.1,1.2" 12 ∷
+    offering-refused both-versions "1.0" 32 ∷
+    offering-refused v1-1 "1.0,1.2" 32 ∷
+    offering-refused v1-2 "1.1" 32 ∷
+    []
+
+-- "ACK and NACK name a message by `subscription` and `message-id`": an `id` is not looked at. A session of 1.1 with subscriptions "a" and
+-- "b", of mode client, and four deliveries.
+abbrev of-1-1 : Start
+of-1-1 = making 0 0 both-versions (accepted [])
+
+abbrev four-given : List Answered
+four-given =
+    frame-of CONNECT (entry "accept-version" "1.1" ∷ entry "host" "h" ∷ []) 1 ⇒ ok ∷
+    subscribe-as "client" "a" 1 ⇒ ok ∷
+    subscribe-as "client" "b" 1 ⇒ ok ∷
+    given-to "a" "m" ∷
+    given-to "b" "n" ∷
+    given-to "a" "o" ∷
+    given-to "b" "p" ∷
+    []
+
+abbrev named-by : String → String → List Entry
+named-by id label = entry "subscription" id ∷ entry "message-id" label ∷ []
+
+abbrev settled-1-1 : Command → List Entry → List Delivery → Counts → Life
+settled-1-1 c es ds counts = record {
+  start = of-1-1;
+  events = four-given ++ (frame-of c es 2 ⇒ ok ∷ []);
+  left = holding (speaking both-versions 11 open-phase 2 ("a" ∷ "b" ∷ []) []) ds counts;
+  asked = [];
+}
+
+abbrev unsettled-1-1 : Command → List Entry → ℕ → Life
+unsettled-1-1 c es k = record {
+  start = of-1-1;
+  events = four-given ++ (frame-of c es 2 ⇒ refused k ∷ []);
+  left = holding (speaking both-versions 11 closed-phase 1 ("a" ∷ "b" ∷ []) []) [] (counted 4 0 0 4 0);
+  asked = [];
+}
+
+unfoldable pub named-in-1-1 : List Life
+named-in-1-1 =
+    settled-1-1 ACK (named-by "a" "o") (delivery "b" client-mode "n" ∷ delivery "b" client-mode "p" ∷ []) (counted 4 2 0 0 2) ∷
+    settled-1-1 NACK (named-by "b" "n") (delivery "a" client-mode "m" ∷ delivery "a" client-mode "o" ∷ delivery "b" client-mode "p" ∷ [])
+    (counted 4 0 1 0 3) ∷
+    settled-1-1 ACK (entry "id" "n" ∷ named-by "a" "m") (delivery "b" client-mode "n" ∷ delivery "a" client-mode "o" ∷ delivery "b" client-mode "p" ∷ [])
+    (counted 4 1 0 0 3) ∷
+    unsettled-1-1 ACK (entry "id" "m" ∷ []) 43 ∷
+    unsettled-1-1 ACK (entry "subscription" "a" ∷ entry "id" "m" ∷ []) 43 ∷
+    unsettled-1-1 NACK (entry "message-id" "m" ∷ entry "id" "m" ∷ []) 43 ∷
+    []
+
+-- "44 and 46 also check that subscription, 46 before 60; 60 also for another subscription's label"
+unfoldable pub unnamed-in-1-1 : List Life
+unnamed-in-1-1 =
+    unsettled-1-1 ACK (named-by "" "m") 44 ∷
+    unsettled-1-1 NACK (named-by longer "m") 44 ∷
+    unsettled-1-1 ACK (entry "transaction" "" ∷ named-by "x" "m") 44 ∷
+    unsettled-1-1 ACK (named-by "x" "m") 46 ∷
+    unsettled-1-1 NACK (named-by "x" "y") 46 ∷
+    unsettled-1-1 ACK (entry "transaction" "t" ∷ named-by "a" "y") 46 ∷
+    unsettled-1-1 ACK (named-by "a" "y") 60 ∷
+    unsettled-1-1 ACK (named-by "a" "n") 60 ∷
+    unsettled-1-1 NACK (named-by "b" "o") 60 ∷
+    unsettled-1-1 ACK (named-by "b" "") 60 ∷
+    []
+
 -- ---- The whole table
 
 abbrev pub lives : List (List Life)
@@ -1085,9 +1189,13 @@ lives =
     record-modes ∷
     record-labels ∷
     record-places ∷
+    record-versions ∷
+    versions-chosen ∷
+    named-in-1-1 ∷
+    unnamed-in-1-1 ∷
     []
 
--- ---- The clock, and what no life shows while a server offers 1.2 alone
+-- ---- The clock, and what no life shows while no server offers 1.0
 
 pub record FlagsAndClock : Type 0 where
   -- "Then 4,294,967,290, now 10: 16 passed."
@@ -1103,6 +1211,11 @@ pub record FlagsAndClock : Type 0 where
   pub highest-1-0 : highest (true ∷ false ∷ false ∷ []) ≡ 10
   pub highest-1-1 : highest (true ∷ true ∷ false ∷ []) ≡ 11
   pub highest-1-2 : highest (true ∷ true ∷ true ∷ []) ≡ 12
+  -- "all up to the end of the opening frame is read by 1.2 rules, the rest by the version chosen" (C-18)
+  pub chosen-none : chosen (false ∷ false ∷ false ∷ []) ≡ V12
+  pub chosen-1-1 : chosen (false ∷ true ∷ false ∷ []) ≡ V11
+  pub chosen-1-2 : chosen (false ∷ false ∷ true ∷ []) ≡ V12
+  pub chosen-both : chosen (false ∷ true ∷ true ∷ []) ≡ V12
 
 -- ---- The question for a pending delivery, of a session with one of "a", in client mode, and then one of "c", in client-individual mode
 

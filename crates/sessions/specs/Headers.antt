@@ -6,7 +6,9 @@ use Prim.Native.Nat.{ℕ}
 use lib.Dec.{eqb}
 use Rattle.headers.specs.Rows.{octets-of, same, first-of}
 use Rattle.headers.specs.Block.{Entry, first-value}
-use Rattle.frames.specs.Grammar.{Version, Command, number, ABORT, ACK, BEGIN, COMMIT, CONNECT, CONNECTED, DISCONNECT, ERROR, MESSAGE, NACK, RECEIPT}
+use Rattle.frames.specs.Grammar.{Command, number, ABORT, ACK, BEGIN, COMMIT, CONNECT, CONNECTED, DISCONNECT, ERROR, MESSAGE, NACK, RECEIPT}
+use Rattle.frames.specs.declared.version.Version.{Version}
+use Rattle.frames.specs.declared.version.Version.the-variants.{V11, V12}
 use Rattle.frames.specs.Grammar.{SEND, STOMP, SUBSCRIBE, UNSUBSCRIBE}
 use Rattle.frames.specs.Encoding.{command-of}
 use Rattle.sessions.specs.Stores.{changes}
@@ -14,7 +16,7 @@ use Rattle.sessions.specs.Deliveries.{auto-mode, client-mode, individual
 use Rattle.sessions.specs.declared.store.Use.{Use}
 use Rattle.sessions.specs.declared.store.Use.the-variants.{Need, Enter, Free}
 use Rattle.sessions.specs.declared.command.Header.{Header}
-use Rattle.sessions.specs.declared.command.Header.the-variants.{AcceptVersion, HeartBeat, Host, Destination, Id, Transaction, Receipt, Ack}
+use Rattle.sessions.specs.declared.command.Header.the-variants.{AcceptVersion, HeartBeat, Host, Destination, Id, Transaction, Receipt, Ack, Subscription, MessageId}
 use Rattle.sessions.specs.declared.command.Kind.{Kind}
 use Rattle.sessions.specs.declared.command.Kind.the-variants.{Subscriptions, Transactions}
 use Rattle.sessions.specs.declared.command.Naming.{Naming}
@@ -29,6 +31,8 @@ name-of Id = octets-of "id"
 name-of Transaction = octets-of "transaction"
 name-of Receipt = octets-of "receipt"
 name-of Ack = octets-of "ack"
+name-of Subscription = octets-of "subscription"
+name-of MessageId = octets-of "message-id"
 
 -- the first value of a header
 abbrev pub value-of : Header → List Entry → Option (List ℕ)
@@ -60,15 +64,18 @@ opens n = is CONNECT n || is STOMP n
 -- ---- Two tables, by the protocol version and the command
 
 -- "Needed headers, checked in this order: CONNECT and STOMP accept-version, host; SEND destination; SUBSCRIBE destination, id;
--- UNSUBSCRIBE, ACK, NACK id; BEGIN, COMMIT, ABORT transaction."
+-- UNSUBSCRIBE, ACK, NACK id; BEGIN, COMMIT, ABORT transaction." In 1.1 "ACK and NACK name a message by `subscription` and
+-- `message-id`", "43 checks subscription, then message-id" (document 02, C-18).
 abbrev pub needed : Version → Command → List Header
 needed ver CONNECT = AcceptVersion ∷ Host ∷ []
 needed ver STOMP = AcceptVersion ∷ Host ∷ []
 needed ver SEND = Destination ∷ []
 needed ver SUBSCRIBE = Destination ∷ Id ∷ []
 needed ver UNSUBSCRIBE = Id ∷ []
-needed ver ACK = Id ∷ []
-needed ver NACK = Id ∷ []
+needed V11 ACK = Subscription ∷ MessageId ∷ []
+needed V12 ACK = Id ∷ []
+needed V11 NACK = Subscription ∷ MessageId ∷ []
+needed V12 NACK = Id ∷ []
 needed ver BEGIN = Transaction ∷ []
 needed ver COMMIT = Transaction ∷ []
 needed ver ABORT = Transaction ∷ []
@@ -85,8 +92,12 @@ subscription u = record { header = Id; kind = Subscriptions; usage = u }
 abbrev pub transaction : Use → Naming
 transaction u = record { header = Transaction; kind = Transactions; usage = u }
 
+-- the subscription that an ACK or NACK of 1.1 names
+abbrev pub acknowledged-subscription : Naming
+acknowledged-subscription = record { header = Subscription; kind = Subscriptions; usage = Need }
+
 -- The ids that a command names: SUBSCRIBE and BEGIN enter one, UNSUBSCRIBE, COMMIT and ABORT free one; "SEND, ACK and NACK may carry
--- transaction, which must be open". "The id of ACK and NACK is only required."
+-- transaction, which must be open". "The id of ACK and NACK is only required"; in 1.1 "44 and 46 also check that subscription" (C-18).
 abbrev pub namings : Version → Command → List Naming
 namings ver SUBSCRIBE = subscription Enter ∷ []
 namings ver UNSUBSCRIBE = subscription Free ∷ []
@@ -94,8 +105,10 @@ namings ver BEGIN = transaction Enter ∷ []
 namings ver COMMIT = transaction Free ∷ []
 namings ver ABORT = transaction Free ∷ []
 namings ver SEND = transaction Need ∷ []
-namings ver ACK = transaction Need ∷ []
-namings ver NACK = transaction Need ∷ []
+namings V11 ACK = transaction Need ∷ acknowledged-subscription ∷ []
+namings V12 ACK = transaction Need ∷ []
+namings V11 NACK = transaction Need ∷ acknowledged-subscription ∷ []
+namings V12 NACK = transaction Need ∷ []
 namings ver CONNECT = []
 namings ver STOMP = []
 namings ver DISCONNECT = []
@@ -152,6 +165,14 @@ mode-named (some w) =
 abbrev pub mode-asked : List Entry → Option ℕ
 mode-asked es = mode-named (value-of Ack es)
 
--- ACK and NACK settle a delivery.
+-- ACK and NACK settle a delivery, by its label: the value of `id`, or in 1.1 of `message-id`, since "a 1.1 delivery's label is its
+-- message-id".
 abbrev pub settles : ℕ → Bool
 settles n = is ACK n || is NACK n
+
+abbrev pub label-header : Version → Header
+label-header V11 = MessageId
+label-header V12 = Id
+
+abbrev pub label-named : Version → List Entry → Option (List ℕ)
+label-named ver es = value-of (label-header ver) es

@@ -3,16 +3,19 @@ use mathlib.Core.Path.{_≡_}
 use mathlib.Core.Logic.{_≢_}
 use mathlib.Core.Bool.{Bool, true, false, cond, _&&_, _||_}
 use mathlib.Core.Option.{Option, none, some}
-use mathlib.Core.List.{List, [], _∷_, map}
+use mathlib.Core.List.{List, [], _∷_}
 use Prim.Native.Nat.{ℕ}
 use lib.Dec.{eqb}
 use Rattle.headers.specs.Rows.{same}
 use Rattle.headers.specs.Block.{Entry, entries, listed}
 use Rattle.headers.specs.Answers.{Answer, accepted, refused}
+use Rattle.frames.specs.declared.version.Version.{Version}
 use Rattle.frames.specs.Grammar.{v1-2, number, ACK, DISCONNECT, NACK, SUBSCRIBE, UNSUBSCRIBE}
-use Rattle.sessions.specs.Headers.{value-of, is, namings-by, IdUse, id-uses, changed-id, mode-asked}
+use Rattle.sessions.specs.Headers.{value-of, is, opens, namings-by, IdUse, id-uses, changed-id, mode-asked, label-named}
+use Rattle.sessions.specs.Opening.{shared-flags, chosen}
+use Rattle.sessions.specs.Sessions.{spoken}
 use Rattle.sessions.specs.Calls.{frame-answer, frame-session, heart-beat-answer, heart-beat-session, deliver-answer, deliver-session}
-use Rattle.sessions.specs.Calls.{mode-or-auto}
+use Rattle.sessions.specs.Calls.{mode-or-auto, client-versions}
 use Rattle.sessions.specs.Accounts.{Event, subscribed, unsubscribed, delivered, acked, nacked, closed, nothing}
 use Rattle.sessions.specs.declared.command.Header.the-variants.{Id}
 use Rattle.sessions.specs.declared.store.Use.{Use}
@@ -57,7 +60,7 @@ by-use Free before = false
 by-use Need before = before
 by-use Nothing before = before
 
--- the ids that a frame names, in 1.2, which every session speaks
+-- the ids that a frame names, of which those that are entered or freed are the same in each version (`changed-alike`, proofs/Tables.antt)
 abbrev pub told-uses : ℕ → List Entry → List IdUse
 told-uses n es = id-uses (namings-by v1-2 n) es
 
@@ -95,39 +98,53 @@ live-told k id before (e ∷ es) = live-told k id (live-by k id before (e .answe
 abbrev pub live-after : Kind → List ℕ → Bool → Session → List Call → Bool
 live-after k id before s cs = live-told k id before (trace s cs)
 
--- ---- what a call did with deliveries, told from the call and its answer alone
+-- ---- The protocol version, told from the calls, their answers and what the server offers alone: an accepted opening frame chooses it
+
+abbrev pub chosen-of : List Bool → Option (List Bool) → Version
+chosen-of offered none = v1-2
+chosen-of offered (some client) = chosen (shared-flags client offered)
+
+abbrev pub version-by : List Bool → Version → Answer → Call → Version
+version-by offered before a (frame n block time) =
+    cond (is-accepted a && opens n) (chosen-of offered (client-versions (listed (entries block)))) before
+version-by offered before a (heart-beat time) = before
+version-by offered before a (deliver id label) = before
+
+-- ---- what a call did with deliveries, told from the call and its answer alone, and from the version told
 
 -- the first value of a header, nothing where there is none
 abbrev pub said : Option (List ℕ) → List ℕ
 said none = []
 said (some v) = v
 
-abbrev pub frame-event : ℕ → List Entry → Event
-frame-event n es =
+abbrev pub frame-event : Version → ℕ → List Entry → Event
+frame-event ver n es =
     cond (is SUBSCRIBE n) (subscribed (said (value-of Id es)) (mode-or-auto (mode-asked es)))
     (cond (is UNSUBSCRIBE n) (unsubscribed (said (value-of Id es)))
-    (cond (is ACK n) (acked (said (value-of Id es)))
-    (cond (is NACK n) (nacked (said (value-of Id es)))
+    (cond (is ACK n) (acked (said (label-named ver es)))
+    (cond (is NACK n) (nacked (said (label-named ver es)))
     (cond (is DISCONNECT n) closed nothing))))
 
 -- "38 and 39 leave the session unchanged; every other number closes it"
 abbrev pub refusal-event : ℕ → Event
 refusal-event k = cond (eqb k 38 || eqb k 39) nothing closed
 
-abbrev pub event-of : Call → Answer → Event
-event-of (frame n block time) (accepted v) = frame-event n (listed (entries block))
-event-of (frame n block time) (refused k) = refusal-event k
-event-of (heart-beat time) (accepted v) = nothing
-event-of (heart-beat time) (refused k) = refusal-event k
-event-of (deliver id label) (accepted v) = delivered id label
-event-of (deliver id label) (refused k) = nothing
+abbrev pub event-of : Version → Call → Answer → Event
+event-of ver (frame n block time) (accepted v) = frame-event ver n (listed (entries block))
+event-of ver (frame n block time) (refused k) = refusal-event k
+event-of ver (heart-beat time) (accepted v) = nothing
+event-of ver (heart-beat time) (refused k) = refusal-event k
+event-of ver (deliver id label) (accepted v) = delivered id label
+event-of ver (deliver id label) (refused k) = nothing
 
--- the events of calls and answers, and those of the calls on a session with the answers that it gives
-abbrev pub told : List Answered → List Event
-told xs = map (λ (x : Answered). event-of (x .call) (x .answer)) xs
+-- the events of calls and answers, by what the server offers and the version before them; and those of the calls on a session with the
+-- answers that it gives
+abbrev pub told : List Bool → Version → List Answered → List Event
+told offered ver [] = []
+told offered ver (x ∷ xs) = event-of ver (x .call) (x .answer) ∷ told offered (version-by offered ver (x .answer) (x .call)) xs
 
 abbrev pub events : Session → List Call → List Event
-events s cs = told (trace s cs)
+events s cs = told (s .offers .versions) (spoken s) (trace s cs)
 
 -- a frame or a heart-beat: a refused delivery closes nothing
 abbrev pub may-close : Call → Bool

@@ -11,13 +11,13 @@ use Rattle.headers.specs.Block.{entries, listed, spans}
 use Rattle.headers.specs.Answers.{is-block}
 use Rattle.sessions.specs.Headers.{name-of, value-of}
 use Rattle.sessions.specs.declared.command.Header.{Header}
-use Rattle.sessions.specs.declared.command.Header.the-variants.{AcceptVersion, HeartBeat, Host, Destination, Id, Transaction, Receipt, Ack}
+use Rattle.sessions.specs.declared.command.Header.the-variants.{AcceptVersion, HeartBeat, Host, Destination, Id, Transaction, Receipt, Ack, Subscription, MessageId}
 use Rattle.sessions.specs.declared.notes.Located.{Located}
 use Rattle.sessions.specs.declared.notes.Notes.{Notes}
 
 -- the headers in the order of their numbers, and how many they are
 abbrev pub known-headers : List Header
-known-headers = AcceptVersion ∷ HeartBeat ∷ Host ∷ Destination ∷ Id ∷ Transaction ∷ Receipt ∷ Ack ∷ []
+known-headers = AcceptVersion ∷ HeartBeat ∷ Host ∷ Destination ∷ Id ∷ Transaction ∷ Receipt ∷ Ack ∷ Subscription ∷ MessageId ∷ []
 
 abbrev pub headers-max : ℕ
 headers-max = length known-headers
@@ -32,6 +32,8 @@ index-of Id = 4
 index-of Transaction = 5
 index-of Receipt = 6
 index-of Ack = 7
+index-of Subscription = 8
+index-of MessageId = 9
 
 -- what the notes say of a header
 abbrev pub located : Notes → Header → Located

@@ -4,6 +4,8 @@ use mathlib.Core.List.{List, [], _∷_}
 use Prim.Native.Nat.{ℕ, _+_, _-_, _*_, _%_, _^_, max}
 use lib.ListN.{getD}
 use lib.Dec.{eqb, ltb}
+use Rattle.frames.specs.Grammar.{v1-1, v1-2}
+use Rattle.frames.specs.declared.version.Version.{Version}
 
 -- "The versions both sides have are kept as three yes-or-no marks in an array": flags for 1.0, 1.1 and 1.2
 abbrev pub flag : List Bool → ℕ → Bool
@@ -19,9 +21,18 @@ none-shared fs = not (flag fs 0 || (flag fs 1 || flag fs 2))
 abbrev pub highest : List Bool → ℕ
 highest fs = cond (flag fs 2) 12 (cond (flag fs 1) 11 (cond (flag fs 0) 10 0))
 
--- the version flags that a server may offer: making refuses "version marks other than 1.2 alone"
+-- the version flags that a server may offer: making refuses "where 1.0 is marked, or neither 1.1 nor 1.2" (document 02, C-18)
 abbrev pub may-offer : List Bool → Bool
-may-offer fs = not (flag fs 0) && (not (flag fs 1) && flag fs 2)
+may-offer fs = not (flag fs 0) && (flag fs 1 || flag fs 2)
+
+-- flags all of which are among others
+abbrev pub all-among : List Bool → List Bool → Bool
+all-among fs gs = (not (flag fs 0) || flag gs 0) && ((not (flag fs 1) || flag gs 1) && (not (flag fs 2) || flag gs 2))
+
+-- the protocol version of the highest flag: 1.2 too where no version is chosen yet, since "all up to the end of the opening frame is read
+-- by 1.2 rules, the rest by the version chosen"
+abbrev pub chosen : List Bool → Version
+chosen fs = cond (flag fs 1 && not (flag fs 2)) v1-1 v1-2
 
 -- "0 if the client's first or the server's second is 0, else the larger": the interval from the side that can send every a
 -- milliseconds to the side that wants to hear every b

@@ -1,15 +1,15 @@
 -- One client's session (document 01, "One client's session"): its record, what makes it valid, and its ids as lists. Assumes nothing.
-use mathlib.Core.Bool.{Bool, false, _&&_, _||_}
+use mathlib.Core.Bool.{Bool, false, _&&_, _||_, not}
 use mathlib.Core.Path.{_≡_}
 use mathlib.Core.List.{List}
 use Prim.Native.Nat.{ℕ, _*_}
 use lib.ListN.{length, replicate}
 use lib.Dec.{eqb, leb}
-use Rattle.frames.specs.Grammar.{Version, v1-2}
+use Rattle.frames.specs.declared.version.Version.{Version}
 use Rattle.sessions.specs.Stores.{ids, laid, lengths, valid-store}
 use Rattle.sessions.specs.Deliveries.{deliveries-max, label-max, auto-mode, no-deliveries, valid-modes, valid-deliveries}
 use Rattle.sessions.specs.Values.{heart-beat-max}
-use Rattle.sessions.specs.Opening.{may-offer}
+use Rattle.sessions.specs.Opening.{may-offer, none-shared, all-among, chosen}
 use Rattle.sessions.specs.declared.command.Kind.{Kind}
 use Rattle.sessions.specs.declared.command.Kind.the-variants.{Subscriptions, Transactions}
 use Rattle.sessions.specs.declared.delivery.Deliveries.{Deliveries}
@@ -114,13 +114,13 @@ with-ids Transactions s is = with-transactions s (record { ids = laid id-max is;
 abbrev pub with-modes : Session → List ℕ → Session
 with-modes s ms = with-subscriptions s (record { ids = s .subscriptions .ids; lens = s .subscriptions .lens; modes = ms })
 
--- the protocol version that the frames of a session are in: 1.2, the only one that it may offer
+-- the protocol version that the frames of a session are in: the highest that both sides have
 abbrev pub spoken : Session → Version
-spoken s = v1-2
+spoken s = chosen (s .agreed .versions)
 
 -- ---- A valid record, which document 01 calls not unsound: 38 is given for "unknown phase, length over 32, two equal live ids of one
--- kind, non-zero unused octets, offer or interval over the limit, marks that making refuses unless closed". The marks are the
--- offered version flags.
+-- kind, non-zero unused octets, offer or interval over the limit, marks that making refuses unless closed", and "also where an open
+-- session's shared marks are none, or not all among those it offers" (document 02, C-18). The marks are version flags.
 abbrev pub valid-offers : Offers → Bool
 valid-offers o = leb (o .sends) heart-beat-max && leb (o .wants) heart-beat-max
 
@@ -130,8 +130,11 @@ valid-agreed a = leb (a .inbound) heart-beat-max && leb (a .outbound) heart-beat
 abbrev pub right-flags : Session → Bool
 right-flags s = in-phase closed-phase s || may-offer (s .offers .versions)
 
+abbrev pub right-shared : Session → Bool
+right-shared s = not (in-phase open-phase s) || (not (none-shared (s .agreed .versions)) && all-among (s .agreed .versions) (s .offers .versions))
+
 abbrev pub valid-numbers : Session → Bool
-valid-numbers s = leb (s .phase) closed-phase && ((valid-offers (s .offers) && valid-agreed (s .agreed)) && right-flags s)
+valid-numbers s = leb (s .phase) closed-phase && ((valid-offers (s .offers) && valid-agreed (s .agreed)) && (right-flags s && right-shared s))
 
 abbrev pub valid-subscriptions : SubscriptionStore → Bool
 valid-subscriptions s = valid-store id-max (s .ids) (s .lens) && valid-modes (s .lens) (s .modes)

@@ -10,7 +10,7 @@ use lib.Dec.{eqb, leb, ltb}
 use Rattle.headers.specs.Block.{Entry}
 use Rattle.headers.specs.Answers.{Check, settle}
 use Rattle.sessions.specs.Stores.{enters, wants-live, changes, bad-length}
-use Rattle.sessions.specs.Deliveries.{deliveries-max, label-max, auto-mode, mode-of, is-pending, record-label}
+use Rattle.sessions.specs.Deliveries.{deliveries-max, label-max, auto-mode, Pending, mode-of, is-pending, record-label}
 use Rattle.sessions.specs.Deliveries.{valid-labels, valid-places}
 use Rattle.sessions.specs.Opening.{none-shared}
 use Rattle.sessions.specs.Headers.{is-some, from-server, opens, value-of, IdUse, id-use, changed-id}
@@ -163,8 +163,8 @@ abbrev pub outcome-with : Outcome → List ℕ → Deliveries → Outcome
 outcome-with r ms d = outcome-deliveries (outcome-modes r ms) d
 
 -- 60 of the label that an ACK or NACK names
-abbrev pub label-checks : Option (List ℕ) → Deliveries → List Check
-label-checks o d = record { fails = is-no-label o d; number = 60 } ∷ []
+abbrev pub label-checks : (Pending → Bool) → Option (List ℕ) → Deliveries → List Check
+label-checks may o d = record { fails = is-no-label may o d; number = 60 } ∷ []
 
 -- a delivery that is recorded, by its checks and the session that it leaves where it is accepted
 pub record Records (checks : List Check) (before after : Session) (r : Recording) : Type 0 where

@@ -1,13 +1,15 @@
 // Which ids a command names, and in which phase it may come.
 ghost use mathlib.Core.Path.{_≡_};
 ghost use mathlib.Core.List.{[]};
-ghost use Rattle.frames.specs.Grammar.{v1-2};
-ghost use Rattle.sessions.specs.Headers.{unknown, from-server, opens as opens-by, settles as settles-by, subscription, transaction, namings-by};
+ghost use Rattle.frames.specs.Grammar.{ACK};
+ghost use Rattle.sessions.specs.Headers.{unknown, from-server, opens as opens-by, settles as settles-by, subscription, transaction};
+ghost use Rattle.sessions.specs.Headers.{acknowledged-subscription, namings, namings-by, label-header};
 ghost use Rattle.sessions.specs.Steps.{phase-number, names-id, naming-list, GivesNamings};
 use crate::commands;
 use crate::refusals;
 use crate::session::Session;
 use crate::store::Use;
+use frames::version::Version;
 
 // Whether the number is no command's.
 pub(crate) fn is_unknown(command: u32) -> bool
@@ -26,6 +28,8 @@ pub(crate) enum Header {
     Transaction,
     Receipt,
     Ack,
+    Subscription,
+    MessageId,
 }
 
 // The kinds of ids.
@@ -70,6 +74,16 @@ pub(crate) fn settles(command: u32) -> bool
     (command == commands::ACK) | (command == commands::NACK)
 }
 
+// The header whose value is the label that an ACK or NACK names.
+pub(crate) fn label_header(version: Version) -> Header
+    ensures { λ r. ⌜ r ≡ label-header version ⌝ }
+{
+    match version {
+        Version::V11 => Header::MessageId,
+        Version::V12 => Header::Id,
+    }
+}
+
 fn subscription(usage: Use) -> Naming
     ensures { λ r. ⌜ r ≡ subscription usage ⌝ }
 {
@@ -90,6 +104,17 @@ fn transaction(usage: Use) -> Naming
     }
 }
 
+// The subscription that an ACK or NACK of 1.1 names.
+fn acknowledged_subscription() -> Naming
+    ensures { λ r. ⌜ r ≡ acknowledged-subscription ⌝ }
+{
+    Naming {
+        header: Header::Subscription,
+        kind: Kind::Subscriptions,
+        usage: Use::Need,
+    }
+}
+
 // One id, or none.
 fn only(first: Naming) -> Namings
     ensures { λ r. ⌜ GivesNamings (naming-list first []) r ⌝ }
@@ -100,9 +125,22 @@ fn only(first: Naming) -> Namings
     }
 }
 
+// The ids that an ACK or NACK names.
+fn settling_namings(version: Version) -> Namings
+    ensures { λ r. ⌜ GivesNamings (namings version ACK) r ⌝ }
+{
+    match version {
+        Version::V11 => Namings {
+            first: transaction(Use::Need),
+            second: acknowledged_subscription(),
+        },
+        Version::V12 => only(transaction(Use::Need)),
+    }
+}
+
 // The ids that a command names.
-pub(crate) fn namings_of(command: u32) -> Namings
-    ensures { λ r. ⌜ GivesNamings (namings-by v1-2 command) r ⌝ }
+pub(crate) fn namings_of(version: Version, command: u32) -> Namings
+    ensures { λ r. ⌜ GivesNamings (namings-by version command) r ⌝ }
 {
     if command == commands::SUBSCRIBE {
         return only(subscription(Use::Enter));
@@ -116,8 +154,11 @@ pub(crate) fn namings_of(command: u32) -> Namings
     if (command == commands::COMMIT) | (command == commands::ABORT) {
         return only(transaction(Use::Free));
     }
-    if (command == commands::SEND) | ((command == commands::ACK) | (command == commands::NACK)) {
+    if command == commands::SEND {
         return only(transaction(Use::Need));
+    }
+    if settles(command) {
+        return settling_namings(version);
     }
     only(transaction(Use::Nothing))
 }

@@ -3,16 +3,18 @@ ghost use mathlib.Core.Path.{_≡_};
 ghost use mathlib.Core.List.{List, [], _∷_, _++_};
 ghost use mathlib.Core.Option.{some};
 ghost use Prim.Native.Nat.{ℕ, _≤_, _<_};
-ghost use lib.ListN.{length};
+ghost use lib.ListN.{length, getD};
 ghost use Rattle.stores.specs.Searches.{first-from, search-says};
 ghost use Rattle.stores.specs.Compaction.{kept};
 ghost use Rattle.sessions.specs.Sessions.{subscriptions-max};
 ghost use Rattle.sessions.specs.Deliveries.{pending, labelled, places-of, deliveries-of, dropped, settle-label, no-deliveries};
 ghost use Rattle.sessions.specs.Deliveries.{some-lengths, acknowledging, valid-labels, valid-places, Laid};
+ghost use Rattle.sessions.specs.Calls.{may-name};
 ghost use Rattle.sessions.specs.Steps.{valid-parts};
 ghost use Rattle.headers.specs.Rows.{every};
 use crate::parts::SubscriptionStore;
 use crate::session::Session;
+use frames::version::Version;
 use stores::Range;
 use stores::Search;
 
@@ -90,6 +92,24 @@ impl Deliveries {
         let labels = self.labels;
         let lens = self.lens;
         crate::store::find(&labels[0..end], &lens[0..n], n, 32, label)
+    }
+
+    // Whether an ACK or NACK may name the one with a number: in 1.2 any, in 1.1 one of the subscription that it names, which has a place.
+    pub(crate) fn may_name(self, index: usize, version: Version, place: Search) -> bool
+        requires { ⌜ (Laid self) × (index < self .count) ⌝ }
+        ensures { λ r. ⌜ r ≡ may-name version (search-says place) (getD (pending self) index (record { place = 0; label = [] })) ⌝ }
+    {
+        match version {
+            Version::V11 => {
+                let places = self.places;
+                let of = places[index];
+                match place {
+                    Search::At(k) => wide(of) == k,
+                    Search::Nowhere => false,
+                }
+            }
+            Version::V12 => true,
+        }
     }
 
     // The one with a number settled, and where its subscription's mode is client the earlier ones of that subscription.

@@ -4,8 +4,8 @@ ghost use mathlib.Core.Bool.{not};
 ghost use mathlib.Core.List.{List};
 ghost use Prim.Native.Nat.{ℕ};
 ghost use Rattle.headers.specs.Block.{entries, listed};
-ghost use Rattle.frames.specs.Grammar.{v1-2};
-ghost use Rattle.sessions.specs.Headers.{has as has-header, needed-by, mode-asked};
+ghost use Rattle.frames.specs.Grammar.{ACK};
+ghost use Rattle.sessions.specs.Headers.{has as has-header, needed, needed-by, mode-asked};
 ghost use Rattle.sessions.specs.Calls.{lacks-any, client-versions, client-heart-beats, acceptance-of};
 ghost use Rattle.sessions.specs.Reads.{versions-say, heart-beats-say, mode-says};
 ghost use Rattle.sessions.specs.Notes.{Locates, AllNoted};
@@ -18,6 +18,7 @@ use crate::session::Acceptance;
 use crate::value::HeartBeatsRead;
 use crate::value::ModeRead;
 use crate::value::VersionsRead;
+use frames::version::Version;
 
 // Where a header's first value is in the block that the notes are of.
 pub(crate) fn locate(notes: Notes, block: &[u8], header: Header) -> Located
@@ -34,9 +35,19 @@ fn lacks(notes: Notes, header: Header) -> bool
     !crate::notes::locate(notes, header).present
 }
 
+// Whether a header that an ACK or NACK needs is missing.
+fn lacks_named(version: Version, notes: Notes) -> bool
+    ensures { λ r. ⌜ ((block : List ℕ) → AllNoted block notes → r ≡ lacks-any (needed version ACK) (listed (entries block))) ⌝ }
+{
+    match version {
+        Version::V11 => lacks(notes, Header::Subscription) | lacks(notes, Header::MessageId),
+        Version::V12 => lacks(notes, Header::Id),
+    }
+}
+
 // Whether a header that the command needs is missing.
-pub(crate) fn lacks_needed(command: u32, notes: Notes) -> bool
-    ensures { λ r. ⌜ ((block : List ℕ) → AllNoted block notes → r ≡ lacks-any (needed-by v1-2 command) (listed (entries block))) ⌝ }
+pub(crate) fn lacks_needed(version: Version, command: u32, notes: Notes) -> bool
+    ensures { λ r. ⌜ ((block : List ℕ) → AllNoted block notes → r ≡ lacks-any (needed-by version command) (listed (entries block))) ⌝ }
 {
     if crate::command::opens(command) {
         return lacks(notes, Header::AcceptVersion) | lacks(notes, Header::Host);
@@ -47,15 +58,16 @@ pub(crate) fn lacks_needed(command: u32, notes: Notes) -> bool
     if command == commands::SUBSCRIBE {
         return lacks(notes, Header::Destination) | lacks(notes, Header::Id);
     }
-    if (command == commands::UNSUBSCRIBE)
-        | ((command == commands::ACK) | (command == commands::NACK))
-    {
+    if command == commands::UNSUBSCRIBE {
         return lacks(notes, Header::Id);
     }
     if (command == commands::BEGIN)
         | ((command == commands::COMMIT) | (command == commands::ABORT))
     {
         return lacks(notes, Header::Transaction);
+    }
+    if crate::command::settles(command) {
+        return lacks_named(version, notes);
     }
     false
 }

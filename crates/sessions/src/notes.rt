@@ -25,7 +25,7 @@ pub(crate) struct Notes {
 
 impl Notes {
     // How many headers a session knows.
-    pub(crate) const HEADERS: usize = 8;
+    pub(crate) const HEADERS: usize = 10;
 
     // Nothing noted yet.
     fn none() -> Notes
@@ -53,6 +53,8 @@ fn index_of(header: Header) -> usize
         Header::Transaction => 5,
         Header::Receipt => 6,
         Header::Ack => 7,
+        Header::Subscription => 8,
+        Header::MessageId => 9,
     }
 }
 
@@ -78,7 +80,13 @@ fn number_of(name: &[u8]) -> usize
         3 => number_if(name, b"ack", 7),
         4 => number_if(name, b"host", 2),
         7 => number_if(name, b"receipt", 6),
-        10 => number_if(name, b"heart-beat", 1),
+        10 => {
+            if name[0] == b'h' {
+                number_if(name, b"heart-beat", 1)
+            } else {
+                number_if(name, b"message-id", 9)
+            }
+        }
         11 => {
             if name[0] == b'd' {
                 number_if(name, b"destination", 3)
@@ -86,6 +94,7 @@ fn number_of(name: &[u8]) -> usize
                 number_if(name, b"transaction", 5)
             }
         }
+        12 => number_if(name, b"subscription", 8),
         14 => number_if(name, b"accept-version", 0),
         _ => Notes::HEADERS,
     }

@@ -11,12 +11,14 @@ ghost use Rattle.sessions.specs.Opening.{highest};
 ghost use Rattle.sessions.specs.Sessions.{id-max, subscriptions-max, fresh, closed, valid-numbers, is-valid};
 ghost use Rattle.sessions.specs.Answers.{answer-says, making-says, timed-out-says, delivery-says};
 ghost use Rattle.sessions.specs.Calls.{making-answer, made, frame-answer, frame-session, heart-beat-answer, heart-beat-session};
-ghost use Rattle.sessions.specs.Calls.{timed-out-answer, deliver-answer, deliver-session, free-place, place-named, lacks-needed};
+ghost use Rattle.sessions.specs.Calls.{timed-out-answer, deliver-answer, deliver-session, free-place, place-named, may-name, lacks-needed};
 ghost use Rattle.sessions.specs.Deliveries.{auto-mode, with-mode, dropped, valid-modes};
 ghost use Rattle.sessions.specs.Held.{held-deliveries, nth, nothing-told, told-of, pending-answer};
+ghost use Rattle.sessions.specs.Headers.{value-of};
+ghost use Rattle.sessions.specs.declared.command.Header.the-variants.{Subscription};
 ghost use Rattle.sessions.specs.Notes.{AllNoted};
 ghost use Rattle.sessions.specs.Steps.{kept-by, closed-by, accepted-by, unrecorded-by, recorded-as, recording-at, RecordsAt, MayRecord};
-ghost use Rattle.sessions.specs.Changes.{NamesIds, Does, LooksLabel, LooksFurther, DecidesOpening, DecidesUses, DecidesFrame};
+ghost use Rattle.sessions.specs.Changes.{NamesIds, Does, LooksLabel, LooksNamed, LooksFurther, DecidesOpening, DecidesUses, DecidesFrame};
 use crate::command::Header;
 use crate::commands;
 use crate::delivery::Deliveries;
@@ -33,6 +35,7 @@ use crate::step::Named;
 use crate::step::Step;
 use crate::value::HEART_BEAT_MAX;
 use crate::value::ModeRead;
+use frames::version::Version;
 use stores::Search;
 
 // The record of a session, made of its parts. The phase is 0 fresh, 1 open, 2 closed.
@@ -247,7 +250,7 @@ impl Session {
         }
     }
 
-    // Whether phase, offers, intervals and offered versions are those of a valid record.
+    // Whether phase, offers, intervals, offered and shared versions are those of a valid record.
     fn has_valid_numbers(self) -> bool
         ensures { λ r. ⌜ r ≡ valid-numbers self ⌝ }
     {
@@ -256,7 +259,10 @@ impl Session {
         let versions = offers.versions;
         let small = offers.is_valid() & agreed.is_valid();
         let flags = (self.phase == Session::CLOSED) | crate::value::may_offer(versions);
-        (self.phase <= Session::CLOSED) & (small & flags)
+        let shared = agreed.versions;
+        let chosen = (self.phase != Session::OPEN)
+            | (!crate::value::is_none_shared(shared) & crate::value::are_among(shared, versions));
+        (self.phase <= Session::CLOSED) & (small & (flags & chosen))
     }
 
     // Whether the record is valid (not 38).
@@ -409,19 +415,58 @@ impl Session {
         }
     }
 
-    // An ACK or NACK of a label: the delivery is settled, or 60.
-    fn settle_label(self, label: &[u8]) -> Looked
+    // The place of the subscription that an ACK or NACK names; in 1.2 it names none.
+    fn acknowledged(self, version: Version, notes: Notes, block: &[u8]) -> Search
+        requires { ⌜ (is-valid self ≡ true) × AllNoted (now block) notes ⌝ }
+        ensures { λ r. ⌜
+            may-name version (search-says r) ≡ may-name version (place-named self (value-of Subscription (listed (entries (now (block .entry))))))
+            ⌝ }
+    {
+        match version {
+            Version::V11 => {
+                let l = crate::locate::locate(notes, block, Header::Subscription);
+                if !l.present {
+                    return Search::Nowhere;
+                }
+                let start = l.start;
+                let end = l.end;
+                self.find_subscription(&block[start..end])
+            }
+            Version::V12 => Search::Nowhere,
+        }
+    }
+
+    // An ACK or NACK of a label: the delivery is settled where it may be named, or 60.
+    fn settle_label(self, label: &[u8], version: Version, place: Search) -> Looked
         requires { ⌜ is-valid self ≡ true ⌝ }
-        ensures { λ r. ⌜ LooksLabel self (now (label .entry)) r ⌝ }
+        ensures { λ r. ⌜ LooksLabel self (may-name version (search-says place)) (now (label .entry)) r ⌝ }
     {
         let deliveries = self.deliveries;
         match deliveries.find(label) {
             Search::At(i) => {
+                if !deliveries.may_name(i, version, place) {
+                    return Looked::Refused(refusals::NOT_PENDING);
+                }
                 let further = Further::Settle(i);
                 Looked::Does(further)
             }
             Search::Nowhere => Looked::Refused(refusals::NOT_PENDING),
         }
+    }
+
+    // An ACK or NACK: the delivery that it names is settled, or 60.
+    fn settle(self, notes: Notes, block: &[u8]) -> Looked
+        requires { ⌜ (is-valid self ≡ true) × AllNoted (now block) notes ⌝ }
+        ensures { λ r. ⌜ LooksNamed self (listed (entries (now (block .entry)))) r ⌝ }
+    {
+        let shared = self.agreed.versions;
+        let version = crate::value::chosen(shared);
+        let place = self.acknowledged(version, notes, block);
+        let header = crate::command::label_header(version);
+        let l = crate::locate::locate(notes, block, header);
+        let start = l.start;
+        let end = l.end;
+        self.settle_label(&block[start..end], version, place)
     }
 
     // What a frame whose ids are settled does to modes and deliveries, or 49 or 60.
@@ -440,15 +485,15 @@ impl Session {
                 ModeRead::Unknown => Looked::Refused(refusals::UNKNOWN_MODE),
             };
         }
-        let l = crate::locate::locate(notes, block, Header::Id);
-        let start = l.start;
-        let end = l.end;
         if command == commands::UNSUBSCRIBE {
+            let l = crate::locate::locate(notes, block, Header::Id);
+            let start = l.start;
+            let end = l.end;
             let further = self.drop_deliveries(&block[start..end]);
             return Looked::Does(further);
         }
         if crate::command::settles(command) {
-            return self.settle_label(&block[start..end]);
+            return self.settle(notes, block);
         }
         Looked::Does(Further::Nothing)
     }
@@ -493,7 +538,9 @@ impl Session {
         if number != 0 {
             return crate::step::closing(number);
         }
-        if crate::locate::lacks_needed(command, notes) {
+        let shared = self.agreed.versions;
+        let version = crate::value::chosen(shared);
+        if crate::locate::lacks_needed(version, command, notes) {
             return crate::step::closing(refusals::MISSING);
         }
         let acceptance = crate::locate::acceptance(command, notes);
@@ -538,11 +585,14 @@ impl Session {
         if crate::command::is_unknown(command) | !notes.valid {
             return self.kept(refusals::MALFORMED);
         }
+        let shared = self.agreed.versions;
+        let version = crate::value::chosen(shared);
         let named = crate::step::settle_ids(
             &self.subscriptions.ids,
             &self.subscriptions.lens,
             &self.transactions.ids,
             &self.transactions.lens,
+            version,
             command,
             notes,
             block,

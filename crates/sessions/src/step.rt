@@ -4,7 +4,7 @@ ghost use mathlib.Core.Bool.{true};
 ghost use mathlib.Core.List.{[]};
 ghost use Rattle.headers.specs.Block.{entries, listed};
 ghost use Rattle.sessions.specs.Headers.{put-before, changed-id};
-ghost use Rattle.sessions.specs.Sessions.{id-max, subscriptions-max, transactions-max, is-valid, Sized};
+ghost use Rattle.sessions.specs.Sessions.{id-max, subscriptions-max, transactions-max, spoken, is-valid, Sized};
 ghost use Rattle.sessions.specs.Calls.{id-effect};
 ghost use Rattle.sessions.specs.Places.{Fits};
 ghost use Rattle.sessions.specs.Notes.{AllNoted};
@@ -19,6 +19,7 @@ use crate::session::Acceptance;
 use crate::session::Session;
 use crate::session::SessionAnswer;
 use crate::store::Settled;
+use frames::version::Version;
 
 // A place of a store, and the part of the block that is put there: an id, or nothing where the place is freed.
 pub(crate) struct Placing {
@@ -180,6 +181,7 @@ pub(crate) fn settle_ids<'a>(
     sub_lens: &'a [u8],
     txs: &'a [u8],
     tx_lens: &'a [u8],
+    version: Version,
     command: u32,
     notes: Notes,
     block: &[u8],
@@ -191,10 +193,11 @@ pub(crate) fn settle_ids<'a>(
     ensures { λ r. ⌜
         ((s : SessionValue)
         → Lends s (now (subs .entry)) (now («sub_lens» .entry)) (now (txs .entry)) (now («tx_lens» .entry))
+        → spoken s ≡ version
         → NamesIds s command (listed (entries (now (block .entry)))) r)
         ⌝ }
 {
-    let namings = crate::command::namings_of(command);
+    let namings = crate::command::namings_of(version, command);
     let first = namings.first;
     let second = namings.second;
     let settled = settle_naming(subs, sub_lens, txs, tx_lens, first, notes, block);

@@ -6,10 +6,11 @@ ghost use lib.ListN.{length, drop};
 ghost use Rattle.headers.specs.Rows.{same};
 ghost use Rattle.headers.specs.Parts.{until};
 ghost use Rattle.sessions.specs.Values.{some-digits, is-item, versions, heart-beats};
-ghost use Rattle.sessions.specs.Opening.{shared-flags, none-shared, may-offer, interval as interval-of};
+ghost use Rattle.sessions.specs.Opening.{shared-flags, none-shared, may-offer, all-among, chosen as chosen-of, interval as interval-of};
 ghost use Rattle.sessions.specs.Headers.{mode-named};
 ghost use Rattle.sessions.specs.Reads.{version, counted, versions-say, heart-beats-say, mode-says};
 use crate::parts::SubscriptionStore;
+use frames::version::Version;
 use headers::DecimalRead;
 
 // The versions of an accept-version value, as flags for 1.0, 1.1 and 1.2, and whether it is well formed.
@@ -143,11 +144,29 @@ pub(crate) fn is_none_shared(flags: [bool; 3]) -> bool
     !(flags[0] | (flags[1] | flags[2]))
 }
 
-// Whether a server may offer these versions: 1.2 alone.
+// Whether a server may offer these versions: 1.1 or 1.2 or both.
 pub(crate) fn may_offer(flags: [bool; 3]) -> bool
     ensures { λ r. ⌜ r ≡ may-offer flags ⌝ }
 {
-    !flags[0] & (!flags[1] & flags[2])
+    !flags[0] & (flags[1] | flags[2])
+}
+
+// Whether all versions are among others.
+pub(crate) fn are_among(flags: [bool; 3], others: [bool; 3]) -> bool
+    ensures { λ r. ⌜ r ≡ all-among flags others ⌝ }
+{
+    (!flags[0] | others[0]) & ((!flags[1] | others[1]) & (!flags[2] | others[2]))
+}
+
+// The protocol version of the highest that both sides have; 1.2 where none is chosen yet.
+pub(crate) fn chosen(flags: [bool; 3]) -> Version
+    ensures { λ r. ⌜ r ≡ chosen-of flags ⌝ }
+{
+    if flags[1] & !flags[2] {
+        Version::V11
+    } else {
+        Version::V12
+    }
 }
 
 // A heart-beat value that is malformed.

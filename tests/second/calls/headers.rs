@@ -2,18 +2,17 @@
 //! line can hold, those that are not UTF-8 among them, and what content-length says.
 
 use crate::block::Entry;
-use crate::item::{
-    Command, BACKSLASH, COLON, CONTENT_LENGTH, CR, ESCAPED, LF, MAX_LINE, MAX_LINES,
-};
+use crate::item::{Command, BACKSLASH, COLON, CONTENT_LENGTH, CR, LF, MAX_LINE, MAX_LINES};
 use crate::random::Random;
 use crate::streams::characters::{any_character, broken, MOST};
 use crate::streams::colons;
+use crate::version::Version;
 
 /// Octets that no command escapes.
 const PLAIN: &[u8] = b"abcnr019- /;.\0\t";
 
 /// The entries of a call whose body has this length.
-pub fn entries(random: &mut Random, command: Command, body: usize) -> Vec<Entry> {
+pub fn entries(random: &mut Random, version: Version, command: Command, body: usize) -> Vec<Entry> {
     let few = [0, 1, 1, 2, 3, 4];
     let many = [MAX_LINES - 1, MAX_LINES, MAX_LINES, MAX_LINES + 1, 40];
     let count = if random.once_in(4) {
@@ -21,38 +20,41 @@ pub fn entries(random: &mut Random, command: Command, body: usize) -> Vec<Entry>
     } else {
         random.pick(&few)
     };
-    let mut entries: Vec<Entry> = (0..count).map(|_| entry(random, command)).collect();
+    let mut entries: Vec<Entry> = (0..count)
+        .map(|_| entry(random, version, command))
+        .collect();
     lengths(random, body, &mut entries);
     if random.once_in(6) && !entries.is_empty() {
         let index = random.below(entries.len());
-        entries[index] = whole_line(random, command);
+        entries[index] = whole_line(random, version, command);
     }
     while random.once_in(5) && !entries.is_empty() {
         let index = random.below(entries.len());
-        spoil(random, command, &mut entries[index]);
+        spoil(random, version, command, &mut entries[index]);
     }
     entries
 }
 
 /// An entry that a line can hold.
-fn entry(random: &mut Random, command: Command) -> Entry {
+fn entry(random: &mut Random, version: Version, command: Command) -> Entry {
     let (name, value) = (random.between(1, 6), random.between(0, 8));
     let mut entry = Entry {
-        name: text(random, command, name),
-        value: text(random, command, value),
+        name: text(random, version, command, name),
+        value: text(random, version, command, value),
     };
     colons(random, command, &mut entry.value);
     entry
 }
 
-/// Text of that many octets, of any characters where the command escapes, else without 10, 13 and colon.
-fn text(random: &mut Random, command: Command, length: usize) -> Vec<u8> {
+/// Text of that many octets, of any characters where the command escapes, else without 10, colon, and without
+/// 13 where it ends lines.
+fn text(random: &mut Random, version: Version, command: Command, length: usize) -> Vec<u8> {
     let mut text = Vec::new();
     while text.len() < length {
         let room = length - text.len();
         match random.below(8) {
-            0 | 1 if command.escapes() => text.push(random.pick(&ESCAPED)),
-            0 | 1 => text.push(BACKSLASH),
+            0 | 1 if command.escapes() && !random.once_in(4) => text.push(escaped(random, version)),
+            0 | 1 => text.push(special(random, version, command)),
             2 if room > 1 => text.extend(any_character(random, room)),
             _ => text.push(random.pick(PLAIN)),
         }
@@ -60,45 +62,66 @@ fn text(random: &mut Random, command: Command, length: usize) -> Vec<u8> {
     text
 }
 
+/// An octet that has an escape.
+fn escaped(random: &mut Random, version: Version) -> u8 {
+    random.pick(version.escapes()).1
+}
+
+/// An octet that a rule speaks of, and that takes one raw octet: a backslash where there are no escapes, and 13
+/// in 1.1; if there is none, a plain one.
+fn special(random: &mut Random, version: Version, command: Command) -> u8 {
+    let mut octets = Vec::new();
+    octets.extend((!command.escapes()).then_some(BACKSLASH));
+    octets.extend((!version.ends_line(CR)).then_some(CR));
+    if octets.is_empty() {
+        return random.pick(PLAIN);
+    }
+    random.pick(&octets)
+}
+
 /// An entry whose raw line has exactly 512 octets, or one less, or one more.
-fn whole_line(random: &mut Random, command: Command) -> Entry {
+fn whole_line(random: &mut Random, version: Version, command: Command) -> Entry {
     let length = random.pick(&[MAX_LINE - 1, MAX_LINE, MAX_LINE, MAX_LINE + 1]);
-    long_line(random, command, length)
+    long_line(random, version, command, length)
 }
 
 /// An entry whose raw line has exactly that many octets, with few escapes or with many; where there
-/// are none, with raw backslashes.
-fn long_line(random: &mut Random, command: Command, length: usize) -> Entry {
+/// are none, with raw backslashes; in 1.1 with octets 13.
+fn long_line(random: &mut Random, version: Version, command: Command, length: usize) -> Entry {
     let name = random.pick(&[1, 2, length / 2, length - 2, length - 1]);
     let plain = random.pick(&[1, 2, 100, 1_000]);
     let mut entry = Entry {
-        name: raw_text(random, command, name, plain),
-        value: raw_text(random, command, length - 1 - name, plain),
+        name: raw_text(random, version, command, name, plain),
+        value: raw_text(random, version, command, length - 1 - name, plain),
     };
     colons(random, command, &mut entry.value);
     entry
 }
 
 /// Text that takes exactly that many raw octets: an octet that has an escape takes two of them.
-fn raw_text(random: &mut Random, command: Command, length: usize, plain: usize) -> Vec<u8> {
+fn raw_text(
+    random: &mut Random,
+    version: Version,
+    command: Command,
+    length: usize,
+    plain: usize,
+) -> Vec<u8> {
     let mut text = Vec::new();
     let mut room = length;
     while room > 0 {
-        let special = random.once_in(plain);
+        let wanted = random.once_in(plain);
         if room > 1 && random.once_in(10) {
             let character = any_character(random, room);
             room -= character.len();
             text.extend(character);
-        } else if special && command.escapes() && room > 1 {
-            text.push(random.pick(&ESCAPED));
+        } else if wanted && command.escapes() && room > 1 && !random.once_in(4) {
+            text.push(escaped(random, version));
             room -= 2;
+        } else if wanted {
+            text.push(special(random, version, command));
+            room -= 1;
         } else {
-            let raw_backslash = special && !command.escapes();
-            text.push(if raw_backslash {
-                BACKSLASH
-            } else {
-                random.pick(PLAIN)
-            });
+            text.push(random.pick(PLAIN));
             room -= 1;
         }
     }
@@ -107,7 +130,7 @@ fn raw_text(random: &mut Random, command: Command, length: usize, plain: usize) 
 
 /// Makes an entry one that no line can hold; or, with an octet that has an escape, one that the lines of
 /// some commands can.
-fn spoil(random: &mut Random, command: Command, entry: &mut Entry) {
+fn spoil(random: &mut Random, version: Version, command: Command, entry: &mut Entry) {
     match random.below(30) {
         0..=5 => entry.name.clear(),
         24..=28 => {
@@ -135,7 +158,7 @@ fn spoil(random: &mut Random, command: Command, entry: &mut Entry) {
         }
         18..=21 => {
             let length = random.between(MAX_LINE + 1, MAX_LINE + 3);
-            *entry = long_line(random, command, length);
+            *entry = long_line(random, version, command, length);
         }
         22 => {
             let length = random.pick(&[600, 1_024, 4_095]);

@@ -5,7 +5,7 @@
 use crate::block::{self, Entry};
 use crate::characters::{is_utf8, missing, octets_of, unfinished};
 use crate::decode::decoded;
-use crate::encode::{encode, line, Refusal};
+use crate::encode::{encode, line, Options, Refusal};
 use crate::feed::record::{is_refused, CHARACTER, CODE, COMMAND, HELD, PHASE, REFUSED};
 use crate::feed::StreamParser;
 use crate::feed_calls::BUFFER;
@@ -16,6 +16,8 @@ use crate::session::opening::ONLY_1_2;
 use crate::session::record::make;
 use crate::streams::characters::{any_character, broken, character, of_either_kind};
 use crate::topic;
+use crate::version::Version::V1_2;
+use crate::version::BOTH;
 use std::collections::HashSet;
 use std::ops::RangeInclusive;
 
@@ -176,7 +178,9 @@ fn every_octet_after_every_beginning() {
                     },
                 };
                 let row = [head, &with].concat();
-                assert_eq!(parse(&row), expected, "{}", row.escape_ascii());
+                for version in BOTH {
+                    assert_eq!(parse(version, &row), expected, "{}", row.escape_ascii());
+                }
             }
         }
     }
@@ -410,7 +414,8 @@ fn records_of_no_unfinished_character_are_refused() {
 fn entries_that_are_not_utf8_are_refused() {
     let mut random = Random::new(22);
     let answer = |command: u32, entries: &[Entry], body: &[u8]| {
-        encode(command, &block::write(entries), body, 1_000, false)
+        let options = Options::default();
+        encode(options, command, &block::write(entries), body, 1_000)
     };
     let sound = Entry::new(b"na\xc3\xa9me", b"\xf0\x9f\x98\x80");
     let refused = |index| Err(Refusal { code: 53, index });
@@ -458,11 +463,13 @@ fn decoded_text_is_utf8_exactly_if_the_raw_text_is() {
                 _ => text.extend(any_character(&mut random, 4)),
             }
         }
-        let raw = &line(command, &Entry::new(b"n", &text))[2..];
-        assert_eq!(decoded(command, raw), text);
+        let version = random.pick(&BOTH);
+        let raw = &line(version, command, &Entry::new(b"n", &text))[2..];
+        assert_eq!(decoded(version, command, raw), text);
         assert_eq!(is_utf8(raw), is_utf8(&text), "{}", text.escape_ascii());
-        let stands = header_line(command, &[b"n:", raw].concat()).is_some();
-        let unwritable = round % 2 == 1 && text.iter().any(|octet| b"\n\r".contains(octet));
+        let stands = header_line(version, command, &[b"n:", raw].concat()).is_some();
+        let stops: &[u8] = if version == V1_2 { b"\n\r" } else { b"\n" };
+        let unwritable = round % 2 == 1 && text.iter().any(|octet| stops.contains(octet));
         assert_eq!(stands, is_utf8(&text) && !unwritable);
         if is_utf8(&text) {
             right += 1;

@@ -154,9 +154,20 @@ fn deliveries_are_settled() {
             continue;
         };
         let named = random.between(0, last);
-        let label = &session.deliveries[named].label;
+        let Delivery {
+            subscription,
+            label,
+            ..
+        } = &session.deliveries[named];
         let mut record = Record::of(&session);
-        let block = block::write(&[Entry::new(b"id", label)]);
+        let entries = match session.state.shared {
+            [_, _, true] => vec![Entry::new(b"id", label)],
+            _ => vec![
+                Entry::new(b"subscription", subscription),
+                Entry::new(b"message-id", label),
+            ],
+        };
+        let block = block::write(&entries);
         let name: &[u8] = random.pick(&[&b"ACK"[..], b"NACK"]);
         assert_eq!(record.frame(command(name).0 as u32, &block, 7), PLAIN);
         let after = record.session().expect("a valid record");

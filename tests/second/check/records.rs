@@ -3,7 +3,7 @@
 
 use crate::random::Random;
 use crate::reader::Reader;
-use crate::session::opening::ONLY_1_2;
+use crate::session::opening::{BOTH, OFFERS, ONLY_1_1, ONLY_1_2};
 use crate::session::record::{make, Record, LENGTH};
 use crate::session_calls::records::{put, record, valid};
 use std::collections::BTreeSet;
@@ -20,11 +20,18 @@ fn is_invalid(octets: &[u8]) -> bool {
     let numbers = [1, 5, 15, 19].map(|start| number(&octets[start..start + 4]));
     octets[0] > 2
         || numbers.iter().any(|&number| number > 3_600_000)
-        || (octets[0] != 2 && octets[9..12] != [0, 0, 1])
+        || (octets[0] != 2 && (octets[9] != 0 || octets[10] + octets[11] == 0))
+        || (octets[0] == 1 && flags_are_invalid(&octets[9..12], &octets[12..15]))
         || store_is_invalid(&octets[27..539], &octets[539..555])
         || store_is_invalid(&octets[555..683], &octets[683..687])
         || store_is_invalid(&octets[687..2735], &octets[2735..2799])
         || deliveries_are_invalid(octets)
+}
+
+/// C-18's rule for an open session: "shared marks are none, or not all among those it offers".
+fn flags_are_invalid(offered: &[u8], shared: &[u8]) -> bool {
+    let mut both = offered.iter().zip(shared);
+    shared == [0, 0, 0] || both.any(|(offered, shared)| offered < shared)
 }
 
 /// C-15's rule, besides what is asked of any store: each delivery is looked at by its number.
@@ -138,17 +145,23 @@ fn a_fresh_session() {
     assert_eq!(record.subscriptions.octets, [0; 512]);
 }
 
-/// "refused with 34 and gives a closed session whose other fields are 0"
+/// "refused with 34 and gives a closed session whose other fields are 0"; "34 where 1.0 is marked, or neither 1.1
+/// nor 1.2".
 #[test]
 fn making_is_refused() {
-    let other: Vec<[bool; 3]> = (0..8)
+    let all: Vec<[bool; 3]> = (0..8)
         .map(|bits| [0, 1, 2].map(|place| bits >> place & 1 == 1))
-        .filter(|&flags| flags != ONLY_1_2)
         .collect();
-    assert_eq!(other.len(), 7);
-    let mut calls: Vec<_> = other.into_iter().map(|flags| (0, 0, flags)).collect();
-    calls.push((3_600_001, 0, ONLY_1_2));
-    calls.push((0, 3_600_001, ONLY_1_2));
+    let refused = |flags: &&[bool; 3]| flags[0] || !(flags[1] || flags[2]);
+    let other: Vec<[bool; 3]> = all.iter().filter(refused).copied().collect();
+    assert_eq!(other.len(), 5);
+    let mut calls: Vec<_> = other.iter().map(|flags| (0, 0, *flags)).collect();
+    for flags in [ONLY_1_1, ONLY_1_2, BOTH] {
+        assert!(OFFERS.contains(&flags) && !other.contains(&flags));
+        assert_eq!(make(3_600_000, 3_600_000, flags).0, Ok(()));
+        calls.push((3_600_001, 0, flags));
+        calls.push((0, 3_600_001, flags));
+    }
     calls.push((u32::MAX, u32::MAX, [true; 3]));
     for (sends, wants, offered) in calls {
         let (made, mut record) = make(sends, wants, offered);
@@ -160,4 +173,27 @@ fn making_is_refused() {
         assert_eq!(record.frame(12, b"", 7), Err(40));
         assert_eq!(record.timed_out(7), Ok(false));
     }
+}
+
+/// All flags offered and shared, in each phase.
+#[test]
+fn flags_of_38() {
+    let all: Vec<[bool; 3]> = (0..8)
+        .map(|bits| [0, 1, 2].map(|place| bits >> place & 1 == 1))
+        .collect();
+    let mut valid = [0; 3];
+    for phase in 0..3 {
+        for &offered in &all {
+            for &shared in &all {
+                let (_, mut record) = make(0, 0, ONLY_1_2);
+                record.phase = phase;
+                (record.state.offered, record.state.shared) = (offered, shared);
+                let sound = record.session().is_some();
+                assert_eq!(sound, !is_invalid(&record.octets()));
+                valid[usize::from(phase)] += usize::from(sound);
+            }
+        }
+    }
+    // Fresh: three offers with any shared; open: of one version itself, of two any of both; closed: all.
+    assert_eq!(valid, [3 * 8, 1 + 1 + 3, 8 * 8]);
 }

@@ -7,6 +7,7 @@ use crate::lives::life;
 use crate::random::Random;
 use crate::replay::{replay, write, Said};
 use crate::session_calls::{read, replies, Call, NAMES};
+use crate::version::Version::{self, V1_1, V1_2};
 use std::collections::BTreeSet;
 
 fn lines(stream: &[u8], sends: u32, wants: u32, log: bool) -> String {
@@ -82,10 +83,6 @@ fn messages_of_a_log_are_recorded() {
 
 #[test]
 fn the_fixed_stream_is_replayed() {
-    let answers: Vec<String> = lines(&fixed::stream(), 0, 0, true)
-        .lines()
-        .map(|line| line.split_once(' ').expect("a blank").1.to_string())
-        .collect();
     let expected = [
         "beat accepted",
         "frame 9 refused 63",
@@ -121,11 +118,60 @@ fn the_fixed_stream_is_replayed() {
         "beat refused 40",
         "refused 1 3",
     ];
-    assert_eq!(answers, expected);
+    assert_eq!(answers_to_fixed(V1_2), expected);
+}
+
+/// What is written of the fixed stream of this version, without the starts.
+fn answers_to_fixed(version: Version) -> Vec<String> {
+    lines(&fixed::stream(version), 0, 0, true)
+        .lines()
+        .map(|line| line.split_once(' ').expect("a blank").1.to_string())
+        .collect()
+}
+
+#[test]
+fn the_fixed_stream_of_1_1_is_replayed() {
+    let expected = [
+        "beat accepted",
+        "beat accepted",
+        "frame 9 refused 63",
+        "frame 5 accepted version 1.1 client 0 server 0",
+        "beat accepted",
+        "frame 14 accepted overwritten 0 1 0",
+        "frame 14 accepted receipt",
+        "frame 9 delivered",
+        "frame 9 refused 62",
+        "frame 9 delivered",
+        "frame 9 delivered",
+        "frame 9 refused 62",
+        "beat accepted",
+        "frame 9 refused 64",
+        "frame 9 refused 64",
+        "frame 3 accepted",
+        "beat accepted",
+        "frame 12 accepted receipt",
+        "frame 12 accepted overwritten 1 0 1",
+        "frame 2 accepted overwritten 0 1 0",
+        "frame 10 accepted",
+        "frame 4 accepted receipt",
+        "beat accepted",
+        "beat accepted",
+        "frame 15 accepted",
+        "frame 14 accepted",
+        "frame 9 delivered",
+        "frame 9 delivered",
+        "frame 2 accepted receipt",
+        "frame 2 refused 60",
+        "frame 9 refused 63",
+        "frame 12 refused 40",
+        "beat refused 40",
+        "refused 1 10",
+    ];
+    assert_eq!(answers_to_fixed(V1_1), expected);
 }
 
 /// The answers to the fixed calls by value, group by group; a comma stands between two.
-const ANSWERS: [&str; 17] = [
+const ANSWERS: [&str; 23] = [
     "no,accepted,made,no,accepted,no,no,yes,yes,accepted,no,no,yes,set,no,yes,no",
     "set,accepted,accepted receipt,accepted receipt,accepted,refused 43,no,refused 40,refused 40,\
      set,accepted receipt,refused 40",
@@ -137,11 +183,13 @@ const ANSWERS: [&str; 17] = [
      refused 42,made,refused 41",
     "set,refused 39,refused 39,refused 39,refused 41,refused 39,set,refused 44,set,refused 44,set,\
      refused 46,set,refused 43",
-    "made,refused 34,refused 34,refused 34,refused 34,refused 34,refused 40,refused 40",
+    "made,refused 34,refused 34,refused 34,made,made,refused 34,refused 34,refused 34,refused 34,\
+     refused 34,refused 34,refused 40,refused 40",
     "set,refused 38,set,refused 38,set,refused 38,set,refused 38,set,refused 38,set,refused 38,set,\
      refused 38,set,refused 38,set,refused 38,set,refused 38,set,refused 38,set,refused 38,set,\
-     refused 38,set,refused 38",
-    "set,no,refused 40,set,accepted,refused 45,set,no,accepted",
+     refused 38,set,refused 38,set,refused 38,set,refused 38,set,refused 38,set,refused 38,set,\
+     refused 38,set,refused 38,set,refused 38",
+    "set,no,refused 40,set,refused 40,set,accepted,refused 45,set,no,accepted",
     "made,refused 63,set,none,recorded,recorded,recorded,recorded,pending 1 63 6d31,\
      pending 2 69 6d32,pending 1 63 6d33,none,refused 62,refused 62,refused 62,refused 62,\
      refused 62,refused 62,recorded,recorded,recorded,recorded,recorded,recorded,recorded,\
@@ -170,7 +218,46 @@ const ANSWERS: [&str; 17] = [
      refused 63,refused 40",
     "set,accepted overwritten 0 1 0,accepted receipt overwritten 2 0 1,accepted,\
      accepted overwritten 0 3 1,refused 44,made,accepted overwritten 1 0 0",
+    "made,accepted,made,accepted,made,accepted,made,refused 32,made,accepted,made,refused 32,\
+     made,refused 32,made,refused 32,made,accepted,made,accepted,made,accepted,made,refused 32,\
+     made,accepted,made,accepted,made,accepted,made,accepted,made,accepted,made,refused 32",
+    "set,accepted,pending 2 62 32,pending 1 63 34,accepted,recorded,accepted,accepted,\
+     accepted receipt overwritten 0 1 0,accepted,pending 2 62 33,accepted,pending 2 62 32,\
+     pending 2 62 33,recorded,recorded,accepted,accepted,accepted,none",
+    "set,refused 43,set,refused 43,set,refused 43,set,refused 43,set,refused 43,set,refused 43",
+    "set,accepted,refused 44,set,accepted,refused 44,set,accepted,refused 44,set,accepted,refused 44,\
+     set,accepted,refused 44,set,accepted,refused 44,set,accepted,refused 44,set,accepted,refused 46,\
+     set,accepted,refused 46,set,accepted,refused 46,set,accepted,refused 46,set,accepted,refused 46",
+    "set,refused 60,set,refused 60,set,refused 60,set,refused 60,set,refused 60,set,refused 60,\
+     set,refused 60,set,refused 60,set,refused 60,set,refused 60",
+    "set,accepted,accepted,pending 1 63 34,refused 43",
 ];
+
+/// The version after each opening of the fixed calls, in their order.
+#[test]
+fn the_fixed_openings_choose_versions() {
+    let calls = fixed::all();
+    let replies = replies(&calls);
+    let group: usize = ANSWERS[..17]
+        .iter()
+        .map(|answers| answers.split(',').count())
+        .sum();
+    let versions = replies[group..group + 36]
+        .iter()
+        .map(|reply| reply.record.version());
+    let opened: Vec<&str> = versions
+        .skip(1)
+        .step_by(2)
+        .map(|name| name.unwrap_or("-"))
+        .collect();
+    let [one, two, none] = ["1.1", "1.2", "-"];
+    let expected = [
+        [one, one, one, none, one, none],
+        [none, none, two, two, two, none],
+        [one, one, two, two, two, none],
+    ];
+    assert_eq!(opened, expected.concat());
+}
 
 #[test]
 fn the_fixed_calls_are_answered() {

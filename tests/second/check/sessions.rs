@@ -102,6 +102,7 @@ fn refusals_come_in_order() {
     assert_eq!(record.frame(16, b"", 7), Err(39));
     assert_eq!(record.frame(9, b"x", 7), Err(39));
     assert_eq!(tell(&mut record, "MESSAGE", &[]), Err(40));
+    record.state.shared = ONLY_1_2;
     for phase in [0, 1] {
         for name in ["MESSAGE", "CONNECTED", "RECEIPT", "ERROR"] {
             record.phase = phase;

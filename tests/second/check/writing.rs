@@ -1,17 +1,19 @@
 //! Tests of decoding and encoding: what is written is read again, blocks and frames are put together
 //! instead of taken apart, and each refusal is asked for in another way.
 
-use super::{product, small_commands, tails, SMALL, WIDE};
+use super::{product, small_commands, tails, RETURNS, SMALL, WIDE};
 use crate::block::{self, Entry};
 use crate::calls::{self, MAX_SLICE};
 use crate::decode::{decode, decoded as decoded_text, Content};
-use crate::encode::{encode, image, line, written, Refusal};
+use crate::encode::{encode, image, line, written, Options, Refusal};
 use crate::encode_calls::{Call, Reply};
 use crate::item::{content_length, header_line, Command, CONTENT_LENGTH};
 use crate::random::Random;
 use crate::rewrite::{complaint, rewrite, Stop};
 use crate::session::frame::Frame;
 use crate::streams;
+use crate::version::Version::{self, V1_1, V1_2};
+use crate::version::BOTH;
 use std::collections::{BTreeSet, HashSet};
 
 const P6: &[u8] = b"SEND\ndestination:/p\n\nok\0";
@@ -19,14 +21,24 @@ const P7: &[u8] = b"ACK\nid:a\\cb\n\n\0";
 const P13: &[u8] = b"MESSAGE\nrun:b\nrun:a\n\n\0";
 
 fn decoded(frame: &[u8]) -> Content {
-    decode(frame).expect("a frame")
+    decode(V1_2, frame).expect("a frame")
 }
 
-/// What is written of a content, with as much room as it takes.
+/// Options for 1.2.
+fn marked(counted: bool) -> Options {
+    let version = V1_2;
+    Options { counted, version }
+}
+
+/// What is written of a content in 1.2, with as much room as it takes.
 fn encoded(content: &Content, counted: bool) -> Result<Vec<u8>, Refusal> {
+    encoded_with(content, marked(counted))
+}
+
+fn encoded_with(content: &Content, options: Options) -> Result<Vec<u8>, Refusal> {
     let block = block::write(&content.entries);
     let command = content.command.0 as u32;
-    encode(command, &block, &content.body, MAX_SLICE, counted)
+    encode(options, command, &block, &content.body, MAX_SLICE)
 }
 
 /// The content that is read where this one was written.
@@ -43,10 +55,11 @@ fn examples_are_decoded_and_encoded() {
     assert_eq!(block.len(), 19);
     let counted = b"SEND\ndestination:/p\ncontent-length:2\n\nok\0";
     for (mark, length, expected) in [(true, 41, &counted[..]), (false, 24, P6)] {
-        let image = encode(12, &block, b"ok", length, mark).expect("P6 written again");
+        let options = marked(mark);
+        let image = encode(options, 12, &block, b"ok", length).expect("P6 written again");
         assert_eq!(image, expected);
         assert_eq!(image.len(), length);
-        let short = encode(12, &block, b"ok", length - 1, mark);
+        let short = encode(options, 12, &block, b"ok", length - 1);
         assert_eq!(short, Err(Refusal { code: 56, index: 0 }));
     }
 
@@ -94,7 +107,7 @@ fn colons_are_written_and_read() {
     assert_eq!(decoded(frames[3]).entries[0].value, b"a:b");
     let refused = |command, name: &[u8], value: &[u8]| {
         let block = block::write(&[Entry::new(b"a", b""), Entry::new(name, value)]);
-        encode(command, &block, b"", MAX_SLICE, false).err()
+        encode(marked(false), command, &block, b"", MAX_SLICE).err()
     };
     let second = Some(Refusal { code: 53, index: 1 });
     for command in [5, 6] {
@@ -117,7 +130,9 @@ fn colons_are_written_and_read() {
 fn only_whole_frames_are_decoded() {
     let behind = [P6, b"\n"].concat();
     for row in [&b""[..], b"\n", &P6[1..], &P6[..P6.len() - 1], &behind] {
-        assert_eq!(decode(row), None);
+        for version in BOTH {
+            assert_eq!(decode(version, row), None);
+        }
     }
 }
 
@@ -125,6 +140,7 @@ fn only_whole_frames_are_decoded() {
 fn examples_are_rewritten() {
     let stream = [b"\r\n", P6, b"\n", P7, b"SENT"].concat();
     let p6 = b"SEND\ndestination:/p\ncontent-length:2\n\nok\0";
+    let rewrite = |stream: &[u8], counted| rewrite(stream, marked(counted));
     for (counted, p6) in [(false, P6), (true, &p6[..])] {
         let rewritten = rewrite(&stream, counted);
         assert_eq!(rewritten.octets, [b"\n", p6, b"\n", P7].concat());
@@ -167,10 +183,12 @@ fn a_line_is_added_where_it_is_needed_or_asked_for() {
         (b"ok\0", 27, 27),
         (b"\0", 25, 25),
     ] {
-        assert_eq!(answer(0, 12, 0, body), plain);
-        assert_eq!(answer(1, 12, 0, body), counted);
-        assert_eq!(answer(u32::MAX - 1, 12, 0, body), plain);
-        assert_eq!(answer(u32::MAX, 12, 0, body), counted);
+        for version in [0, 2] {
+            assert_eq!(answer(version, 12, 0, body), plain);
+            assert_eq!(answer(version + 1, 12, 0, body), counted);
+            assert_eq!(answer(u32::MAX - 3 + version, 12, 0, body), plain);
+            assert_eq!(answer(u32::MAX - 2 + version, 12, 0, body), counted);
+        }
     }
     assert_eq!(answer(0, 12, 32, b"x"), 8 + 4 * 32);
     assert_eq!(answer(1, 12, 32, b"x"), refused(52));
@@ -187,23 +205,35 @@ fn a_line_is_added_where_it_is_needed_or_asked_for() {
 /// and the added line.
 #[test]
 fn small_frames_are_written_again() {
-    for command in small_commands() {
-        let head = [command.name(), b"\n"].concat();
-        let small = (2..=7).flat_map(|length| tails(&SMALL, command, length));
-        let wide = (2..=8).flat_map(|length| tails(&WIDE, command, length));
-        for tail in small.chain(wide) {
-            let frame = [&head[..], &tail].concat();
-            let content = decoded(&frame);
-            let image = encoded(&content, true).expect("an image");
-            assert_eq!(decoded(&image), with_length(&content, true));
-            let plain = encoded(&content, false).expect("an image");
-            assert_eq!(decoded(&plain), content);
-            if content.body.is_empty() {
-                let line_ends: Vec<u8> = frame.into_iter().filter(|&octet| octet != 13).collect();
-                assert_eq!(image, line_ends);
-                assert_eq!(plain, line_ends);
+    for version in BOTH {
+        for command in small_commands() {
+            let tails =
+                |small| (2..=7).flat_map(move |length| tails(version, small, command, length));
+            let wide = super::tails(version, &WIDE, command, 8);
+            for tail in tails(&SMALL)
+                .chain(tails(&RETURNS))
+                .chain(tails(&WIDE))
+                .chain(wide)
+            {
+                let frame = [command.name(), b"\n", &tail].concat();
+                is_written_again(version, &frame);
             }
         }
+    }
+}
+
+fn is_written_again(version: Version, frame: &[u8]) {
+    let content = decode(version, frame).expect("a frame");
+    let with = |counted| Options { counted, version };
+    let image = encoded_with(&content, with(true)).expect("an image");
+    assert_eq!(decode(version, &image), Some(with_length(&content, true)));
+    let plain = encoded_with(&content, with(false)).expect("an image");
+    assert_eq!(decode(version, &plain), Some(content.clone()));
+    if content.body.is_empty() {
+        let mut line_ends = frame.to_vec();
+        line_ends.retain(|&octet| version == V1_1 || octet != 13);
+        assert_eq!(image, line_ends);
+        assert_eq!(plain, line_ends);
     }
 }
 
@@ -244,7 +274,7 @@ fn refusals_come_in_order() {
     entries.push(wrong);
     let trailing = |entries: &[Entry]| [&block::write(entries)[..], b"\0"].concat();
     let answer =
-        |command, block: &[u8], body: &[u8], room| encode(command, block, body, room, true);
+        |command, block: &[u8], body: &[u8], room| encode(marked(true), command, block, body, room);
     let code = |code, index| Err(Refusal { code, index });
     assert_eq!(answer(16, &trailing(&entries), b"b", 0), code(50, 0));
     assert_eq!(answer(2, &trailing(&entries), b"b", 0), code(51, 0));
@@ -282,18 +312,24 @@ fn holds(call: &Call, code: usize) -> bool {
     let mut lengths = content.entries.iter();
     let length = lengths.find(|entry| entry.name == CONTENT_LENGTH);
     match code {
-        52 => with_length(&content, call.counted()).entries.len() > 32,
-        53 => first_unreadable(&content).is_some(),
+        52 => {
+            with_length(&content, call.asked_for().counted)
+                .entries
+                .len()
+                > 32
+        }
+        53 => first_unreadable(call.asked_for().version, &content).is_some(),
         54 => call.body.len() > 32_768 || (!command.has_body() && !call.body.is_empty()),
         55 => length
             .is_some_and(|entry| content_length(command, &entry.value) != Some(call.body.len())),
-        _ => image(&content, call.counted()).len() > call.room,
+        _ => image(&content, call.asked_for()).len() > call.room,
     }
 }
 
 /// What encoding answers to a call, with that much room.
 fn answer(call: &Call, room: usize) -> Result<Vec<u8>, Refusal> {
-    encode(call.command, &call.block, &call.body, room, call.counted())
+    let options = call.asked_for();
+    encode(options, call.command, &call.block, &call.body, room)
 }
 
 fn content(call: &Call) -> Content {
@@ -305,12 +341,13 @@ fn content(call: &Call) -> Content {
 }
 
 /// The index of the first entry whose raw line is no header line, or that of another entry.
-fn first_unreadable(content: &Content) -> Option<usize> {
+fn first_unreadable(version: Version, content: &Content) -> Option<usize> {
     let command = content.command;
+    let text = |raw: &[u8]| decoded_text(version, command, raw);
     let is_read = |entry: &Entry| {
-        let line = line(command, entry);
-        let read = header_line(command, &line);
-        read.map(|(name, value)| (decoded_text(command, name), decoded_text(command, value)))
+        let line = line(version, command, entry);
+        let read = header_line(version, command, &line);
+        read.map(|(name, value)| (text(name), text(value)))
             == Some((entry.name.clone(), entry.value.clone()))
     };
     content.entries.iter().position(|entry| !is_read(entry))
@@ -321,20 +358,21 @@ fn first_unreadable(content: &Content) -> Option<usize> {
 fn calls_are_refused_for_the_first_reason() {
     let mut random = Random::new(3);
     let mut answers = BTreeSet::new();
-    for _ in 0..5_000 {
+    for _ in 0..8_000 {
         let call = calls::call(&mut random);
         let answer = answer(&call, call.room);
         let refusal = answer.err();
         let code = refusal.map(|refusal| refusal.code);
         assert_eq!(code, (50..=56).find(|&code| holds(&call, code)));
+        let version = call.asked_for().version;
         if let Some(Refusal { code: 53, index }) = refusal {
-            assert_eq!(Some(index), first_unreadable(&content(&call)));
+            assert_eq!(Some(index), first_unreadable(version, &content(&call)));
         }
-        answers.insert(code);
+        answers.insert((version, code));
     }
-    let all: Vec<Option<usize>> = answers.into_iter().collect();
-    assert_eq!(all[0], None);
-    assert_eq!(all[1..], (50..=56).map(Some).collect::<Vec<_>>());
+    let codes = || (50..=56).map(Some).chain([None]);
+    let all = BOTH.map(|version| codes().map(|code| (version, code)).collect::<Vec<_>>());
+    assert_eq!(answers, all.concat().into_iter().collect());
 }
 
 /// What is written is read again with nothing but the added line; what is refused with 52 to 55 is in
@@ -350,8 +388,9 @@ fn images_are_read_again() {
             continue;
         }
         let content = content(&call);
-        let image = image(&content, call.counted());
-        let read = decode(&image) == Some(with_length(&content, call.counted()));
+        let Options { counted, version } = call.asked_for();
+        let image = image(&content, call.asked_for());
+        let read = decode(version, &image) == Some(with_length(&content, counted));
         assert_eq!(read, refusal == 0);
         if read {
             assert_eq!(answer, Ok(image));
@@ -359,22 +398,28 @@ fn images_are_read_again() {
     }
 }
 
-/// "A frame that was read and is written again is refused only with 52", and that only with the mark; what
-/// was written is written again as it is.
+/// "A frame that was read and is written again is refused only with 52", and that only with the mark, where both
+/// are done in one version; what was written is written again as it is.
 #[test]
 fn streams_are_rewritten_once() {
     let mut random = Random::new(5);
-    for _ in 0..3_000 {
-        let stream = streams::stream_to_rewrite(&mut random);
+    for round in 0..3_000 {
+        let stream = streams::stream_to_rewrite(&mut random, BOTH[round % 2]);
         for counted in [false, true] {
-            let rewritten = rewrite(&stream, counted);
-            if let Stop::Unwritten { code } = rewritten.stop {
-                assert_eq!((code, counted), (52, true));
+            for version in BOTH {
+                is_rewritten_once(&stream, Options { counted, version });
             }
-            let again = rewrite(&rewritten.octets, counted);
-            assert_eq!(again.stop, Stop::End);
-            assert_eq!(again.octets, rewritten.octets);
-            assert_eq!(again.items.len(), rewritten.items.len());
         }
     }
+}
+
+fn is_rewritten_once(stream: &[u8], options: Options) {
+    let rewritten = rewrite(stream, options);
+    if let Stop::Unwritten { code } = rewritten.stop {
+        assert_eq!((code, options.counted), (52, true));
+    }
+    let again = rewrite(&rewritten.octets, options);
+    assert_eq!(again.stop, Stop::End);
+    assert_eq!(again.octets, rewritten.octets);
+    assert_eq!(again.items.len(), rewritten.items.len());
 }

@@ -7,18 +7,25 @@ use crate::random::Random;
 use crate::session::delivery::{Delivery, Mode};
 use crate::session::frame::{Frame, Kind};
 use crate::session::{Session, MAX_ID};
+use crate::version::Version;
 
 /// A subscription's id and a label.
 pub type Texts = (Vec<u8>, Vec<u8>);
 
-/// The label of some pending delivery: often the oldest or the newest, or one of a subscription that has
+/// The texts of some pending delivery: often the oldest or the newest, or one of a subscription that has
 /// others.
-pub fn pending_label(random: &mut Random, session: &Session) -> Option<Vec<u8>> {
+pub fn pending(random: &mut Random, session: &Session) -> Option<Texts> {
     let last = session.deliveries.len().checked_sub(1)?;
     let any = random.between(0, last);
     let low = any.min(3);
     let index = random.pick(&[any, any, low, low, 0, last]);
-    Some(session.deliveries[index].label.clone())
+    let delivery = session.deliveries[index].clone();
+    Some((delivery.subscription, delivery.label))
+}
+
+/// Its label.
+fn pending_label(random: &mut Random, session: &Session) -> Option<Vec<u8>> {
+    pending(random, session).map(|(_, label)| label)
 }
 
 /// A label that none pending has: any, or one that comes again and again, or almost a pending one, or the
@@ -48,7 +55,7 @@ pub fn label_not_pending(random: &mut Random, session: &Session) -> Vec<u8> {
 }
 
 /// A live subscription's id, seldom one in auto mode.
-fn subscription(random: &mut Random, session: &Session) -> Option<Vec<u8>> {
+pub fn subscription(random: &mut Random, session: &Session) -> Option<Vec<u8>> {
     let kept = |mode: Mode| mode != Mode::Auto;
     let ids: Vec<&Vec<u8>> = session
         .modes
@@ -93,19 +100,26 @@ pub fn texts(random: &mut Random, session: &Session) -> Texts {
     right.unwrap_or_else(|| wrong_texts(random, session))
 }
 
-/// The MESSAGE frame of a delivery; at times without one of its headers, which is then an empty text.
+/// The MESSAGE frame of a delivery; at times without one of its headers, which is then an empty text. The header
+/// that is the other version's label is there too, with another value or the same.
 pub fn message(random: &mut Random, session: &Session) -> Frame {
     let (id, label) = texts(random, session);
+    let (name, other): (&[u8], &[u8]) = match session.version() {
+        Version::V1_1 => (b"message-id", b"ack"),
+        Version::V1_2 => (b"ack", b"message-id"),
+    };
+    let common = common_label(random);
+    let value = random.pick(&[&b"m"[..], &common, &label]).to_vec();
     let mut entries = vec![
         Entry::new(b"subscription", &id),
-        Entry::new(b"ack", &label),
-        Entry::new(b"message-id", b"m"),
+        Entry::new(name, &label),
+        Entry::new(other, &value),
     ];
     if random.once_in(24) {
         entries.remove(random.below(2));
     }
     let command = command(b"MESSAGE");
-    dressed(random, Frame { command, entries })
+    dressed(random, session, Frame { command, entries })
 }
 
 /// So many pending deliveries for a session, of its subscriptions that are not in auto mode.

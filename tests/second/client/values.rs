@@ -1,6 +1,7 @@
 //! Random values of headers.
 
 use crate::random::Random;
+use crate::session::opening::{accept_version, shared, Flags, NO_VERSION};
 use crate::session::MAX_ID;
 use crate::streams::characters::any_character;
 
@@ -128,8 +129,12 @@ pub fn any_value(random: &mut Random, name: &[u8]) -> Vec<u8> {
         b"heart-beat" => any_heart_beat(random),
         b"ack" if random.once_in(2) => mode(random).to_vec(),
         b"ack" => unknown_mode(random),
-        b"id" | b"transaction" | b"receipt" if random.once_in(3) => wrong_id(random),
-        b"id" | b"transaction" => id(random),
+        b"id" | b"transaction" | b"receipt" | b"subscription" | b"message-id"
+            if random.once_in(3) =>
+        {
+            wrong_id(random)
+        }
+        b"id" | b"transaction" | b"subscription" | b"message-id" => id(random),
         _ => text(random),
     }
 }
@@ -138,51 +143,82 @@ fn listed(random: &mut Random, values: &[&str]) -> Vec<u8> {
     random.pick(values).as_bytes().to_vec()
 }
 
-/// Versions with 1.2 among them.
-pub fn versions(random: &mut Random) -> Vec<u8> {
+/// Versions with one of those offered among them; where none is, any.
+pub fn versions(random: &mut Random, offered: Flags) -> Vec<u8> {
+    loop {
+        let value = well_formed_versions(random);
+        if offered == NO_VERSION || shares(&value, offered) {
+            return value;
+        }
+    }
+}
+
+/// Versions that are well formed, without one of those offered among them.
+pub fn other_versions(random: &mut Random, offered: Flags) -> Vec<u8> {
+    loop {
+        let value = well_formed_versions(random);
+        if !shares(&value, offered) {
+            return value;
+        }
+    }
+}
+
+/// Whether the value names a version that is offered.
+fn shares(value: &[u8], offered: Flags) -> bool {
+    let named = accept_version(value).unwrap_or(NO_VERSION);
+    shared(offered, named) != NO_VERSION
+}
+
+/// Versions that are well formed: with 1.1, with 1.2, with both and with none.
+fn well_formed_versions(random: &mut Random) -> Vec<u8> {
     let values = [
         "1.2",
+        "1.1",
+        "1.0,1.1",
+        "1.1,1.2",
         "1.0,1.1,1.2",
         "1.2,1.1,1.0",
         "1.2,1.2",
+        "1.1,1.1,2.0",
         "01.2,1.2",
         "1.2,1.20,2.0",
         "1.1,1.2,1.1",
         "123456789012345678901234567890.0,1.2",
-    ];
-    match random.below(4) {
-        0 => many_versions(random, "1.2"),
-        _ => listed(random, &values),
-    }
-}
-
-/// Versions that are well formed, without 1.2 among them.
-pub fn other_versions(random: &mut Random) -> Vec<u8> {
-    let values = [
-        "1.1",
+        "1.1,123456789012345678901234567890.0",
         "1.0",
-        "1.0,1.1",
+        "1.0,2.0",
         "01.2",
+        "01.1",
+        "1.01",
         "1.20",
         "1.02",
         "11.2",
+        "11.1",
         "1.22",
+        "1.11",
         "2.1",
         "0.0",
         "1.3,1.1,001.2",
+        "1.3,001.1,001.2",
         "4294967297.2",
+        "4294967297.1",
     ];
-    match random.below(6) {
-        0 => many_versions(random, "1.02"),
+    let item = random.pick(&["1.2", "1.1", "1.02", "1.10"]);
+    match random.below(5) {
+        0 => many_versions(random, item),
         _ => listed(random, &values),
     }
 }
 
-/// Many items that are not 1.2, and this one among them; a line can hold them.
+/// Many items, few or none of which are 1.1, none 1.2, and this one among them; a line can hold them.
 fn many_versions(random: &mut Random, item: &str) -> Vec<u8> {
+    let others = random.pick(&[
+        ["1.0", "1.1", "2.0", "01.2"],
+        ["1.0", "01.1", "2.0", "01.2"],
+    ]);
     let mut items: Vec<&str> = Vec::new();
     for _ in 0..random.between(1, 95) {
-        items.push(random.pick(&["1.0", "1.1", "2.0", "01.2"]));
+        items.push(random.pick(&others));
     }
     let place = random.between(0, items.len());
     items.insert(place, item);
@@ -222,10 +258,10 @@ pub fn malformed_versions(random: &mut Random) -> Vec<u8> {
     listed(random, &values)
 }
 
-fn any_versions(random: &mut Random) -> Vec<u8> {
+/// Versions of any kind.
+pub fn any_versions(random: &mut Random) -> Vec<u8> {
     match random.below(4) {
-        0 => versions(random),
-        1 => other_versions(random),
+        0 | 1 => well_formed_versions(random),
         2 => malformed_versions(random),
         _ => {
             let length = random.between(1, 9);

@@ -3,8 +3,12 @@
 
 use super::StreamParser;
 use crate::characters;
-use crate::item::{decimal, Command, BACKSLASH, COLON, COMMANDS, CONTENT_LENGTH, CR, MAX_BODY};
+use crate::item::{
+    command_line, decimal, header_block, Command, BACKSLASH, COLON, COMMANDS, CONTENT_LENGTH, CR,
+    MAX_BODY,
+};
 use crate::table::{in_escape, part_after, Part, NUMBERS};
+use crate::version::Version;
 use std::convert::TryInto;
 
 pub const LENGTH: usize = 16;
@@ -14,8 +18,8 @@ pub type Record = [u8; LENGTH];
 /// The most octets that an unfinished item has.
 pub const MOST_HELD: usize = 49_227;
 
-/// Where the next octet stands.
-const START: u8 = 0;
+/// Where the next octet is. In 1.1 it is never after a 13 of a line end.
+pub const START: u8 = 0;
 const AFTER_13_OF_BEAT: u8 = 1;
 const IN_COMMAND: u8 = 2;
 const AFTER_13_OF_COMMAND: u8 = 3;
@@ -35,13 +39,28 @@ pub const REFUSED: u8 = 16;
 const ANOTHER_NAME: usize = 15;
 
 /// The octets of a record: the phase, the command, the number of a refusal, the count held (two octets),
-/// the unfinished character, and those that are 0.
+/// the version, the unfinished character, and those that are 0.
 pub const PHASE: usize = 0;
 pub const COMMAND: usize = 1;
 pub const CODE: usize = 5;
 pub const HELD: usize = 10;
+pub const VERSION: usize = 12;
 pub const CHARACTER: usize = 14;
-pub const ZEROS: [usize; 3] = [12, 13, 15];
+pub const ZEROS: [usize; 2] = [13, 15];
+
+/// The versions in the order of their numbers, from 0.
+const VERSIONS: [Version; 2] = [Version::V1_2, Version::V1_1];
+
+/// The octet that says a version.
+pub fn number_of(version: Version) -> u8 {
+    let number = VERSIONS.iter().position(|known| *known == version);
+    number.expect("a version") as u8
+}
+
+/// The version that a record says, if there is such a one.
+pub fn version_of(record: &Record) -> Option<Version> {
+    VERSIONS.get(usize::from(record[VERSION])).copied()
+}
 
 /// What a record says. The size is that of content-length, the length that of the line or body, the
 /// character the unfinished one.
@@ -56,6 +75,7 @@ struct Fields {
     size: usize,
     length: usize,
     held: usize,
+    version: Version,
     character: u8,
 }
 
@@ -67,7 +87,7 @@ impl Fields {
         let [command, lines, matched] = singles.map(|number| number as u8);
         let front = [self.phase, command, lines, matched];
         let mark = [u8::from(self.declared), self.code as u8];
-        let last = [0, 0, self.character, 0];
+        let last = [number_of(self.version), 0, self.character, 0];
         let all = [&front[..], &mark, &size, &length, &held, &last].concat();
         all.try_into().expect("a record's octets")
     }
@@ -82,20 +102,21 @@ pub fn of(parser: &StreamParser) -> Record {
             code,
             ..Fields::default()
         },
-        None => unfinished(held),
+        None => unfinished(parser.version, held),
     };
     fields.held = held.len();
+    fields.version = parser.version;
     fields.octets()
 }
 
-fn unfinished(held: &[u8]) -> Fields {
-    match part_after(held) {
+fn unfinished(version: Version, held: &[u8]) -> Fields {
+    match part_after(version, held) {
         Part::Command => in_command(held),
         Part::Line {
             command,
             earlier,
             line,
-        } => in_line(command, &earlier, line),
+        } => in_line(version, command, &earlier, line),
         Part::Body {
             command,
             declared,
@@ -107,7 +128,7 @@ fn unfinished(held: &[u8]) -> Fields {
                 IN_BODY
             },
             command: command.0,
-            lines: lines_of(command, held),
+            lines: lines_of(version, command, held),
             declared: declared.is_some(),
             size: declared.unwrap_or(0),
             length: read,
@@ -136,10 +157,10 @@ fn in_command(held: &[u8]) -> Fields {
 }
 
 /// The header lines of a frame whose empty line is read.
-fn lines_of(command: Command, held: &[u8]) -> usize {
-    let (_, start) = crate::item::command_line(held).expect("a command's line");
-    let block = crate::item::header_block(command, &held[start..]).expect("a header block");
-    block.lines.len()
+fn lines_of(version: Version, command: Command, held: &[u8]) -> usize {
+    let (_, start) = command_line(version, held).expect("a command's line");
+    let block = header_block(version, command, &held[start..]);
+    block.expect("a header block").lines.len()
 }
 
 /// What the first content-length among these lines says.
@@ -152,8 +173,9 @@ fn value_of_length(line: &[u8]) -> Option<&[u8]> {
     line.strip_prefix(CONTENT_LENGTH)?.strip_prefix(&[COLON])
 }
 
-/// In a header line, at its start, or in its line end. A 13 ends the line: it counts as read.
-fn in_line(command: Command, earlier: &[&[u8]], line: &[u8]) -> Fields {
+/// In a header line, at its start, or in its line end. In 1.2 a 13 ends the line: it counts as read.
+fn in_line(version: Version, command: Command, earlier: &[&[u8]], line: &[u8]) -> Fields {
+    let ended = version.ends_line(CR);
     let mut read = earlier.to_vec();
     let mut fields = Fields {
         command: command.0,
@@ -161,8 +183,8 @@ fn in_line(command: Command, earlier: &[&[u8]], line: &[u8]) -> Fields {
     };
     match line {
         [] => fields.phase = AT_LINE_START,
-        [CR] => fields.phase = AFTER_13_OF_EMPTY_LINE,
-        [text @ .., CR] => {
+        [CR] if ended => fields.phase = AFTER_13_OF_EMPTY_LINE,
+        [text @ .., CR] if ended => {
             fields.phase = AFTER_13_OF_LINE;
             read.push(text);
         }
@@ -221,15 +243,23 @@ pub fn count_held(record: &Record) -> usize {
 }
 
 /// What is 71 by document 02: "at least a count held over 49,227 and a refusal number the judge lacks"; an
-/// octet that is kept for later requests and is not 0; and an unfinished character where there can be none,
-/// or one that reading does not leave.
+/// octet that is kept for later requests and is not 0; a version that there is not; and an unfinished character
+/// where there can be none, or one that reading does not leave.
 pub fn is_refused(record: &Record) -> bool {
     let code = usize::from(record[CODE]);
     let is_number = (1..=NUMBERS).contains(&code);
     count_held(record) > MOST_HELD
         || (record[PHASE] == REFUSED && !is_number)
         || ZEROS.iter().any(|&index| record[index] != 0)
+        || version_of(record).is_none()
         || !is_left_character(record)
+}
+
+/// The version of a fresh parser's record, if it is one: all but the version is 0.
+pub fn fresh(record: &Record) -> Option<Version> {
+    let version = version_of(record)?;
+    let record_of_fresh = of(&StreamParser::told(version));
+    (record_of_fresh == *record).then_some(version)
 }
 
 /// Whether calls leave such an octet for the unfinished character: outside of one 0; inside one 92 where the

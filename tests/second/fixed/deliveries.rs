@@ -9,7 +9,7 @@ use crate::session::{MAX_ID, SUBSCRIPTIONS};
 use crate::session_calls::records::put;
 use crate::session_calls::{Call, Way};
 
-fn deliver(subscription: &str, label: &str) -> Call {
+pub fn deliver(subscription: &str, label: &str) -> Call {
     Call::Deliver {
         way: Way::ByValue,
         subscription: subscription.as_bytes().to_vec(),
@@ -17,7 +17,7 @@ fn deliver(subscription: &str, label: &str) -> Call {
     }
 }
 
-fn pending(index: u32) -> Call {
+pub fn pending(index: u32) -> Call {
     Call::Pending { index }
 }
 

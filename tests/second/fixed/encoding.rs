@@ -1,12 +1,14 @@
 //! The fixed calls of the encoder: document 01's P6, one for each refusal and its edge, C-16's line without
-//! the mark and with it, and C-17's characters.
+//! the mark and with it, C-17's characters, and C-18's 13.
 
 use crate::block::{self, Entry};
 use crate::encode_calls::{Call, COUNTED};
 use crate::item::CONTENT_LENGTH;
+use crate::version::OPTION;
 
 const ACK: u32 = 2;
 const CONNECT: u32 = 5;
+const CONNECTED: u32 = 6;
 const SEND: u32 = 12;
 const STOMP: u32 = 13;
 
@@ -26,6 +28,9 @@ fn all() -> Vec<Call> {
         other_options(),
         characters(),
         broken_characters(),
+        carriage_returns(),
+        longest_in_both(),
+        marks_in_1_1(),
     ]
     .concat()
 }
@@ -142,7 +147,7 @@ fn lines() -> Vec<Call> {
 
 /// Bits that are not looked at, without the mark and with it.
 fn other_options() -> Vec<Call> {
-    let options = [2, 3, u32::MAX - 1, u32::MAX];
+    let options = [4, 5, u32::MAX - 3, u32::MAX - 2];
     options
         .map(|options| Call {
             options,
@@ -184,4 +189,81 @@ fn broken_characters() -> Vec<Call> {
         plain(SEND, &block::write(&many), b"", 44),
         plain(ACK, &with(b"a", b"\x80"), b"ok", 44),
     ]
+}
+
+/// The call in 1.2 and in 1.1.
+fn in_both(call: Call) -> [Call; 2] {
+    let options = call.options | OPTION;
+    let in_1_1 = Call {
+        options,
+        ..call.clone()
+    };
+    [call, in_1_1]
+}
+
+/// 13 in a name, in a value and alone, beside what is escaped in both versions; where there are no escapes it can
+/// be written in 1.1 alone, and 10 in neither.
+fn carriage_returns() -> Vec<Call> {
+    let with = |name: &[u8], value: &[u8]| block::write(&[destination(), Entry::new(name, value)]);
+    let blocks = [
+        with(b"\r", b""),
+        with(b"a\rb", b"\r\n:\\\r"),
+        with(b"\\r", b"\\\r"),
+        with(b"n", b"\xc3\r"),
+        with(b"", b"\r"),
+    ];
+    let plainer = [
+        with(b"\ra\r", b":\r\\"),
+        with(b"a", b"\n\r"),
+        with(b"a\n", b"\r"),
+        with(b"a\r:", b""),
+    ];
+    let escaped = blocks.iter().flat_map(|block| {
+        let commands = [SEND, STOMP, ACK];
+        commands.map(|command| plain(command, block, b"", 60))
+    });
+    let raw = plainer.iter().flat_map(|block| {
+        let commands = [CONNECT, CONNECTED];
+        commands.map(|command| plain(command, block, b"", 60))
+    });
+    escaped.chain(raw).flat_map(in_both).collect()
+}
+
+/// Lines that have 512 octets in one of the versions; a 13 counts once in 1.1. The target has room for one, and
+/// for one octet less.
+fn longest_in_both() -> Vec<Call> {
+    let with = |returns: usize, others: usize| {
+        let value = [vec![b'\r'; returns], vec![b'v'; others]].concat();
+        block::write(&[Entry::new(b"n", &value)])
+    };
+    let calls = [
+        plain(ACK, &with(255, 0), b"", 520),
+        plain(ACK, &with(255, 1), b"", 520),
+        plain(ACK, &with(510, 0), b"", 520),
+        plain(ACK, &with(511, 0), b"", 520),
+        plain(ACK, &with(509, 1), b"", 518),
+        plain(ACK, &with(3, 504), b"", 518),
+        plain(ACK, &with(3, 504), b"", 517),
+        plain(ACK, &with(3, 504), b"", 515),
+        plain(ACK, &with(3, 504), b"", 514),
+    ];
+    calls.iter().cloned().flat_map(in_both).collect()
+}
+
+/// Both marks: a body without octet 0 and with it; bits that are not looked at.
+fn marks_in_1_1() -> Vec<Call> {
+    let block = block::write(&[Entry::new(b"\r", b"\r")]);
+    let mut calls = Vec::new();
+    for body in [&b""[..], b"o\rk", b"\0"] {
+        for call in both(SEND, &block, body, 44) {
+            calls.extend(in_both(call));
+        }
+    }
+    calls.extend(
+        [OPTION + 4, OPTION + COUNTED + (1 << 31), u32::MAX].map(|options| Call {
+            options,
+            ..plain(SEND, &block, b"ok", 44)
+        }),
+    );
+    calls
 }

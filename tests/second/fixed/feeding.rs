@@ -1,12 +1,14 @@
 //! The fixed calls of the stream parser: items in pieces, refusals and what comes after them, short
-//! buffers, and records that no call leaves.
+//! buffers, records that no call leaves, and versions that are told.
 
 use crate::feed::record::{
     Record, CHARACTER, CODE, COMMAND, HELD, IN_CHARACTER_OF_NAME, IN_CHARACTER_OF_VALUE, LENGTH,
-    PHASE, REFUSED, ZEROS,
+    PHASE, REFUSED, VERSION, ZEROS,
 };
 use crate::feed::LEAST_BUFFER;
 use crate::feed_calls::{Call, BUFFER};
+use crate::item::{MAX_LINE, MAX_LINES};
+use crate::version::Version::{self, V1_1, V1_2};
 
 /// The octets of the calls.
 pub fn calls() -> Vec<u8> {
@@ -26,6 +28,13 @@ pub fn all() -> Vec<Call> {
         characters(),
         broken_characters(),
         other_characters(),
+        one_by_one_in_1_1(),
+        refusals_of_1_1(),
+        limits_of_1_1(),
+        told_between_items(),
+        told_inside_items(),
+        told_after_a_refusal(),
+        told_with_other_records(),
     ]
     .concat()
 }
@@ -159,7 +168,7 @@ fn other_records() -> Vec<Call> {
         record
     };
     let numbers = [0, 12, 70, 71, 255].map(refused);
-    let marks = [ZEROS[0], ZEROS[1], CHARACTER, ZEROS[2]].map(marked);
+    let marks = [ZEROS[0], CHARACTER, ZEROS[1]].map(marked);
     let counts = [counted(49_228), counted(65_535)];
     let mut calls = vec![fresh(LEAST_BUFFER), feed(b"ACK\nid:a\n\n\0")];
     for record in [&counts[..], &numbers, &marks].concat() {
@@ -243,6 +252,168 @@ fn other_characters() -> Vec<Call> {
     let mut calls = vec![fresh(LEAST_BUFFER)];
     for record in records {
         calls.extend([Call::Record(record), feed(b"\xa9")]);
+    }
+    calls
+}
+
+fn tell(version: Version) -> Call {
+    Call::Tell {
+        options: version.option(),
+    }
+}
+
+/// A fresh parser that is told 1.1, and the pieces as they stand.
+fn fed_in_1_1(pieces: &[&[u8]]) -> Vec<Call> {
+    let mut calls = vec![fresh(LEAST_BUFFER), tell(V1_1)];
+    calls.extend(pieces.iter().map(|piece| feed(piece)));
+    calls
+}
+
+/// Frames of 1.1 one octet at a time: with 13 in names and values, alone, at their ends and before a colon, with
+/// the escapes that are left, and in a body; without escapes; and heart-beats.
+fn one_by_one_in_1_1() -> Vec<Call> {
+    let frames: [&[u8]; 4] = [
+        b"SEND\n\r:\r\n\r\ra\r:b\\n\\c\\\\\r\ncontent-length:02\n\n\r\n\0",
+        b"CONNECTED\n\ra\\r:\\\r:\r\n\n\0",
+        b"\n\nACK\nid\r:\n\n\0",
+        b"MESSAGE\n\xc3\xa9\r:\r\xe2\x82\xac\n\n\r\0",
+    ];
+    let pieces: Vec<&[u8]> = frames.iter().flat_map(|frame| frame.chunks(1)).collect();
+    fed_in_1_1(&pieces)
+}
+
+/// What 13 is where it is no header octet, and `\\r`: the octet refused in a piece of its own and not.
+fn refusals_of_1_1() -> Vec<Call> {
+    let rows: [&[&[u8]]; 15] = [
+        &[b"\r\n"],
+        &[b"\n", b"\r", b"\n"],
+        &[b"SEND\r\n"],
+        &[b"SEN", b"\r"],
+        &[b"SEND\n\r\n"],
+        &[b"SEND\nid:a\n\r", b"\n\0"],
+        &[b"SEND\nid\r", b"\n"],
+        &[b"SEND\nid:a\\r"],
+        &[b"SEND\nid\\", b"r"],
+        &[b"SEND\nid:\\", b"\r"],
+        &[b"SEND\ncontent-length:1\r\n"],
+        &[b"SEND\ncontent-length:", b"\r"],
+        &[b"ACK\n\n", b"\r"],
+        &[b"ACK\nid:\xe2\x82", b"\r"],
+        &[b"STOMP\n:\r"],
+    ];
+    rows.iter().flat_map(|row| fed_in_1_1(row)).collect()
+}
+
+/// A line of 512 octets that ends in 13, and one more; a name of 511 that does; 13 as 33rd line.
+fn limits_of_1_1() -> Vec<Call> {
+    let value = [b"SEND\na:", &[b'v'; MAX_LINE - 3][..], b"\r"].concat();
+    let name = [b"SEND\n", &[b'n'; MAX_LINE - 2][..], b"\r"].concat();
+    let lines = [b"SEND\n", &b"a:\r\n".repeat(MAX_LINES)[..]].concat();
+    [
+        fed_in_1_1(&[&value, b"\n\n\0"]),
+        fed_in_1_1(&[&value, b"\r"]),
+        fed_in_1_1(&[&name, b":\n\n\0"]),
+        fed_in_1_1(&[&name, b"\r"]),
+        fed_in_1_1(&[&lines, b"\n\0"]),
+        fed_in_1_1(&[&lines, b"\r"]),
+    ]
+    .concat()
+}
+
+/// Versions told before the first item, between items and after the last, the same one too, with bits that are
+/// not looked at, and with a buffer that is too short; each item is read in the version told.
+fn told_between_items() -> Vec<Call> {
+    let options = |options: u32| Call::Tell { options };
+    let room = |room: usize| Call::Room { room };
+    vec![
+        fresh(LEAST_BUFFER),
+        tell(V1_2),
+        feed(b"ACK\r\nid:\\r\r\n\r\n\0\r\n"),
+        tell(V1_1),
+        tell(V1_1),
+        feed(b"\n"),
+        feed(b"ACK\nid:\r\n\n\0"),
+        options(0xffff_fffd),
+        feed(b"\r\n"),
+        options(0xffff_ffff),
+        feed(b""),
+        feed(b"ACK\n\r:\n\n\0"),
+        options(1),
+        feed(b"\r\n"),
+        options(3),
+        room(0),
+        tell(V1_2),
+        feed(b"\r\n"),
+        room(LEAST_BUFFER),
+        feed(b"\r"),
+        feed(b"\n"),
+        tell(V1_1),
+        fresh(LEAST_BUFFER),
+        feed(b"\r\n"),
+    ]
+}
+
+/// Versions told inside an item, at each kind of place, which change nothing.
+fn told_inside_items() -> Vec<Call> {
+    let mut calls = Vec::new();
+    for version in [V1_2, V1_1] {
+        let places: [&[u8]; 8] = [
+            b"S",
+            b"SEND",
+            b"SEND\n",
+            b"SEND\nid",
+            b"SEND\nid:a\\",
+            b"SEND\nid:\xe2",
+            b"SEND\ncontent-length:1",
+            b"SEND\n\nx",
+        ];
+        for place in places {
+            calls.extend([fresh(LEAST_BUFFER), tell(version), feed(place)]);
+            calls.extend([tell(version.other()), tell(version), feed(b"")]);
+        }
+    }
+    calls.extend([fresh(LEAST_BUFFER), feed(b"\r"), tell(V1_1), feed(b"\n")]);
+    calls
+}
+
+/// Versions told after a refusal, which is repeated with its version; then a fresh record of each.
+fn told_after_a_refusal() -> Vec<Call> {
+    let mut calls = Vec::new();
+    for version in [V1_2, V1_1] {
+        let mut record: Record = [0; LENGTH];
+        record[VERSION] = version.option() as u8 / 2;
+        calls.extend([fresh(LEAST_BUFFER), tell(version), feed(b"SENT")]);
+        calls.extend([tell(version.other()), feed(b"SEND"), tell(version)]);
+        calls.extend([Call::Record(record), feed(b"\r\n"), tell(version.other())]);
+        calls.extend([Call::Record(record), tell(version.other()), feed(b"\n")]);
+    }
+    calls
+}
+
+/// Versions told with records that are invalid, or that of an item or a refusal: a version that there is not, an
+/// octet kept for later, a number that there is not, a count that is too large.
+fn told_with_other_records() -> Vec<Call> {
+    let with = |octets: &[(usize, u8)]| {
+        let mut record: Record = [0; LENGTH];
+        octets
+            .iter()
+            .for_each(|(place, octet)| record[*place] = *octet);
+        Call::Record(record)
+    };
+    let records = [
+        with(&[(VERSION, 2)]),
+        with(&[(VERSION, 255)]),
+        with(&[(VERSION, 1), (ZEROS[0], 1)]),
+        with(&[(VERSION, 1), (ZEROS[1], 1)]),
+        with(&[(VERSION, 1), (CHARACTER, 92)]),
+        with(&[(VERSION, 1), (HELD, 255)]),
+        with(&[(VERSION, 1), (PHASE, REFUSED), (CODE, 12)]),
+        with(&[(VERSION, 2), (PHASE, REFUSED), (CODE, 1), (HELD + 1, 3)]),
+        with(&[(VERSION, 2), (PHASE, 2), (COMMAND, 12), (HELD + 1, 1)]),
+    ];
+    let mut calls = vec![fresh(LEAST_BUFFER)];
+    for record in records {
+        calls.extend([record, tell(V1_1), feed(b"\n"), tell(V1_2)]);
     }
     calls
 }

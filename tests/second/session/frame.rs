@@ -4,6 +4,7 @@ use super::delivery::Mode;
 use super::opening::{accept_version, heart_beat, Flags};
 use crate::block::Entry;
 use crate::item::Command;
+use crate::version::Version;
 
 /// A frame as a session gets it: its entries are decoded.
 #[derive(Clone, PartialEq, Eq, Debug)]
@@ -29,9 +30,12 @@ impl Frame {
         after.iter().filter(|entry| named(entry)).count()
     }
 
-    /// The id of a subscription or transaction that the frame names.
-    pub fn id(&self) -> Option<&[u8]> {
-        self.first(naming(self.command)?.header)
+    /// The ids of subscriptions and transactions that the frame names, each with how.
+    pub fn named(&self, version: Version) -> Vec<(Naming, &[u8])> {
+        let namings = namings(version, self.command).into_iter();
+        namings
+            .filter_map(|naming| Some((naming, self.first(naming.header)?)))
+            .collect()
     }
 
     pub fn opens(&self) -> bool {
@@ -48,10 +52,17 @@ impl Frame {
         }
     }
 
-    /// The label that ACK or NACK names.
-    pub fn settles(&self) -> Option<&[u8]> {
-        let settles = [&b"ACK"[..], b"NACK"].contains(&self.command.name());
-        self.first(b"id").filter(|_| settles)
+    /// The delivery that ACK or NACK names: its label, and in 1.1 its subscription. "ACK and NACK name a message
+    /// by `subscription` and `message-id`", and "a 1.1 delivery's label is its message-id".
+    pub fn settled(&self, version: Version) -> Option<Settled<'_>> {
+        if !settles(self.command) {
+            return None;
+        }
+        let subscription = self.first(b"subscription");
+        Some(Settled {
+            label: self.first(label_header(version))?,
+            subscription: subscription.filter(|_| version == Version::V1_1),
+        })
     }
 
     /// What the accept-version says, where it is there and well formed.
@@ -65,6 +76,26 @@ impl Frame {
     }
 }
 
+/// A delivery as ACK or NACK names it. In 1.2 no subscription is named.
+#[derive(Clone, Copy, PartialEq, Eq, Debug)]
+pub struct Settled<'a> {
+    pub label: &'a [u8],
+    pub subscription: Option<&'a [u8]>,
+}
+
+/// Whether the command settles deliveries.
+pub fn settles(command: Command) -> bool {
+    [&b"ACK"[..], b"NACK"].contains(&command.name())
+}
+
+/// The header by which ACK and NACK name a label.
+pub fn label_header(version: Version) -> &'static [u8] {
+    match version {
+        Version::V1_1 => b"message-id",
+        Version::V1_2 => b"id",
+    }
+}
+
 pub fn opens(command: Command) -> bool {
     [&b"CONNECT"[..], b"STOMP"].contains(&command.name())
 }
@@ -74,9 +105,11 @@ pub fn is_servers(command: Command) -> bool {
     [&b"CONNECTED"[..], b"ERROR", b"MESSAGE", b"RECEIPT"].contains(&command.name())
 }
 
-/// "Needed headers, checked in this order".
-pub fn needed(command: Command) -> &'static [&'static [u8]] {
+/// "Needed headers, checked in this order"; of ACK and NACK in 1.1, document 02, C-18: "43 checks subscription,
+/// then message-id".
+pub fn needed(version: Version, command: Command) -> &'static [&'static [u8]] {
     match command.name() {
+        b"ACK" | b"NACK" if version == Version::V1_1 => &[b"subscription", b"message-id"],
         b"CONNECT" | b"STOMP" => &[b"accept-version", b"host"],
         b"SEND" => &[b"destination"],
         b"SUBSCRIBE" => &[b"destination", b"id"],
@@ -109,19 +142,22 @@ pub struct Naming {
     pub used: Use,
 }
 
-/// How the command names one, if it does. The id of ACK and NACK names neither, but a delivery.
-pub fn naming(command: Command) -> Option<Naming> {
-    let (kind, used) = match command.name() {
-        b"SUBSCRIBE" => (Kind::Subscription, Use::Takes),
-        b"UNSUBSCRIBE" => (Kind::Subscription, Use::Frees),
-        b"BEGIN" => (Kind::Transaction, Use::Takes),
-        b"COMMIT" | b"ABORT" => (Kind::Transaction, Use::Frees),
-        b"SEND" | b"ACK" | b"NACK" => (Kind::Transaction, Use::Mentions),
-        _ => return None,
-    };
-    let header: &[u8] = match kind {
-        Kind::Subscription => b"id",
-        Kind::Transaction => b"transaction",
-    };
-    Some(Naming { kind, header, used })
+/// How the command names any. The label of ACK and NACK names neither, but a delivery; in 1.1 they also name its
+/// subscription.
+pub fn namings(version: Version, command: Command) -> Vec<Naming> {
+    let naming = |kind, header: &'static [u8], used| Naming { kind, header, used };
+    let subscription = |header, used| naming(Kind::Subscription, header, used);
+    let transaction = |used| naming(Kind::Transaction, b"transaction", used);
+    match command.name() {
+        b"SUBSCRIBE" => vec![subscription(b"id", Use::Takes)],
+        b"UNSUBSCRIBE" => vec![subscription(b"id", Use::Frees)],
+        b"BEGIN" => vec![transaction(Use::Takes)],
+        b"COMMIT" | b"ABORT" => vec![transaction(Use::Frees)],
+        b"ACK" | b"NACK" if version == Version::V1_1 => vec![
+            subscription(b"subscription", Use::Mentions),
+            transaction(Use::Mentions),
+        ],
+        b"SEND" | b"ACK" | b"NACK" => vec![transaction(Use::Mentions)],
+        _ => Vec::new(),
+    }
 }

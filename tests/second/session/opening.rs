@@ -8,7 +8,12 @@ pub type Flags = [bool; 3];
 pub const VERSIONS: [&str; 3] = ["1.0", "1.1", "1.2"];
 
 pub const NO_VERSION: Flags = [false; 3];
+pub const ONLY_1_1: Flags = [false, true, false];
 pub const ONLY_1_2: Flags = [false, false, true];
+pub const BOTH: Flags = [false, true, true];
+
+/// All that may be offered.
+pub const OFFERS: [Flags; 3] = [ONLY_1_1, ONLY_1_2, BOTH];
 
 /// The largest number of an offer, in milliseconds, and so the largest interval.
 pub const MAX_INTERVAL: u32 = 3_600_000;
@@ -28,6 +33,17 @@ fn is_version(item: &[u8]) -> bool {
     let parts: Vec<&[u8]> = item.split(|&octet| octet == b'.').collect();
     let is_number = |part: &&[u8]| !part.is_empty() && part.iter().all(u8::is_ascii_digit);
     parts.len() == 2 && parts.iter().all(is_number)
+}
+
+/// What making a session refuses, document 02, C-18: "34 where 1.0 is marked, or neither 1.1 nor 1.2".
+pub fn is_offer(flags: Flags) -> bool {
+    let [first, second, third] = flags;
+    !first && (second || third)
+}
+
+/// Whether all versions of the one are among those of the other.
+pub fn are_among(flags: Flags, others: Flags) -> bool {
+    shared(flags, others) == flags
 }
 
 /// "The versions both sides have".

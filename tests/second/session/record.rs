@@ -3,7 +3,7 @@
 
 use super::delivery::{Delivery, Recorded, DELIVERIES, MODES};
 use super::frame::Frame;
-use super::opening::{highest, Flags, MAX_INTERVAL, ONLY_1_2};
+use super::opening::{are_among, highest, is_offer, Flags, MAX_INTERVAL, NO_VERSION};
 use super::{Answer, Phase, Places, Session, State};
 use super::{MAX_ID, SUBSCRIPTIONS, TRANSACTIONS};
 use crate::block;
@@ -102,14 +102,20 @@ const PHASES: [Phase; 3] = [Phase::Fresh, Phase::Open, Phase::Closed];
 
 type Fault = fn(&Record) -> bool;
 
-/// What makes a record invalid, 38: this list is complete. The last seven are C-15's rule.
-const FAULTS: [Fault; 13] = [
+/// What makes a record invalid, 38: this list is complete. The last seven are C-15's rule, and before them is
+/// C-18's: "38 also where an open session's shared marks are none, or not all among those it offers".
+const FAULTS: [Fault; 15] = [
     |record| usize::from(record.phase) >= PHASES.len(),
     |record| record.stores().iter().any(|store| store.has_long_id()),
     |record| record.stores().iter().any(|store| store.has_equal_ids()),
     |record| record.stores().iter().any(|store| store.has_unused_octet()),
     |record| record.limited().iter().any(|&number| number > MAX_INTERVAL),
-    |record| record.state.offered != ONLY_1_2 && record.phase != PHASE_CLOSED,
+    |record| !is_offer(record.state.offered) && record.phase != PHASE_CLOSED,
+    |record| record.state.shared == NO_VERSION && record.phase == PHASE_OPEN,
+    |record| {
+        let state = &record.state;
+        !are_among(state.shared, state.offered) && record.phase == PHASE_OPEN
+    },
     has_unknown_mode,
     has_mode_without_subscription,
     |record| usize::from(record.count) > DELIVERIES,
@@ -175,7 +181,7 @@ pub fn make(sends: u32, wants: u32, offered: Flags) -> (Result<(), usize>, Recor
         modes: vec![0; SUBSCRIPTIONS],
         count: 0,
     };
-    if sends > MAX_INTERVAL || wants > MAX_INTERVAL || offered != ONLY_1_2 {
+    if sends > MAX_INTERVAL || wants > MAX_INTERVAL || !is_offer(offered) {
         return (Err(34), record);
     }
     record.phase = PHASE_FRESH;

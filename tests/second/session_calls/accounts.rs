@@ -4,7 +4,7 @@
 //! that wait, each with the number of its recording.
 
 use super::sequence::Step;
-use super::Call;
+use super::{Call, Reply};
 use crate::block;
 use crate::item::Command;
 use crate::session::delivery::{Delivery, Mode};
@@ -62,8 +62,9 @@ impl Accounts {
         }
     }
 
-    /// Enters a call with its answer.
-    fn enter(&mut self, call: &Call, answer: &str) {
+    /// Enters a call with its answer, which says the version too.
+    fn enter(&mut self, call: &Call, reply: &Reply) {
+        let answer = &reply.answer[..];
         match call {
             Call::Deliver {
                 subscription,
@@ -75,7 +76,7 @@ impl Accounts {
                     command: Command::numbered(*command).expect("a command"),
                     entries: block::read(block).expect("a header block"),
                 };
-                self.accepted(&frame);
+                self.accepted(&frame, reply.record.version());
             }
             Call::Frame { .. } if !["refused 38", "refused 39"].contains(&answer) => self.close(),
             _ => {}
@@ -95,9 +96,17 @@ impl Accounts {
         }
     }
 
-    /// Enters an accepted frame.
-    fn accepted(&mut self, frame: &Frame) {
+    /// Enters a frame that was accepted in this version. In 1.1 a label is told by `message-id`, and waits for
+    /// the subscription that is told too.
+    fn accepted(&mut self, frame: &Frame, version: Option<&str>) {
         let id = frame.first(b"id").unwrap_or_default();
+        let (label, of) = match version {
+            Some("1.1") => (
+                frame.first(b"message-id").unwrap_or_default(),
+                frame.first(b"subscription"),
+            ),
+            _ => (id, None),
+        };
         match frame.command.name() {
             b"SUBSCRIBE" => {
                 let mode = Mode::named(frame.first(b"ack").unwrap_or(b"auto"));
@@ -112,22 +121,21 @@ impl Accounts {
                 self.totals.pending -= row.waiting.len();
                 self.totals.dropped += row.waiting.len();
             }
-            b"ACK" => self.totals.acknowledged += self.settled(id),
-            b"NACK" => self.totals.refused += self.settled(id),
+            b"ACK" => self.totals.acknowledged += self.settled(label, of),
+            b"NACK" => self.totals.refused += self.settled(label, of),
             b"DISCONNECT" => self.close(),
             _ => {}
         }
     }
 
     /// Takes what is settled with this label from the front of its row: in client mode all up to it, in
-    /// client-individual it alone. Gives how many these are.
-    fn settled(&mut self, label: &[u8]) -> usize {
-        let has = |row: &&mut Row| row.waiting.iter().any(|(_, waiting)| waiting == label);
-        let row = self
-            .rows
-            .values_mut()
-            .find(has)
-            .expect("a label that waits");
+    /// client-individual it alone. Gives how many these are. Where a subscription is told it is the row's.
+    fn settled(&mut self, label: &[u8], of: Option<&[u8]>) -> usize {
+        let has = |(_, row): &(&Vec<u8>, &mut Row)| {
+            row.waiting.iter().any(|(_, waiting)| waiting == label)
+        };
+        let (id, row) = self.rows.iter_mut().find(has).expect("a label that waits");
+        assert!(of.is_none_or(|of| of == id), "{:?} {:?}", of, id);
         let mut passed = VecDeque::new();
         let mut count = 0;
         while let Some((number, waiting)) = row.waiting.pop_front() {
@@ -188,7 +196,7 @@ pub fn of(steps: &[Step]) -> Totals {
         let Some(accounts) = &mut accounts else {
             continue;
         };
-        accounts.enter(call, &reply.answer);
+        accounts.enter(call, reply);
         let session = reply.record.session().expect("a record that calls leave");
         let pending = accounts.pending();
         assert!(accounts.totals.are_even(), "{:?}", accounts.totals);

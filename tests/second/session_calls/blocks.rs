@@ -6,7 +6,8 @@ use crate::block::{self, Entry};
 use crate::calls::damage::damage;
 use crate::client::values::{self, octets};
 use crate::random::Random;
-use crate::session::frame::{naming, opens, Frame};
+use crate::session::frame::{namings, opens, Frame};
+use crate::version::BOTH;
 
 /// The longest text that a record can hold.
 const MAX_TEXT: usize = 65_535;
@@ -46,12 +47,13 @@ fn widen(random: &mut Random, frame: &mut Frame) {
     }
 }
 
-/// Makes a value that decides long: of accept-version, heart-beat, or an id.
+/// Makes a value that decides long: of accept-version, heart-beat, or an id, in either version.
 fn widen_deciding(random: &mut Random, frame: &mut Frame, room: usize) {
-    let name: &[u8] = match naming(frame.command) {
-        Some(naming) => naming.header,
-        None if opens(frame.command) => random.pick(&[&b"accept-version"[..], b"heart-beat"]),
-        None => b"destination",
+    let namings = namings(random.pick(&BOTH), frame.command);
+    let name: &[u8] = match namings.is_empty() {
+        false => random.pick(&namings).header,
+        true if opens(frame.command) => random.pick(&[&b"accept-version"[..], b"heart-beat"]),
+        true => b"destination",
     };
     let length = long(random, room.saturating_sub(name.len()));
     let value = match name {
@@ -106,13 +108,9 @@ fn many_entries(random: &mut Random, frame: &mut Frame) {
 /// An accept-version value of about that length: very many items, or one with very many digits, and
 /// others behind.
 fn long_versions(random: &mut Random, length: usize) -> Vec<u8> {
-    let last = match random.below(3) {
-        0 => values::versions(random),
-        1 => values::other_versions(random),
-        _ => values::malformed_versions(random),
-    };
+    let last = values::any_versions(random);
     let room = length.saturating_sub(last.len() + 2);
-    let item: &[u8] = random.pick(&[&b"1.0,"[..], b"2.1,", b"01.2,", b"1.2,", b"1.2 "]);
+    let item: &[u8] = random.pick(&[&b"1.0,"[..], b"2.1,", b"01.2,", b"1.1,", b"1.2,", b"1.2 "]);
     let front = if random.once_in(3) {
         let digits = vec![b'7'; room / 2];
         [&digits[..], b".", &digits, b","].concat()

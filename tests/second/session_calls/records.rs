@@ -5,7 +5,7 @@ use crate::client::{new_id, values};
 use crate::random::Random;
 use crate::session::delivery::{Mode, DELIVERIES, MODES};
 use crate::session::frame::Kind;
-use crate::session::opening::{Flags, MAX_INTERVAL, ONLY_1_2};
+use crate::session::opening::{are_among, is_offer, Flags, MAX_INTERVAL, NO_VERSION, OFFERS};
 use crate::session::record::{Record, Store};
 use crate::session::{Phase, Session, State, MAX_ID, SUBSCRIPTIONS, TRANSACTIONS};
 use std::collections::BTreeMap;
@@ -38,14 +38,20 @@ pub fn valid(random: &mut Random) -> Record {
 
 /// A session in this phase, with any state, ids and modes, and if it is open with pending deliveries.
 pub fn session(random: &mut Random, phase: Phase) -> Session {
-    let (some, any) = (ONLY_1_2, flags(random));
-    let offered = if phase == Phase::Closed { any } else { some };
     let any = flags(random);
+    let offered = match phase {
+        Phase::Closed => any,
+        _ => random.pick(&OFFERS),
+    };
+    let shared = match phase {
+        Phase::Open => shared_with(random, offered),
+        _ => flags(random),
+    };
     let state = State {
         sends: interval(random),
         wants: interval(random),
         offered,
-        shared: random.pick(&[some, some, any]),
+        shared,
         client_to_server: interval(random),
         server_to_client: interval(random),
         last_heard: time(random),
@@ -76,6 +82,23 @@ pub fn session(random: &mut Random, phase: Phase) -> Session {
         deliveries(random, &mut session, count);
     }
     session
+}
+
+/// Some of the versions offered, one at least.
+fn shared_with(random: &mut Random, offered: Flags) -> Flags {
+    flags_that(random, |flags| {
+        flags != NO_VERSION && are_among(flags, offered)
+    })
+}
+
+/// Flags that the test holds for.
+fn flags_that(random: &mut Random, test: impl Fn(Flags) -> bool) -> Flags {
+    loop {
+        let flags = flags(random);
+        if test(flags) {
+            return flags;
+        }
+    }
 }
 
 /// Which places are live: none, all, all but one, one, the first ones, or any.
@@ -125,7 +148,8 @@ pub fn time(random: &mut Random) -> u32 {
     random.pick(&[0, 1, 10, any, any, 4_294_967_290, u32::MAX, 1 << 31])
 }
 
-/// Gives the record a reason to be invalid; flags are none in a closed session.
+/// Gives the record a reason to be invalid; flags are none in a closed session, and those shared only in an open
+/// one.
 fn spoil(random: &mut Random, record: &mut Record) {
     if random.once_in(2) {
         return spoil_deliveries(random, record);
@@ -136,7 +160,15 @@ fn spoil(random: &mut Random, record: &mut Record) {
     } else {
         &mut record.transactions
     };
-    match random.below(12) {
+    match random.below(18) {
+        12 | 13 => record.state.shared = NO_VERSION,
+        14..=17 => {
+            let offered = record.state.offered;
+            record.state.shared = match offered {
+                [true, true, true] => NO_VERSION,
+                _ => flags_that(random, |flags| !are_among(flags, offered)),
+            };
+        }
         0 => record.phase = random.pick(&[3, 3, 4, 127, 128, 129, 254, 255]),
         1 | 2 => long(random, store),
         3 | 4 => equal(random, store),
@@ -273,12 +305,7 @@ fn over(random: &mut Random, state: &mut State) {
     }
 }
 
-/// Flags other than 1.2 alone.
+/// Flags that making a session refuses.
 pub fn other_flags(random: &mut Random) -> Flags {
-    loop {
-        let flags = flags(random);
-        if flags != ONLY_1_2 {
-            return flags;
-        }
-    }
+    flags_that(random, |flags| !is_offer(flags))
 }

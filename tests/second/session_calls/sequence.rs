@@ -3,15 +3,14 @@
 use super::blocks;
 use super::records::{self, interval, other_flags, over_limit, time};
 use super::{first_record, Call, Reply, Way, MAX_BLOCK};
-use crate::block::{self, Entry};
+use crate::block;
 use crate::calls::unknown_command;
-use crate::client::command;
-use crate::client::messages::texts;
-use crate::client::right::{leaving, right};
+use crate::client::messages::{texts, Texts};
+use crate::client::right::{confirming, leaving, right};
 use crate::client::wrong::{wrong, FRESH, OPEN};
 use crate::random::Random;
 use crate::session::frame::Frame;
-use crate::session::opening::ONLY_1_2;
+use crate::session::opening::OFFERS;
 use crate::session::record::Record;
 use crate::session::{Phase, Session};
 
@@ -50,12 +49,12 @@ impl Course {
     }
 
     /// The next call, where these labels were recorded. A life begins with a session that is made.
-    fn call(&self, random: &mut Random, record: &Record, begins: bool, labels: &[Vec<u8>]) -> Call {
+    fn call(&self, random: &mut Random, record: &Record, begins: bool, labels: &[Texts]) -> Call {
         match *self {
             Course::Any { .. } => call(random, record),
             Course::Life { .. } if begins => made(random),
             Course::Life { .. } if !labels.is_empty() && random.once_in(60) => {
-                let call = settling_again(random, labels);
+                let call = settling_again(random, record, labels);
                 some_way(random, call)
             }
             Course::Life { delivers, .. } => in_life(random, record, delivers),
@@ -78,7 +77,11 @@ pub fn sequence(random: &mut Random, count: usize) -> Vec<Step> {
         let reply = Reply::of(&before, &call);
         match &call {
             Call::Make { .. } | Call::Set(_) => labels.clear(),
-            Call::Deliver { label, .. } if reply.answer == "recorded" => labels.push(label.clone()),
+            Call::Deliver {
+                subscription,
+                label,
+                ..
+            } if reply.answer == "recorded" => labels.push((subscription.clone(), label.clone())),
             _ => {}
         }
         let next = reply.record.clone();
@@ -178,14 +181,16 @@ fn in_life(random: &mut Random, record: &Record, delivers: usize) -> Call {
 }
 
 /// ACK or NACK of one of the labels, which may be settled by now.
-fn settling_again(random: &mut Random, labels: &[Vec<u8>]) -> Call {
+fn settling_again(random: &mut Random, record: &Record, labels: &[Texts]) -> Call {
+    let session = record.session().expect("a record that calls leave");
+    let (subscription, label) = &labels[random.below(labels.len())];
     let name: &[u8] = random.pick(&[&b"ACK"[..], b"NACK"]);
-    let label = &labels[random.below(labels.len())];
+    let frame = confirming(session.version(), name, subscription, label);
     Call::Frame {
         way: Way::ByValue,
-        command: command(name).0 as u32,
+        command: frame.command.0 as u32,
         time: time(random),
-        block: block::write(&[Entry::new(b"id", label)]),
+        block: block::write(&frame.entries),
     }
 }
 
@@ -194,7 +199,7 @@ fn made(random: &mut Random) -> Call {
     Call::Make {
         sends: interval(random),
         wants: interval(random),
-        offered: ONLY_1_2,
+        offered: random.pick(&OFFERS),
     }
 }
 
@@ -225,11 +230,12 @@ fn another(random: &mut Random) -> Call {
         _ => interval(random),
     };
     let (sends, wants) = (offer(random), offer(random));
+    let [first, second, third] = OFFERS;
     let other = other_flags(random);
     Call::Make {
         sends,
         wants,
-        offered: random.pick(&[ONLY_1_2, ONLY_1_2, ONLY_1_2, other]),
+        offered: random.pick(&[first, second, third, other]),
     }
 }
 
@@ -279,6 +285,6 @@ fn meant(random: &mut Random, session: &Session) -> Frame {
     let number = random.pick(numbers);
     match wrong(random, session, number) {
         Some(frame) if !random.once_in(12) => frame,
-        _ => leaving(random),
+        _ => leaving(random, session),
     }
 }

@@ -7,15 +7,16 @@ use super::{
 };
 use crate::item::{Command, COLON, CR, MAX_BODY, MAX_LINE, MAX_LINES, NUL};
 use crate::random::Random;
+use crate::version::Version;
 
 /// A frame with about as many header lines as may be, then an octet that matters.
-pub fn around_all_lines(random: &mut Random) -> Stream {
+pub fn around_all_lines(random: &mut Random, version: Version) -> Stream {
     let command = any_command(random);
-    let mut stream = opened(random, command);
+    let mut stream = opened(random, version, command);
     for _ in 0..random.pick(&[MAX_LINES - 1, MAX_LINES, MAX_LINES, MAX_LINES + 1]) {
         stream.push(random.pick(PLAIN));
         stream.push(COLON);
-        line_end(random, &mut stream);
+        line_end(random, version, &mut stream);
     }
     match random.below(3) {
         0 => put_telling(random, &mut stream),
@@ -23,7 +24,7 @@ pub fn around_all_lines(random: &mut Random) -> Stream {
             stream.push(CR);
             put_telling(random, &mut stream);
         }
-        _ => line_end(random, &mut stream),
+        _ => line_end(random, version, &mut stream),
     }
     stream.push(NUL);
     stream
@@ -32,14 +33,14 @@ pub fn around_all_lines(random: &mut Random) -> Stream {
 /// Items around a frame that has as many header lines as may be, or one less, or few, at times as long
 /// as may be, with and without a content-length among them and a body behind them: a line is added or
 /// not, and there is room for it or not.
-pub fn around_added_line(random: &mut Random) -> Stream {
+pub fn around_added_line(random: &mut Random, version: Version) -> Stream {
     let command = if random.once_in(5) {
         any_command(random)
     } else {
         with_body(random)
     };
-    let mut stream = items(random);
-    stream.extend(opened(random, command));
+    let mut stream = items(random, version);
+    stream.extend(opened(random, version, command));
     let kind = random.below(16);
     let longest = kind < 2 && random.once_in(3);
     let any = body_length(random);
@@ -49,62 +50,62 @@ pub fn around_added_line(random: &mut Random) -> Stream {
     let place = random.pick(&[None, Some(any)]);
     for index in 0..count {
         match place {
-            Some(place) if index == place => length_line(random, length, &mut stream),
-            Some(place) if index > place => later_line(random, command, &mut stream),
-            _ if kind == 0 => whole_line(random, command, &mut stream),
-            _ if kind == 1 => plain_line(random, &mut stream),
-            _ => line(random, command, &mut stream),
+            Some(place) if index == place => length_line(random, version, length, &mut stream),
+            Some(place) if index > place => later_line(random, version, command, &mut stream),
+            _ if kind == 0 => whole_line(random, version, command, &mut stream),
+            _ if kind == 1 => plain_line(random, version, &mut stream),
+            _ => line(random, version, command, &mut stream),
         }
     }
-    line_end(random, &mut stream);
+    line_end(random, version, &mut stream);
     body(random, length, place.is_some(), &mut stream);
     stream.push(NUL);
-    stream.extend(items(random));
+    stream.extend(items(random, version));
     stream
 }
 
 /// A header line as long as may be.
-fn whole_line(random: &mut Random, command: Command, stream: &mut Stream) {
+fn whole_line(random: &mut Random, version: Version, command: Command, stream: &mut Stream) {
     let name = random.between(1, MAX_LINE - 1);
-    text(random, command, name, stream);
+    text(random, version, command, name, stream);
     stream.push(COLON);
-    value(random, command, MAX_LINE - name - 1, stream);
-    line_end(random, stream);
+    value(random, version, command, MAX_LINE - name - 1, stream);
+    line_end(random, version, stream);
 }
 
 /// A header line as long as may be that is as long when it is decoded.
-fn plain_line(random: &mut Random, stream: &mut Stream) {
+fn plain_line(random: &mut Random, version: Version, stream: &mut Stream) {
     let end = stream.len() + MAX_LINE;
     stream.extend_from_slice(b"plain:");
     stream.resize(end, b'v');
-    line_end(random, stream);
+    line_end(random, version, stream);
 }
 
 /// A header line about as long as may be, with or without its colon, perhaps a content-length, then
 /// up to three octets or characters that matter.
-pub fn around_whole_line(random: &mut Random) -> Stream {
+pub fn around_whole_line(random: &mut Random, version: Version) -> Stream {
     let command = any_command(random);
-    let mut stream = opened(random, command);
+    let mut stream = opened(random, version, command);
     let length = random.between(MAX_LINE - 4, MAX_LINE);
     match random.below(5) {
-        0 => text(random, command, length, &mut stream),
+        0 => text(random, version, command, length, &mut stream),
         1 | 2 => stream.extend(long_content_length(random, command, length)),
         _ => {
             let name = random.between(1, length - 1);
-            text(random, command, name, &mut stream);
+            text(random, version, command, name, &mut stream);
             stream.push(COLON);
-            value(random, command, length - name - 1, &mut stream);
+            value(random, version, command, length - name - 1, &mut stream);
         }
     }
     for _ in 0..random.between(0, 3) {
         if random.once_in(4) {
             stream.extend(of_either_kind(random));
         } else {
-            stream.push(random.pick(b"\\\\\\cc::\r\n\0a09"));
+            stream.push(random.pick(b"\\\\\\ccr::\r\r\n\0a09"));
         }
     }
     if random.once_in(2) {
-        line_end(random, &mut stream);
+        line_end(random, version, &mut stream);
     }
     stream.extend_from_slice(b"\n\0");
     stream
@@ -125,30 +126,30 @@ fn long_content_length(random: &mut Random, command: Command, length: usize) -> 
 }
 
 /// A body about as long as may be, with and without a length.
-pub fn around_whole_body(random: &mut Random) -> Stream {
+pub fn around_whole_body(random: &mut Random, version: Version) -> Stream {
     let command = with_body(random);
-    let mut stream = opened(random, command);
+    let mut stream = opened(random, version, command);
     let length = random.between(MAX_BODY - 1, MAX_BODY + 1);
     let declared = random.once_in(2);
     if declared {
-        length_line(random, length.min(MAX_BODY), &mut stream);
+        length_line(random, version, length.min(MAX_BODY), &mut stream);
     }
-    line_end(random, &mut stream);
+    line_end(random, version, &mut stream);
     body(random, length, declared, &mut stream);
     stream.push(random.pick(b"\0\0\0\r\na"));
-    stream.extend(items(random));
+    stream.extend(items(random, version));
     stream
 }
 
 /// The longest header block and perhaps the longest body, at times with one octet put in or taken
 /// out, at times cut.
-pub fn around_longest(random: &mut Random) -> Stream {
+pub fn around_longest(random: &mut Random, version: Version) -> Stream {
     let command = with_body(random);
-    let mut stream = opened(random, command);
+    let mut stream = opened(random, version, command);
     for _ in 0..MAX_LINES {
-        whole_line(random, command, &mut stream);
+        whole_line(random, version, command, &mut stream);
     }
-    line_end(random, &mut stream);
+    line_end(random, version, &mut stream);
     let length = random.pick(&[3, MAX_BODY]);
     body(random, length, false, &mut stream);
     stream.push(NUL);

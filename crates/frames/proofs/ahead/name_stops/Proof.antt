@@ -1,12 +1,17 @@
--- `ahead::name_stops` meets its contract: by whether there are escapes.
+-- `ahead::name_stops` meets its contract: 10 in the place of an octet that ends no stretch.
+use borrow.Author.Needs.{needs}
+use mathlib.Core.Path.{refl}
 use Rattle.frames.proofs.ahead.name_stops.Statement.{statement}
 use Rattle.frames.proofs.ahead.name_stops.Tie as tie
 
-returns : tie.Need-returns
-returns c = rw (c .if1 .taken)
+or-10-requires : tie.Need-or-10-requires
+or-10-requires c κs = search needs
 
-returns-2 : tie.Need-returns-2
-returns-2 c = rw (c .if1 .left)
+or-10-requires-2 : tie.Need-or-10-requires-2
+or-10-requires-2 c κs = search needs
+
+returns : tie.Need-returns
+returns c = rw (c .before .or-10 .ensures, c .or-102 .ensures) refl
 
 pub name-stops-spec : {M : Type 1} → statement M
-name-stops-spec = tie.close (tie.spec returns returns-2)
+name-stops-spec = tie.close (tie.spec or-10-requires or-10-requires-2 returns)

@@ -31,7 +31,7 @@ passed : (c : tie.After-calm-from Inv-loop μ-loop)
 passed c =
     let a = c .before .before .before .before .args in
     let l = c .before .before .loop in
-    let on = span-calm (calm 127) (plain-in (a .stops)) (c .before .before .before .before .pre .2) (a .s .now) (l .i) _ (l .inv .0) (c .calm-from .ensures .0) (c .calm-from .ensures .1) in
+    let on = span-calm (calm 127) (plain-in (a .stops)) (c .before .before .before .before .pre .1) (a .s .now) (l .i) _ (l .inv .0) (c .calm-from .ensures .0) (c .calm-from .ensures .1) in
     (on .0, on .1 ∙ l .inv .1)
 
 returns : tie.Need-returns Inv-loop μ-loop

@@ -13,25 +13,27 @@ use Rattle.frames.proofs.decode.measure.Statement.{statement}
 use Rattle.frames.proofs.decode.measure.Tie as tie
 
 abbrev Inv-loop : tie.InvT-loop
-Inv-loop s from n style total₀ at₀ i₀ total at i =
+Inv-loop s from n cr style total₀ at₀ i₀ total at i =
     (at ≤ length s)
     × (total ≤ 6 * i + at)
-    × (total + length (image (entries-left style s n i at)) ≡ length (image (line-entries style (front-lines n (drop from s)))))
+    × (total + length (image (entries-left cr style s n i at)) ≡ length (image (line-entries style (front-lines cr n (drop from s)))))
 
 abbrev μ-loop : tie.MeasureT-loop
-μ-loop s from n style total₀ at₀ i₀ total at i = n - i
+μ-loop s from n cr style total₀ at₀ i₀ total at i = n - i
 
 -- what the next line adds
 added : (c : tie.After-decoded-length2 Inv-loop μ-loop) →
     let l = c .before .before .before .before in
     let h = l .before .before .loop in
     let a = l .before .before .before .before .args in
-    Adds (a .style) (a .s .now) (a .n) (h .i) (h .at) (l .line-at .result .next) (c .before .before .decoded-length .result) (c .decoded-length2 .result)
+    Adds (a .cr) (a .style) (a .s .now) (a .n) (h .i) (h .at) (l .line-at .result .next)
+    (c .before .before .decoded-length .result) (c .decoded-length2 .result)
 added c =
     let l = c .before .before .before .before in
     let h = l .before .before .loop in
     let a = l .before .before .before .before .args in
-    adds (a .style) (a .s .now) (a .n) (h .i) (h .at) (l .line-at .result) (l .before .loop-test .taken) (l .line-at .ensures) _ _ (c .before .before .decoded-length .ensures) (c .decoded-length2 .ensures)
+    adds (a .cr) (a .style) (a .s .now) (a .n) (h .i) (h .at) (l .line-at .result) (l .before .loop-test .taken) (l .line-at .ensures)
+    _ _ (c .before .before .decoded-length .ensures) (c .decoded-length2 .ensures)
 
 small : (c : tie.After-decoded-length2 Inv-loop μ-loop) →
     let h = c .before .before .before .before .before .before in
@@ -41,7 +43,7 @@ small c = let l = c .before .before .before .before in omega (arith, added c .fe
 loop-holds : tie.Need-loop-holds Inv-loop μ-loop
 loop-holds c =
     let a = c .before .args in
-    let all = left-all (a .style) (a .s .now) (a .n) (a .from) in
+    let all = left-all (a .cr) (a .style) (a .s .now) (a .n) (a .from) in
     (c .before .pre .0, omega arith, omega (arith, ap (λ es. length (image es)) all))
 
 line-at-requires : tie.Need-line-at-requires Inv-loop μ-loop
@@ -97,7 +99,7 @@ returns : tie.Need-returns Inv-loop μ-loop
 returns c =
     let h = c .before .loop in
     let a = c .before .before .before .args in
-    let none = left-none (a .style) (a .s .now) (a .n) (h .i) (h .at) (c .loop-test .left) in
+    let none = left-none (a .cr) (a .style) (a .s .now) (a .n) (h .i) (h .at) (c .loop-test .left) in
     omega (arith, ap (λ es. length (image es)) none, h .inv .2)
 
 pub measure-spec : {M : Type 1} → statement M

@@ -16,22 +16,22 @@ use Rattle.frames.proofs.decode.put_records.Statement.{statement}
 use Rattle.frames.proofs.decode.put_records.Tie as tie
 
 abbrev Inv-loop : tie.InvT-loop
-Inv-loop s from n style block₀ used₀ at₀ i₀ block used at i =
+Inv-loop s from n cr style block₀ used₀ at₀ i₀ block used at i =
     (length block ≡ length block₀)
     × (at ≤ length s)
-    × (used + length (image (entries-left style s n i at)) ≡ length (image (line-entries style (front-lines n (drop from s)))))
-    × All Short (entries-left style s n i at)
-    × (take used block ++ image (entries-left style s n i at) ≡ image (line-entries style (front-lines n (drop from s))))
+    × (used + length (image (entries-left cr style s n i at)) ≡ length (image (line-entries style (front-lines cr n (drop from s)))))
+    × All Short (entries-left cr style s n i at)
+    × (take used block ++ image (entries-left cr style s n i at) ≡ image (line-entries style (front-lines cr n (drop from s))))
     × (drop used block ≡ drop used block₀)
 
 abbrev μ-loop : tie.MeasureT-loop
-μ-loop s from n style block₀ used₀ at₀ i₀ block used at i = n - i
+μ-loop s from n cr style block₀ used₀ at₀ i₀ block used at i = n - i
 
 loop-holds : tie.Need-loop-holds Inv-loop μ-loop
 loop-holds c =
     let s = c .before .before in
     let a = s .args in
-    let all = left-all (a .style) (a .s .now) (a .n) (a .from) in
+    let all = left-all (a .cr) (a .style) (a .s .now) (a .n) (a .from) in
     (refl, s .pre .0, omega (arith, ap (λ es. length (image es)) all), subst (All Short) (sym all) (s .pre .2), ap image all, refl)
 
 line-at-requires : tie.Need-line-at-requires Inv-loop μ-loop
@@ -78,13 +78,15 @@ turn : (c : tie.After-write-line-record Inv-loop μ-loop) →
     let l = c .before .before .before .before in
     let h = l .before .before .loop in
     let a = l .before .before .before .before .before .args in
-    Asked (a .style) (a .s .now) (a .n) (h .i) (h .at) (l .line-at .result .next) (h .block) (c .write-line-record .last .0) (h .used) (c .write-line-record .result)
+    Asked (a .cr) (a .style) (a .s .now) (a .n) (h .i) (h .at) (l .line-at .result .next)
+    (h .block) (c .write-line-record .last .0) (h .used) (c .write-line-record .result)
 turn c =
     let l = c .before .before .before .before in
     let h = l .before .before .loop in
     let s = l .before .before .before .before .before in
     let a = s .args in
-    asked (a .style) (a .s .now) (a .n) (h .i) (h .at) (l .line-at .result) (l .before .loop-test .taken) (l .line-at .ensures) (h .block) (c .write-line-record .last .0) (h .used) (c .write-line-record .result)
+    asked (a .cr) (a .style) (a .s .now) (a .n) (h .i) (h .at) (l .line-at .result) (l .before .loop-test .taken) (l .line-at .ensures)
+    (h .block) (c .write-line-record .last .0) (h .used) (c .write-line-record .result)
     (h .inv .3) (omega (arith, h .inv, s .pre .1)) (c .write-line-record .ensures .0) (c .write-line-record .ensures .1)
 
 enum-told : tie.Need-enum-told Inv-loop μ-loop
@@ -131,7 +133,7 @@ returns-2 : tie.Need-returns-2 Inv-loop μ-loop
 returns-2 c =
     let h = c .before .loop in
     let a = c .before .before .before .before .args in
-    let none = left-none (a .style) (a .s .now) (a .n) (h .i) (h .at) (c .loop-test .left) in
+    let none = left-none (a .cr) (a .style) (a .s .now) (a .n) (h .i) (h .at) (c .loop-test .left) in
     put-whole-done (h .used) (h .block) (a .block .now) _ _ (h .inv .4) (h .inv .2) (ap image none) (h .inv .5)
 
 pub put-records-spec : {M : Type 1} → statement M

@@ -15,6 +15,8 @@ use Rattle.headers.specs.Block.{Entry, entries, listed}
 use Rattle.headers.specs.Lines.{can-write}
 use Rattle.headers.specs.Answers.{Answer, accepted, refused, is-block}
 use Rattle.headers.proofs.Rows.{or-false-right}
+use Rattle.frames.specs.Grammar.{crlf}
+use Rattle.frames.specs.declared.version.Version.{Version}
 use Rattle.frames.specs.Scanning.{style-of, most-of}
 use Rattle.frames.specs.Encoding.{Call, first-length, adds-length, first-unwritable, says-length, image-length, refusal, indexed}
 use Rattle.frames.specs.Writing.{value-at, Sums, lengths-of}
@@ -29,6 +31,9 @@ use Rattle.frames.proofs.encode.answer_of.Tie as tie
 abbrev call-of : tie.Start → Bool → Call
 call-of b counted = record { command = b .args .command; block = b .args .block .now; body = b .args .body .now; counted = counted }
 
+abbrev ver : tie.Start → Version
+ver b = b .args .version
+
 abbrev entries-at : tie.Start → List Entry
 entries-at b = listed (entries (b .args .block .now))
 
@@ -38,25 +43,25 @@ adds b = b .args .adds
 abbrev totals : tie.Start → Totals
 totals b = b .args .sums
 
-sums : (b : tie.Start) → Sums (style-of (b .args .command)) (entries-at b) (totals b)
+sums : (b : tie.Start) → Sums (style-of (crlf (ver b)) (b .args .command)) (entries-at b) (totals b)
 sums b = b .pre .3
 
 -- the answer, from what the checks settle on
 abbrev settled : tie.Start → Answer
-settled b = settle-of (b .args .command) (entries-at b) (adds b) (b .args .body .now) (b .args .room)
+settled b = settle-of (ver b) (b .args .command) (entries-at b) (adds b) (b .args .body .now) (b .args .room)
 
 abbrev Added : tie.Start → Bool → Type 0
 Added b counted = is-block (b .args .block .now) ≡ true → adds b ≡ adds-length (entries-at b) (b .args .body .now) counted
 
 answered : (b : tie.Start) (r : Answer) → settled b ≡ r → (counted : Bool) → Added b counted
-    → indexed r (first-unwritable (style-of (b .args .command)) (entries-at b)) ≡ says-of (call-of b counted) (b .args .room)
+    → indexed r (first-unwritable (style-of (crlf (ver b)) (b .args .command)) (entries-at b)) ≡ says-of (ver b) (call-of b counted) (b .args .room)
 answered b r e counted added =
     let es = entries-at b in
     let (d, n, q) = known-command (b .args .command) (b .pre .2) in
-    let i = first-unwritable (style-of (b .args .command)) es in
+    let i = first-unwritable (style-of (crlf (ver b)) (b .args .command)) es in
     sym
-    (settles (call-of b counted) (b .args .room) d q es n (entries-listed (b .args .block .now) (b .pre .1))
-    ∙ ap (λ t. indexed (settle-of (b .args .command) es t (b .args .body .now) (b .args .room)) i) (sym (added (b .pre .1)))
+    (settles (ver b) (call-of b counted) (b .args .room) d q es n (entries-listed (b .args .block .now) (b .pre .1))
+    ∙ ap (λ t. indexed (settle-of (ver b) (b .args .command) es t (b .args .body .now) (b .args .room)) i) (sym (added (b .pre .1)))
     ∙ ap (λ a. indexed a i) e)
 
 -- ## The lines
@@ -77,7 +82,7 @@ lines-at c =
 returns : tie.Need-returns
 returns c =
     let b = start (c .before) in (
-      answered b (refused 52) (refuses-52 _ _ _ _ _ (sums-many _ _ _ (sums b) (cond (adds b) 1 0) (omega (arith, lines-at (c .before))))),
+      answered b (refused 52) (refuses-52 _ _ _ _ _ _ (sums-many _ _ _ (sums b) (cond (adds b) 1 0) (omega (arith, lines-at (c .before))))),
       λ n h. absurd (let z : _≡_ {A = ℕ} 0 1 = cc in omega arith),
     )
 
@@ -96,7 +101,7 @@ returns-2 c =
     let e = c .before .before in
     let b = from-2 e in (
       λ counted added. ap (refusal 53) (sums b .writable (all-few e))
-          ∙ answered b (refused 53) (refuses-53 _ _ _ _ _ (few-at e) (sums-unwritable _ _ _ (sums b) (all-few e) (c .if3 .taken))) counted added,
+          ∙ answered b (refused 53) (refuses-53 _ _ _ _ _ _ (few-at e) (sums-unwritable _ _ _ (sums b) (all-few e) (c .if3 .taken))) counted added,
       λ n h. absurd (let z : _≡_ {A = ℕ} 0 1 = cc in omega arith),
     )
 
@@ -104,7 +109,7 @@ returns-2 c =
 abbrev at-3 : tie.Else3 → tie.Else2
 at-3 c = c .before .before
 
-each-at : (c : tie.Else3) → every (can-write (style-of (from-2 (at-3 c) .args .command))) (entries-at (from-2 (at-3 c))) ≡ true
+each-at : (c : tie.Else3) → every (can-write (style-of (crlf (ver (from-2 (at-3 c)))) (from-2 (at-3 c) .args .command))) (entries-at (from-2 (at-3 c))) ≡ true
 each-at c = sums-writable _ _ _ (sums (from-2 (at-3 c))) (all-few (at-3 c)) (c .if3 .left)
 
 -- ## The body
@@ -115,7 +120,8 @@ most-of-requires c κs = search needs
 returns-3 : tie.Need-returns-3
 returns-3 c =
     let e = c .before .before in (
-      answered (from-2 (at-3 e)) (refused 54) (refuses-54 _ _ _ _ _ (few-at (at-3 e)) (each-at e) (omega (arith, c .if4 .taken, c .before .most-of .ensures))),
+      answered (from-2 (at-3 e)) (refused 54)
+          (refuses-54 _ _ _ _ _ _ (few-at (at-3 e)) (each-at e) (omega (arith, c .if4 .taken, c .before .most-of .ensures))),
       λ n h. absurd (let z : _≡_ {A = ℕ} 0 1 = cc in omega arith),
     )
 
@@ -159,7 +165,7 @@ returns-4 : tie.Need-returns-4
 returns-4 c =
     let e = c .before .before .before .before in (
       answered (from-4 e) (refused 55)
-          (refuses-55 _ _ _ _ _ (few-at (at-3 (at-4 e))) (each-at (at-4 e)) (fits-at e)
+          (refuses-55 _ _ _ _ _ _ (few-at (at-3 (at-4 e))) (each-at (at-4 e)) (fits-at e)
           (said e true (c .before .before .before .if5 .taken) ∙ sym (c .before .says-length .ensures) ∙ not-true (c .before .says-length .result) (c .if6 .taken))),
       λ n h. absurd (let z : _≡_ {A = ℕ} 0 1 = cc in omega arith),
     )
@@ -178,7 +184,7 @@ image-length-requires c κs =
     (ltb-false 15 n (or-false-right (eqb n 0) (ltb 15 n) (b .pre .2)), sums b .small, small-at (c .before))
 
 abbrev image-at : tie.Else4 → ℕ
-image-at c = total-of (from-4 c .args .command) (entries-at (from-4 c)) (adds (from-4 c)) (body-at c)
+image-at c = total-of (crlf (ver (from-4 c))) (from-4 c .args .command) (entries-at (from-4 c)) (adds (from-4 c)) (body-at c)
 
 long-at : (c : tie.After-image-length) → c .image-length .result ≡ image-at (c .before .before)
 long-at c =
@@ -191,7 +197,8 @@ returns-5 : tie.Need-returns-5
 returns-5 c =
     let e = c .before .before .before in (
       answered (from-4 e) (refused 56)
-          (refuses-56 _ _ _ _ _ (few-at (at-3 (at-4 e))) (each-at (at-4 e)) (fits-at e) (says-at (c .before .before)) (omega (arith, long-at (c .before), c .if7 .taken))),
+          (refuses-56 _ _ _ _ _ _ (few-at (at-3 (at-4 e))) (each-at (at-4 e)) (fits-at e) (says-at (c .before .before))
+          (omega (arith, long-at (c .before), c .if7 .taken))),
       λ n h. absurd (let z : _≡_ {A = ℕ} 0 1 = cc in omega arith),
     )
 
@@ -200,7 +207,8 @@ returns-6 c =
     let e = c .before .before .before in (
       λ counted added. ap image-length (long-at (c .before))
           ∙ answered (from-4 e) (accepted (image-at e ∷ []))
-          (accepts _ _ _ _ _ (few-at (at-3 (at-4 e))) (each-at (at-4 e)) (fits-at e) (says-at (c .before .before)) (omega (arith, long-at (c .before), c .if7 .left))) counted added,
+          (accepts _ _ _ _ _ _ (few-at (at-3 (at-4 e))) (each-at (at-4 e)) (fits-at e) (says-at (c .before .before))
+          (omega (arith, long-at (c .before), c .if7 .left))) counted added,
       λ n h. (all-few (at-3 (at-4 e)), at-4 e .if3 .left),
     )
 

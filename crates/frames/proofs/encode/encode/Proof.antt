@@ -9,7 +9,8 @@ use mathlib.Core.Logic.{⊎-elim}
 use types.Run.{OneOf}
 use Rattle.headers.specs.Block.{entries, listed}
 use Rattle.headers.specs.Answers.{is-block}
-use Rattle.frames.specs.Grammar.{v1-2}
+use Rattle.frames.specs.Grammar.{crlf}
+use Rattle.frames.specs.declared.version.Version.{Version}
 use Rattle.frames.specs.Encoding.{Call, adds-length, encode-answer, encode-index, encode-image}
 use Rattle.frames.specs.Writing.{image-of}
 use Rattle.frames.specs.Answers.{encoded-says}
@@ -37,6 +38,9 @@ enum-known-answer c = search needs
 abbrev call : tie.After-settle → Call
 call c = let a = c .before .before .before .before .before .before .args in record { command = a .command; block = a .block .now; body = a .body .now; counted = a .counted }
 
+abbrev ver : tie.After-settle → Version
+ver c = c .before .before .before .before .before .before .args .version
+
 abbrev room : tie.After-settle → ℕ
 room c = length (c .before .before .before .before .before .before .args .target .now)
 
@@ -50,19 +54,19 @@ flag c h =
     c .before .adds-length .ensures ∙ adds-told (k .block) (c .before .before .declared-length .result) (c .before .before .declared-length .ensures) h (k .body) (k .counted)
 
 -- so the answer is that of the definition
-answered : (c : tie.After-settle) → encoded-says (c .settle .result .answer) ≡ says-of (call c) (room c)
+answered : (c : tie.After-settle) → encoded-says (c .settle .result .answer) ≡ says-of (ver c) (call c) (room c)
 answered c = c .settle .ensures .0 (call c .counted) (flag c)
 
-settled : (c : tie.After-settle) (n : ℕ) → c .settle .result .answer ≡ Encoded.Length n → Writes (call c) (room c) n
-settled c n e = writes (call c) (room c) n (ap encoded-says (sym e) ∙ answered c)
+settled : (c : tie.After-settle) (n : ℕ) → c .settle .result .answer ≡ Encoded.Length n → Writes (ver c) (call c) (room c) n
+settled c n e = writes (ver c) (call c) (room c) n (ap encoded-says (sym e) ∙ answered c)
 
 -- and so is the image, where there is one
 image-told : (c : tie.After-settle) (n : ℕ) → c .settle .result .answer ≡ Encoded.Length n
-    → let k = call c in image-of (k .command) (listed (entries (k .block))) (adds c) (k .body) ≡ encode-image v1-2 k
+    → let k = call c in image-of (crlf (ver c)) (k .command) (listed (entries (k .block))) (adds c) (k .body) ≡ encode-image (ver c) k
 image-told c n e =
     let k = call c in
     let w = settled c n e in
-    ap (λ b. image-of (k .command) (listed (entries (k .block))) b (k .body)) (flag c (w .block-read)) ∙ sym (w .written)
+    ap (λ b. image-of (crlf (ver c)) (k .command) (listed (entries (k .block))) b (k .body)) (flag c (w .block-read)) ∙ sym (w .written)
 
 put-frame-requires : tie.Need-put-frame-requires
 put-frame-requires c κs =
@@ -83,7 +87,7 @@ returns c =
     let put = c .before .before .put-frame .ensures ∙ ap (λ z. z ++ drop (length z) target) (image-told s _ e) in
     record {
       answered = ap encoded-says (sym e) ∙ answered s;
-      written = acceptance _ _ (encode-image v1-2 (call s)) target _ (settled s _ e .answer) put .1;
+      written = acceptance _ _ (encode-image (ver s) (call s)) target _ (settled s _ e .answer) put .1;
     }
 
 -- the tags of the other answers
@@ -98,8 +102,9 @@ returns-2 c =
     record {
       answered = answered s;
       written =
-          sym (stays (s .settle .result .answer) (encode-answer v1-2 k (room s)) (encode-index v1-2 k) (answered s) (λ n e. no-length (rw e at (c .match .keys2)))
-          (encode-image v1-2 k) (s .before .before .before .before .before .before .args .target .now));
+          sym (stays (s .settle .result .answer) (encode-answer (ver s) k (room s)) (encode-index (ver s) k)
+          (answered s) (λ n e. no-length (rw e at (c .match .keys2)))
+          (encode-image (ver s) k) (s .before .before .before .before .before .before .args .target .now));
     }
 
 pub encode-spec : {M : Type 1} → statement M

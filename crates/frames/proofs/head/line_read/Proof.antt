@@ -20,13 +20,13 @@ in-head-requires-2 : tie.Need-in-head-requires-2
 in-head-requires-2 c κs = search needs
 
 returns-2 : tie.Need-returns-2
-returns-2 c = simp (c .in-head2 .ensures, ne-eqb _ _ (c .before .before .before .if1 .left), eq-eqb _ _ (c .before .before .if2 .taken))
+returns-2 c = rw (ne-eqb _ _ (c .before .before .before .before .if1 .left), c .before .before .if2 .taken) (c .in-head2 .ensures)
 
 refused-requires : tie.Need-refused-requires
 refused-requires c κs = search needs
 
 returns-3 : tie.Need-returns-3
-returns-3 c = simp (c .refused .ensures, ne-eqb _ _ (c .before .before .if1 .left), ne-eqb _ _ (c .before .if2 .left))
+returns-3 c = simp (c .refused .ensures, ne-eqb _ _ (c .before .before .before .if1 .left), c .before .if2 .left)
 
 pub line-read-spec : {M : Type 1} → statement M
 line-read-spec =

@@ -21,7 +21,7 @@ in-head-requires c κs = search needs
 returns-2 : tie.Need-returns-2
 unfolding on-begin
 returns-2 c =
-    simp (c .in-head .ensures, ne-eqb _ _ (c .before .before .if1 .left), eq-eqb _ _ (c .before .if2 .taken))
+    simp (c .in-head .ensures, ne-eqb _ _ (c .before .before .before .if1 .left), c .before .if2 .taken)
 
 refused-requires : tie.Need-refused-requires
 refused-requires c κs = search needs
@@ -29,7 +29,7 @@ refused-requires c κs = search needs
 returns-3 : tie.Need-returns-3
 unfolding on-begin
 returns-3 c =
-    simp (c .refused .ensures, ne-eqb _ _ (c .before .before .before .if1 .left), ne-eqb _ _ (c .before .before .if2 .left), eq-eqb _ _ (c .before .if3 .taken))
+    simp (c .refused .ensures, ne-eqb _ _ (c .before .before .before .before .if1 .left), c .before .before .if2 .left, eq-eqb _ _ (c .before .if3 .taken))
 
 begins-character-requires : tie.Need-begins-character-requires
 begins-character-requires c κs = search needs
@@ -39,22 +39,27 @@ refused-requires-2 c κs = search needs
 
 returns-4 : tie.Need-returns-4
 returns-4 c =
-    let p = ne-eqb _ _ (c .before .before .before .before .before .if1 .left) in
-    let q = ne-eqb _ _ (c .before .before .before .before .if2 .left) in
+    let a = c .before .before .before .before .before .before .before in
+    let p = ne-eqb _ _ (c .before .before .before .before .before .before .if1 .left) in
+    let q = c .before .before .before .before .if2 .left in
     let r = ne-eqb _ _ (c .before .before .before .if3 .left) in
-    let last = past-last (c .before .before .before .before .before .before .args .st) (c .before .before .before .before .before .before .args .x) p q r (c .before .before .before .before .before .before .pre .1) in
-    c .refused2 .ensures ∙ sym (begin-more (c .before .before .before .before .before .before .args .st) (c .before .before .before .before .before .before .args .x) p q r last ∙ more-start (c .before .before .before .before .before .before .args .st) (c .before .before .before .before .before .before .args .x) (no-stop (c .before .before .before .before .before .before .args .st) (c .before .before .before .before .before .before .args .x) p q r) (sym (c .before .before .begins-character .ensures) ∙ c .before .if4 .taken))
+    let last = past-last (a .args .st) (a .args .x) p q r (a .pre .1) in
+    let starts = sym (c .before .before .begins-character .ensures) ∙ c .before .if4 .taken in
+    c .refused2 .ensures
+    ∙ sym (begin-more (a .args .st) (a .args .x) p q r last ∙ more-start (a .args .st) (a .args .x) (no-stop (a .args .st) (a .args .x) p q r) starts)
 
 refused-requires-3 : tie.Need-refused-requires-3
 refused-requires-3 c κs = search needs
 
 returns-5 : tie.Need-returns-5
 returns-5 c =
-    let p = ne-eqb _ _ (c .before .before .before .before .before .if1 .left) in
-    let q = ne-eqb _ _ (c .before .before .before .before .if2 .left) in
+    let a = c .before .before .before .before .before .before .before in
+    let p = ne-eqb _ _ (c .before .before .before .before .before .before .if1 .left) in
+    let q = c .before .before .before .before .if2 .left in
     let r = ne-eqb _ _ (c .before .before .before .if3 .left) in
-    let last = past-last (c .before .before .before .before .before .before .args .st) (c .before .before .before .before .before .before .args .x) p q r (c .before .before .before .before .before .before .pre .1) in
-    c .refused3 .ensures ∙ sym (begin-more (c .before .before .before .before .before .before .args .st) (c .before .before .before .before .before .before .args .x) p q r last ∙ more-bad (c .before .before .before .before .before .before .args .st) (c .before .before .before .before .before .before .args .x) (sym (c .before .before .begins-character .ensures) ∙ c .before .if4 .left))
+    let last = past-last (a .args .st) (a .args .x) p q r (a .pre .1) in
+    c .refused3 .ensures
+    ∙ sym (begin-more (a .args .st) (a .args .x) p q r last ∙ more-bad (a .args .st) (a .args .x) (sym (c .before .before .begins-character .ensures) ∙ c .before .if4 .left))
 
 pub on-begin-spec : {M : Type 1} → statement M
 on-begin-spec =

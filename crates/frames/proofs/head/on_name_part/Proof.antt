@@ -16,7 +16,7 @@ on-back-requires c κs = search needs
 
 returns : tie.Need-returns
 returns c =
-    c .on-back .ensures ∙ ap (λ m. after-back (c .before .before .before .before .args .st) (c .before .before .before .before .args .x) (is-letter (style-of (c .before .before .before .before .args .st .command)) (c .before .before .before .before .args .x)) 511 5 m) (c .before .before .before .advance .ensures) ∙ sym (ap (λ p. on-name (c .before .before .before .before .args .st) p (c .before .before .before .before .args .x)) (text-back (c .before .if1 .taken)) ∙ name-back (c .before .before .before .before .args .st) (c .before .before .before .before .args .x))
+    c .on-back .ensures ∙ ap (λ m. after-back (c .before .before .before .before .args .st) (c .before .before .before .before .args .x) (is-letter (style-of (c .before .before .before .before .args .st .crlf) (c .before .before .before .before .args .st .command)) (c .before .before .before .before .args .x)) 511 5 m) (c .before .before .before .advance .ensures) ∙ sym (ap (λ p. on-name (c .before .before .before .before .args .st) p (c .before .before .before .before .args .x)) (text-back (c .before .if1 .taken)) ∙ name-back (c .before .before .before .before .args .st) (c .before .before .before .before .args .x))
 
 on-utf8-requires : tie.Need-on-utf8-requires
 on-utf8-requires c κs = search needs

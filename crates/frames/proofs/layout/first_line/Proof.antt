@@ -14,9 +14,9 @@ behind-end-requires c κs = search needs
 
 returns : tie.Need-returns
 returns c =
-    let s = c .before .before .before .args .s .now in
+    let a = c .before .before .before .args in
     let behind = c .behind-end .ensures in
-    (behind .1, behind .2 ∙ ap behind-end (cut-end 10 s 0 _ (c .before .stop-at .ensures .0)))
+    (behind .1, behind .2 ∙ ap behind-end (cut-end (a .cr) 10 (a .s .now) 0 _ (c .before .stop-at .ensures .0)))
 
 pub first-line-spec : {M : Type 1} → statement M
 first-line-spec = tie.close (tie.spec stop-at-requires behind-end-requires returns)

@@ -30,14 +30,15 @@ returns c =
     let end = c .before .text-end2 in
     let next = c .behind-end in
     let cut =
-    line-cut s (a .i) (colon .result .at) (value .result) (end .result .at) (next .result) (colon .ensures .0) (on-drop s (colon .result .at) 1 _ (value .ensures .2) (value .ensures .3)) (end .ensures .0)
+    line-cut (a .cr) s (a .i) (colon .result .at) (value .result) (end .result .at) (next .result) (colon .ensures .0)
+    (on-drop s (colon .result .at) 1 _ (value .ensures .2) (value .ensures .3)) (end .ensures .0)
     (next .ensures .2) in (
       (omega arith, value .ensures .0, omega arith, next .ensures .0, next .ensures .1),
       cut .0,
       cut .1,
       cut .2,
       colon .ensures .2,
-      subst (λ z. Stretch (take (stop-span 10 z) z) (end .result .known)) (cut .3) (end .ensures .2),
+      subst (λ z. Stretch (take (stop-span (a .cr) 10 z) z) (end .result .known)) (cut .3) (end .ensures .2),
     )
 
 pub line-at-spec : {M : Type 1} → statement M

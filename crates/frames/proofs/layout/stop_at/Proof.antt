@@ -18,10 +18,11 @@ plain-span-requires : tie.Need-plain-span-requires
 plain-span-requires c κs = search needs
 
 add-result : tie.Need-add-result
-add-result c = let a = c .before .before .before in omega (arith, stop-place (a .args .colon) (a .args .s .now) (a .args .i) _ (a .pre) (c .plain-span .ensures))
+add-result c = let a = c .before .before .before in
+    omega (arith, stop-place (a .args .cr) (a .args .colon) (a .args .s .now) (a .args .i) _ (a .pre) (c .plain-span .ensures))
 
 returns : tie.Need-returns
-returns c = let a = c .before .before .before in stop-place (a .args .colon) (a .args .s .now) (a .args .i) _ (a .pre) (c .plain-span .ensures)
+returns c = let a = c .before .before .before in stop-place (a .args .cr) (a .args .colon) (a .args .s .now) (a .args .i) _ (a .pre) (c .plain-span .ensures)
 
 pub stop-at-spec : {M : Type 1} → statement M
 stop-at-spec =

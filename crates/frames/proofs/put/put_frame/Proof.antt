@@ -10,6 +10,7 @@ use mathlib.Core.Bool.{Bool, true, false, cond}
 use Rattle.headers.specs.Block.{Entry, entries, listed}
 use Rattle.headers.specs.Stretches.{unescaped}
 use Rattle.headers.specs.declared.text.Style.{Style}
+use Rattle.frames.specs.Grammar.{crlf}
 use Rattle.frames.specs.Scanning.{word-of, style-of}
 use Rattle.frames.specs.Encoding.{written-lines}
 use Rattle.frames.specs.Writing.{added-octets, image-of}
@@ -17,47 +18,55 @@ use Rattle.headers.proofs.Put.{Partly, partly-first, partly-inside, partly-done
 use Rattle.frames.proofs.put.put_frame.Statement.{statement}
 use Rattle.frames.proofs.put.put_frame.Tie as tie
 
+abbrev start : tie.After-style-of → tie.Start
+start c = c .before .before .before .before .before
+
+style-is : (c : tie.After-style-of) → c .style-of .result ≡ style-of (crlf (start c .args .version)) (start c .args .command)
+style-is c = c .style-of .ensures ∙ ap (λ w. style-of w (start c .args .command)) (c .before .has-crlf .ensures)
+
 -- the parts, each with what stands behind it, and the target
 abbrev body-part : tie.After-style-of → List ℕ
-body-part c = c .before .before .before .before .args .body .now ++ (0 ∷ [])
+body-part c = start c .args .body .now ++ (0 ∷ [])
 
 abbrev added-part : tie.After-style-of → List ℕ
-added-part c = added-octets (c .style-of .result) (c .before .before .before .before .args .adds) (length (c .before .before .before .before .args .body .now))
+added-part c = added-octets (c .style-of .result) (start c .args .adds) (length (start c .args .body .now))
 
 abbrev behind-lines : tie.After-style-of → List ℕ
 behind-lines c = added-part c ++ (10 ∷ body-part c)
 
 abbrev lines-part : tie.After-style-of → List ℕ
-lines-part c = written-lines (c .style-of .result) (listed (entries (c .before .before .before .before .args .block .now)))
+lines-part c = written-lines (c .style-of .result) (listed (entries (start c .args .block .now)))
 
 abbrev behind-word : tie.After-style-of → List ℕ
 behind-word c = lines-part c ++ behind-lines c
 
 abbrev whole : tie.After-style-of → List ℕ
-whole c = word-of (c .before .before .before .before .args .command) ++ (10 ∷ behind-word c)
+whole c = word-of (start c .args .command) ++ (10 ∷ behind-word c)
 
 abbrev target : tie.After-style-of → List ℕ
-target c = c .before .before .before .before .args .d .now
+target c = start c .args .d .now
 
 -- all of them are the image
 abbrev image : tie.After-style-of → List ℕ
-image c = let a = c .before .before .before .before .args in image-of (a .command) (listed (entries (a .block .now))) (a .adds) (a .body .now)
+image c = let a = start c .args in image-of (crlf (a .version)) (a .command) (listed (entries (a .block .now))) (a .adds) (a .body .now)
 
 whole-is : (c : tie.After-style-of) → whole c ≡ image c
 whole-is c =
-    let a = c .before .before .before .before .args in
-    ap (λ s. word-of (a .command) ++ (10 ∷ (written-lines s (listed (entries (a .block .now))) ++ (added-octets s (a .adds) (length (a .body .now)) ++ (10 ∷ body-part c))))) (c .style-of .ensures)
+    let a = start c .args in
+    ap (λ s. word-of (a .command) ++ (10 ∷ (written-lines s (listed (entries (a .block .now)))
+    ++ (added-octets s (a .adds) (length (a .body .now)) ++ (10 ∷ body-part c))))) (style-is c)
 
 -- the lines are the same in the style that they are written in
 lines-are : (p : Bool) (s t : Style) (es : List Entry) → s ≡ t → (p ≡ true → written-lines t es ≡ written-lines unescaped es) → written-lines (cond p unescaped s) es ≡ written-lines s es
 lines-are true s t es e h = sym (h refl) ∙ ap (λ z. written-lines z es) (sym e)
 lines-are false s t es e h = refl
 
-styled : (c : tie.After-line-style) → written-lines (c .line-style .result) (listed (entries (c .before .before .before .before .before .args .block .now))) ≡ lines-part (c .before)
+styled : (c : tie.After-line-style) → written-lines (c .line-style .result) (listed (entries (start (c .before) .args .block .now))) ≡ lines-part (c .before)
 styled c =
-    let b = c .before .before .before .before .before in
+    let b = start (c .before) in
     let es = listed (entries (b .args .block .now)) in
-    ap (λ s. written-lines s es) (c .line-style .ensures) ∙ lines-are (b .args .plain) (c .before .style-of .result) (style-of (b .args .command)) es (c .before .style-of .ensures) (b .pre .3)
+    ap (λ s. written-lines s es) (c .line-style .ensures)
+    ∙ lines-are (b .args .plain) (c .before .style-of .result) (style-of (crlf (b .args .version)) (b .args .command)) es (style-is (c .before)) (b .pre .3)
 
 -- what was known before the word, from each call on
 abbrev at-word : tie.After-put-word → tie.After-style-of
@@ -77,9 +86,9 @@ worded : (c : tie.After-put-word) → Partly (whole (at-word c)) (behind-word (a
 worded c =
     let s = at-word c in
     let p = c .put-word in
-    let W = word-of (s .before .before .before .before .args .command) in
+    let W = word-of (start s .args .command) in
     partly-first (whole s) (W ++ (10 ∷ [])) (behind-word s) (target s) (p .last .0) (p .result)
-    (omega (arith, s .before .before .before .before .pre .2, ap length (whole-is s)))
+    (omega (arith, start s .pre .2, ap length (whole-is s)))
     (append-assoc W (10 ∷ []) (behind-word s))
     (p .ensures .0 ∙ sym (length-append W (10 ∷ [])))
     (p .ensures .1 ∙ ap (λ z. (W ++ (10 ∷ [])) ++ drop z (target s)) (sym (length-append W (10 ∷ []))))
@@ -123,7 +132,11 @@ framed c =
     let h = c .before .before .before .before in
     let R = body-part (at-body c) in
     partly-put (headed h) R [] (sym (append-nil R)) (length R) (c .put-body .last .0) refl
-    (c .put-body .ensures ∙ ap (λ z. R ++ drop z (midOf (added-end h + 1) (length (head-in h) - (added-end h + 1)) (head-in h))) (sym (length-append (at-body c .before .before .before .before .args .body .now) (0 ∷ []))))
+    (c .put-body .ensures ∙ ap (λ z. R ++ drop z (midOf (added-end h + 1) (length (head-in h) - (added-end h + 1)) (head-in h)))
+    (sym (length-append (start (at-body c) .args .body .now) (0 ∷ []))))
+
+has-crlf-requires : tie.Need-has-crlf-requires
+has-crlf-requires c κs = search needs
 
 style-of-requires : tie.Need-style-of-requires
 style-of-requires c κs = search needs
@@ -133,7 +146,7 @@ line-style-requires c κs = search needs
 
 put-word-requires : tie.Need-put-word-requires
 put-word-requires c κs = let s = c .before .before in
-    (s .before .before .before .before .pre .0, omega (arith, s .before .before .before .before .pre .2, ap length (whole-is s), length-append (word-of (s .before .before .before .before .args .command)) (10 ∷ behind-word s)))
+    (start s .pre .0, omega (arith, start s .pre .2, ap length (whole-is s), length-append (word-of (start s .args .command)) (10 ∷ behind-word s)))
 
 sub-put-lines : tie.Need-sub-put-lines
 sub-put-lines c = partly-inside (worded (c .before .before))
@@ -145,8 +158,14 @@ part-put-lines-end : tie.Need-part-put-lines-end
 part-put-lines-end c = search needs
 
 put-lines-requires : tie.Need-put-lines-requires
-put-lines-requires c κs = let s = at-word (c .before .before .before) in
-    (s .before .before .before .before .pre .1, omega (arith, partly-fits (worded (c .before .before .before)) (lines-part s) (behind-lines s) refl, ap length (styled (c .before .before .before .before .before))))
+put-lines-requires c κs = let s = at-word (c .before .before .before) in (
+  start s .pre .1,
+  omega (
+    arith,
+    partly-fits (worded (c .before .before .before)) (lines-part s) (behind-lines s) refl,
+    ap length (styled (c .before .before .before .before .before)),
+  ),
+)
 
 add-at : tie.Need-add-at
 add-at c = omega (arith, partly-inside (lined (c .before .before)), lined (c .before .before) .as-long)
@@ -184,7 +203,11 @@ part-put-body-end c = search needs
 
 put-body-requires : tie.Need-put-body-requires
 put-body-requires c κs = let s = at-added (c .before .before .before) in
-    omega (arith, partly-fits (headed (c .before .before .before)) (body-part s) [] (sym (append-nil (body-part s))), length-append (s .before .before .before .before .args .body .now) (0 ∷ []))
+    omega (
+      arith,
+      partly-fits (headed (c .before .before .before)) (body-part s) [] (sym (append-nil (body-part s))),
+      length-append (start s .args .body .now) (0 ∷ []),
+    )
 
 same-length : tie.Need-same-length
 same-length c = framed (c .before .before) .as-long
@@ -197,6 +220,7 @@ pub put-frame-spec : {M : Type 1} → statement M
 put-frame-spec =
     tie.close
     (tie.spec
+    has-crlf-requires
     style-of-requires
     line-style-requires
     put-word-requires

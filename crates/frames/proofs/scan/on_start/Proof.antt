@@ -3,7 +3,7 @@ use Rattle.frames.specs.Scanning.{on-start}
 use borrow.Author.Tests.{eq-eqb, ne-eqb}
 use borrow.Author.Needs.{needs}
 use lib.Dec.{eqb}
-use mathlib.Core.Bool.{true, false}
+use mathlib.Core.Bool.{true, false, _&&_}
 use mathlib.Core.Path.{_≡_}
 use Rattle.frames.proofs.scan.on_start.Statement.{statement}
 use Rattle.frames.proofs.scan.on_start.Tie as tie
@@ -23,7 +23,7 @@ unfolding on-start
 returns-2 c =
     let x = c .before .before .args .x in
     let p : eqb x 10 ≡ false = ne-eqb x 10 (c .before .if1 .left) in
-    let q : eqb x 13 ≡ true = rw p at (c .before .before .pre .1) in
+    let q : eqb x 13 && c .before .before .args .st .crlf ≡ true = rw p at (c .before .before .pre .1) in
     simp (c .to-phase2 .ensures, p, q)
 
 pub on-start-spec : {M : Type 1} → statement M

@@ -42,14 +42,30 @@ to-phase-requires-3 c κs = search needs
 
 returns-4 : tie.Need-returns-4
 unfolding on-word
-returns-4 c = simp (c .to-phase3 .ensures, ended (c .before .before .before .before .before), ← c .before .before .before .before .whole-command .ensures, ne-eqb _ _ (c .before .before .before .if2 .left), ne-eqb _ _ (c .before .before .if3 .left), eq-eqb _ _ (c .before .if4 .taken))
+returns-4 c =
+    simp (
+      c .to-phase3 .ensures,
+      ended (c .before .before .before .before .before .before),
+      ← c .before .before .before .before .before .whole-command .ensures,
+      ne-eqb _ _ (c .before .before .before .before .if2 .left),
+      ne-eqb _ _ (c .before .before .before .if3 .left),
+      c .before .if4 .taken,
+    )
 
 refused-requires-2 : tie.Need-refused-requires-2
 refused-requires-2 c κs = search needs
 
 returns-5 : tie.Need-returns-5
 unfolding on-word
-returns-5 c = simp (c .refused2 .ensures, ended (c .before .before .before .before .before), ← c .before .before .before .before .whole-command .ensures, ne-eqb _ _ (c .before .before .before .if2 .left), ne-eqb _ _ (c .before .before .if3 .left), ne-eqb _ _ (c .before .if4 .left))
+returns-5 c =
+    simp (
+      c .refused2 .ensures,
+      ended (c .before .before .before .before .before .before),
+      ← c .before .before .before .before .before .whole-command .ensures,
+      ne-eqb _ _ (c .before .before .before .before .if2 .left),
+      ne-eqb _ _ (c .before .before .before .if3 .left),
+      c .before .if4 .left,
+    )
 
 pub on-word-spec : {M : Type 1} → statement M
 on-word-spec =

@@ -32,7 +32,7 @@ returns-2 c =
 
 on-value-part-requires : tie.Need-on-value-part-requires
 on-value-part-requires c κs =
-    (bounded _ (c .before .before .before .pre .0), begun-some (style-of (c .before .before .before .args .st .command)) (c .before .before .before .args .st .rest) (c .before .before .before .pre .0 .under-way (inside-value (c .if3 .taken))))
+    (bounded _ (c .before .before .before .pre .0), begun-some (style-of (c .before .before .before .args .st .crlf) (c .before .before .before .args .st .command)) (c .before .before .before .args .st .rest) (c .before .before .before .pre .0 .under-way (inside-value (c .if3 .taken))))
 
 returns-3 : tie.Need-returns-3
 unfolding scan-step
@@ -41,7 +41,7 @@ returns-3 c =
 
 on-name-part-requires : tie.Need-on-name-part-requires
 on-name-part-requires c κs =
-    (bounded _ (c .before .before .before .before .pre .0), begun-some (style-of (c .before .before .before .before .args .st .command)) (c .before .before .before .before .args .st .rest) (c .before .before .before .before .pre .0 .under-way (inside-name (c .if4 .taken))))
+    (bounded _ (c .before .before .before .before .pre .0), begun-some (style-of (c .before .before .before .before .args .st .crlf) (c .before .before .before .before .args .st .command)) (c .before .before .before .before .args .st .rest) (c .before .before .before .before .pre .0 .under-way (inside-name (c .if4 .taken))))
 
 returns-4 : tie.Need-returns-4
 unfolding scan-step

@@ -42,24 +42,24 @@ returns-2 c = simp (c .on-102 .ensures, c .before .to-phase2 .ensures, c .before
 
 on-start-requires : tie.Need-on-start-requires
 on-start-requires c κs =
-    let a = c .before .before .before in
-    (bounded _ (a .pre .0), and-right (eqb (a .args .st .phase) 0) (line-ends (a .args .x)) (c .if3 .taken))
+    let a = c .before .before .before .before in
+    (bounded _ (a .pre .0), and-right (eqb (a .args .st .phase) 0) (line-ends (a .args .st) (a .args .x)) (c .if3 .taken))
 
 returns-3 : tie.Need-returns-3
 unfolding scan-step
 returns-3 c =
-    let a = c .before .before .before .before .args in
-    let h : a .st .phase ≡ 0 = eqb-true (a .st .phase) 0 (and-left (eqb (a .st .phase) 0) (line-ends (a .x)) (c .before .if3 .taken)) in
+    let a = c .before .before .before .before .before .args in
+    let h : a .st .phase ≡ 0 = eqb-true (a .st .phase) 0 (and-left (eqb (a .st .phase) 0) (line-ends (a .st) (a .x)) (c .before .if3 .taken)) in
     simp (c .on-start .ensures, h)
 
 on-word-requires : tie.Need-on-word-requires
 on-word-requires c κs =
-    let a = c .before .before .before in
+    let a = c .before .before .before .before in
     (bounded _ (a .pre .0), reached (a .args .st) (a .pre .0) (λ h. let n : a .args .st .phase ≡ 0 → ⊥ = eqb-false (a .args .st .phase) 0 h in omega arith))
 
 returns-4 : tie.Need-returns-4
 returns-4 c =
-    let a = c .before .before .before .before .args in
+    let a = c .before .before .before .before .before .args in
     c .on-word .ensures ∙ sym (word-goes-on (a .st) (a .x) (c .before .if3 .left) (λ h. let n : a .st .phase ≡ 0 → ⊥ = eqb-false (a .st .phase) 0 h in omega arith))
 
 pub step-word-spec : {M : Type 1} → statement M

@@ -1,7 +1,7 @@
 -- `stream::feed` meets its contract: the checks in order, a run over the piece, and a copy of what it took.
 use borrow.Author.Needs.{needs}
 use mathlib.Core.Path.{_≡_, sym, _∙_, ap}
-use mathlib.Core.Bool.{true}
+use mathlib.Core.Bool.{true, cond}
 use Prim.Native.Nat.{_+_, _-_, _≤_}
 use native.Mathlib.Omega.{arith}
 use lib.ListN.{length, take}
@@ -9,8 +9,8 @@ use lib.Seq.{paste}
 use borrow.Author.Tests.{not-true, not-false}
 use Rattle.headers.specs.Rows.{copied}
 use Rattle.headers.proofs.Copying.{copied-front}
-use Rattle.frames.specs.Scanning.{scan}
-use Rattle.frames.specs.Streams.{replied, is-resumable}
+use Rattle.frames.specs.Scanning.{scan, nothing-read}
+use Rattle.frames.specs.Streams.{replied, is-resumable, is-whole}
 use Rattle.frames.proofs.Counting.{scan-counts}
 use Rattle.frames.proofs.Resuming.{resumed, gives-short, gives-invalid, gives-reply}
 use Rattle.frames.proofs.stream.feed.Statement.{statement}
@@ -90,9 +90,11 @@ returns-3 c =
     let n = l .least .result in
     let all : n - 0 ≡ n = omega arith in
     let fits = fitting l in
+    let next = r .run-on .result in
+    let same : next .crlf ≡ a .parser .scan .crlf = ap (λ z. z .crlf) (r .run-on .ensures .0) ∙ scan-counts (a .piece .now) (a .parser .scan) .same-ends in
     let g = gives-reply (a .parser .scan) (a .buffer .now) (a .piece .now) (e .before .before .if1 .left) (passed e) (r .run-on .result) (r .run-on .ensures .0) in (
       ap (λ z. replied z (r .run-on .result .at - a .parser .scan .at)) (c .before .reply .ensures) ∙ g .0,
-      c .next-item .ensures ∙ g .1,
+      c .next-item .ensures ∙ ap (λ w. cond (is-whole next) (nothing-read w) next) same ∙ g .1,
       k .copy .ensures ∙ ap (λ m. copied (a .buffer .now) (a .parser .scan .at) (take m (a .piece .now))) all
           ∙ copied-front (a .buffer .now) (a .parser .scan .at) (a .piece .now) n (fits .0) (fits .1)
           ∙ ap (paste (a .buffer .now) (a .parser .scan .at) (a .piece .now)) (l .least .ensures) ∙ g .2,

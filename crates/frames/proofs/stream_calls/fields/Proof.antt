@@ -25,6 +25,9 @@ cast-code c = search needs
 shared-slice-read-sized : tie.Need-shared-slice-read-sized
 shared-slice-read-sized c = search needs
 
+shared-slice-read-crlf : tie.Need-shared-slice-read-crlf
+shared-slice-read-crlf c = search needs
+
 shared-slice-read-wide-3 : tie.Need-shared-slice-read-wide-3
 shared-slice-read-wide-3 c = search needs
 
@@ -46,16 +49,16 @@ pair-at-requires-2 c κs = search needs
 pair-at-requires-3 : tie.Need-pair-at-requires-3
 pair-at-requires-3 c κs = search needs
 
-shared-slice-read-t18 : tie.Need-shared-slice-read-t18
-shared-slice-read-t18 c = search needs
-
 shared-slice-read-t20 : tie.Need-shared-slice-read-t20
 shared-slice-read-t20 c = search needs
+
+shared-slice-read-t22 : tie.Need-shared-slice-read-t22
+shared-slice-read-t22 c = search needs
 
 returns : tie.Need-returns
 returns c =
     rw
-    (c .before .before .before .before .before .before .before .wide3 .ensures .0, c .before .before .before .before .before .wide4 .ensures .0, c .before .before .before .before .pair-at .ensures, c .before .before .before .pair-at2 .ensures, c .before .before .pair-at3 .ensures, c .before .before .before .before .before .before .before .before .before .before .before .before .wide .ensures .0, c .before .before .before .before .before .before .before .before .before .before .wide2 .ensures .0)
+    (c .before .before .before .before .before .before .before .wide3 .ensures .0, c .before .before .before .before .before .wide4 .ensures .0, c .before .before .before .before .pair-at .ensures, c .before .before .before .pair-at2 .ensures, c .before .before .pair-at3 .ensures, c .before .before .before .before .before .before .before .before .before .before .before .before .before .wide .ensures .0, c .before .before .before .before .before .before .before .before .before .before .before .wide2 .ensures .0)
     refl
 
 pub fields-spec : {M : Type 1} → statement M
@@ -69,6 +72,7 @@ fields-spec =
     wide-requires-2
     cast-code
     shared-slice-read-sized
+    shared-slice-read-crlf
     shared-slice-read-wide-3
     wide-requires-3
     shared-slice-read-wide-4
@@ -76,6 +80,6 @@ fields-spec =
     pair-at-requires
     pair-at-requires-2
     pair-at-requires-3
-    shared-slice-read-t18
     shared-slice-read-t20
+    shared-slice-read-t22
     returns)

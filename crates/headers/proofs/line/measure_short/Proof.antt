@@ -1,7 +1,7 @@
 -- `line::measure_short` meets its contract: the octets 0 after the text are encoded as themselves.
 use borrow.Author.Needs.{needs}
 use mathlib.Core.Path.{_≡_, refl, sym, _∙_, ap}
-use mathlib.Core.Bool.{true, _&&_}
+use mathlib.Core.Bool.{Bool, true, false, _&&_}
 use mathlib.Core.List.{List, _++_}
 use Prim.Native.Nat.{ℕ, _+_, _-_, _≤_, _<_}
 use native.Mathlib.Omega.{arith}
@@ -15,6 +15,7 @@ use Rattle.headers.specs.Escapes.{encode}
 use Rattle.headers.specs.declared.text.Style.{Style}
 use Rattle.headers.proofs.Rows.{and-no, and-yes, every-drop, every-replicate}
 use Rattle.headers.proofs.Stretches.{every-both}
+use Rattle.headers.proofs.Reading.{styled}
 use Rattle.headers.proofs.Coding.{bare, encode-append, encode-bare, encode-twice}
 use Rattle.headers.proofs.Copying.{copied-all}
 use Rattle.headers.proofs.line.measure_short.Statement.{statement}
@@ -25,7 +26,12 @@ abbrev filling : List ℕ → List ℕ
 filling xs = drop (length xs) (replicate 32 0)
 
 zero-bare : (s : Style) → bare s 0 ≡ true
-zero-bare s = simp (and-no)
+zero-bare s = by (s .escapes) (s .crlf)
+  where
+    by : (e c : Bool) → bare (styled e c) 0 ≡ true
+    by true true = refl
+    by true false = refl
+    by false c = refl
 
 module _ (s : Style) (xs block : List ℕ) (short : length xs < 32) (is : block ≡ copied (replicate 32 0) 0 xs) where
   filled : block ≡ xs ++ filling xs

@@ -7,14 +7,15 @@ use Rattle.listing.proofs.replay.replay_in.Statement.{statement}
 use Rattle.listing.proofs.replay.replay_in.Tie as tie
 
 abbrev Inv-loop : tie.InvT-loop
-Inv-loop fd buf₀ block₀ out₀ log at₀ turns₀ buf block out at turns =
-    Room (length buf) (length out) (at .progress) × (length buf ≡ length buf₀) × (length block ≡ length block₀) × (length out ≡ length out₀)
+Inv-loop fd buf₀ buffer₀ block₀ out₀ log at₀ turns₀ buf buffer block out at turns =
+    Room (length buf) (length out) (at .progress) × (length buf ≡ length buf₀) × (length buffer ≡ length buffer₀)
+    × (length block ≡ length block₀) × (length out ≡ length out₀)
 
 abbrev μ-loop : tie.MeasureT-loop
-μ-loop fd buf₀ block₀ out₀ log at₀ turns₀ buf block out at turns = turns
+μ-loop fd buf₀ buffer₀ block₀ out₀ log at₀ turns₀ buf buffer block out at turns = turns
 
-nothing-listed-requires : tie.Need-nothing-listed-requires Inv-loop μ-loop
-nothing-listed-requires c κs = search needs
+nothing-replayed-requires : tie.Need-nothing-replayed-requires Inv-loop μ-loop
+nothing-replayed-requires c κs = search needs
 
 loop-holds : tie.Need-loop-holds Inv-loop μ-loop
 loop-holds c = search needs
@@ -43,6 +44,9 @@ same-length-2 c = search needs
 same-length-3 : tie.Need-same-length-3 Inv-loop μ-loop
 same-length-3 c = search needs
 
+same-length-4 : tie.Need-same-length-4 Inv-loop μ-loop
+same-length-4 c = search needs
+
 returns : tie.Need-returns Inv-loop μ-loop
 returns c = search needs
 
@@ -52,7 +56,7 @@ replay-in-spec =
     (tie.spec
     Inv-loop
     μ-loop
-    nothing-listed-requires
+    nothing-replayed-requires
     loop-holds
     turn-requires
     sub-turns
@@ -62,4 +66,5 @@ replay-in-spec =
     same-length
     same-length-2
     same-length-3
+    same-length-4
     returns)

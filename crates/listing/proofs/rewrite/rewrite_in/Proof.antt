@@ -7,11 +7,11 @@ use Rattle.listing.proofs.rewrite.rewrite_in.Statement.{statement}
 use Rattle.listing.proofs.rewrite.rewrite_in.Tie as tie
 
 abbrev Inv-loop : tie.InvT-loop
-Inv-loop fd buf₀ block₀ out₀ counted p₀ turns₀ buf block out p turns =
+Inv-loop fd buf₀ block₀ out₀ asked p₀ turns₀ buf block out p turns =
     Room (length buf) (length out) p × (length buf ≡ length buf₀) × (length block ≡ length block₀) × (length out ≡ length out₀)
 
 abbrev μ-loop : tie.MeasureT-loop
-μ-loop fd buf₀ block₀ out₀ counted p₀ turns₀ buf block out p turns = turns
+μ-loop fd buf₀ block₀ out₀ asked p₀ turns₀ buf block out p turns = turns
 
 nothing-listed-requires : tie.Need-nothing-listed-requires Inv-loop μ-loop
 nothing-listed-requires c κs = search needs

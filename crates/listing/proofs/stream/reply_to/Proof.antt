@@ -2,7 +2,6 @@
 use Prim.Native.Nat.{_≤_, _-_}
 use native.Mathlib.Omega.{arith}
 use lib.ListN.{length, take, drop, length-take, length-drop}
-use Rattle.frames.specs.Grammar.{v1-2}
 use Rattle.frames.proofs.Sizes.{used-within}
 use borrow.Author.Needs.{needs}
 use Rattle.listing.proofs.stream.reply_to.Statement.{statement}
@@ -25,7 +24,7 @@ returns c =
     let a = c .before .before .before .args in
     let xs = take (a .hi - a .lo) (drop (a .lo) (a .buf .now)) in
     let long : length xs ≤ a .hi - a .lo = simp (length-take, length-drop) (omega arith) in
-    (c .parse .ensures .0, omega (arith, used-within v1-2 xs _ (c .parse .ensures .1), long, c .before .before .before .pre .0))
+    (c .parse .ensures .0, omega (arith, used-within (a .version) xs _ (c .parse .ensures .1), long, c .before .before .before .pre .0))
 
 pub reply-to-spec : {M : Type 1} → statement M
 reply-to-spec =

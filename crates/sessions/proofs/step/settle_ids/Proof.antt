@@ -1,7 +1,8 @@
 -- `step::settle_ids` meets its contract: the lower of the two numbers, and what the store made of the first id.
-use mathlib.Core.Path.{refl, sym, ap₂, _∙_}
+use mathlib.Core.Path.{refl, sym, ap, ap₂, _∙_}
 use denote.Ref.{now}
 use Rattle.headers.specs.Block.{entries, listed}
+use Rattle.sessions.specs.Headers.{namings-by}
 use Rattle.sessions.specs.Steps.{settled-number, lower}
 use Rattle.sessions.proofs.Uses.{both-refused, both-accepted, lower-zero}
 use borrow.Author.Needs.{needs}
@@ -28,10 +29,11 @@ lower-requires c κs = search needs
 
 returns : tie.Need-returns
 returns c =
-    λ s lent.
+    λ s lent spoken-is.
     let a = c .before .before .before .before .before .before .before .before .before .before .before .before .before .args in
     let es = listed (entries (now (a .block))) in
     let names = c .before .before .before .before .before .before .before .namings-of in
+    let are = names .ensures .are ∙ ap (λ v. namings-by v (a .command)) (sym spoken-is) in
     let x = c .before .before .before .before .settle-naming .result in
     let y = c .before .before .before .settle-naming2 .result in
     let one = c .before .before .before .before .settle-naming .ensures s lent in
@@ -40,10 +42,10 @@ returns c =
     record {
       first-settled = one;
       refuses = λ some-number acceptance time.
-          both-refused s (names .result) es (a .command) (names .ensures .are) x y one two (c .lower .result) lowest some-number acceptance time _ refl;
+          both-refused s (names .result) es (a .command) are x y one two (c .lower .result) lowest some-number acceptance time _ refl;
       none-refused = λ zero. lower-zero (settled-number x) (settled-number y) (sym lowest ∙ zero);
       accepts = λ zero acceptance time.
-          both-accepted s (names .result) es (a .command) (names .ensures .are) x y one two (c .lower .result) lowest (names .ensures .second-stays) zero _
+          both-accepted s (names .result) es (a .command) are x y one two (c .lower .result) lowest (names .ensures .second-stays) zero _
           (λ z. refl) acceptance time _ refl;
     }
 

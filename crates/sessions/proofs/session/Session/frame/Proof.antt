@@ -60,7 +60,8 @@ formed : (c : tie.Else2) → unknown (c .before .before .before .before .before 
     .command) || not (is-block (now (c .before .before .before .before .before .before .before .before .before .before .before .before .before
     .before .before .before .before .before .before .before .before .before .before .before .before .before .before .before .before .before .before
     .args .block))) ≡ false
-formed c = ap₂ (λ x y. x || not y) (sym (c .before .before .is-unknown .ensures)) (sym (c .before .before .before .note .ensures .well-formed)) ∙ c .if2 .left
+formed c = ap₂ (λ x y. x || not y) (sym (c .before .before .is-unknown .ensures)) (sym (c .before .before .before .note .ensures .well-formed)) ∙ c
+    .if2 .left
 
 noted : (c : tie.Else2) → AllNoted (now (c .before .before .before .before .before .before .before .before .before .before .before .before .before
     .before .before .before .before .before .before .before .before .before .before .before .before .before .before .before .before .before .before
@@ -74,34 +75,37 @@ module _ (c : tie.After-act) where
   abbrev s : Session
   s = c .before .before .before .before .before .before .before .before .before .before .before .before .before .before .before .before .before
       .before .before .before .before .before .before .before .before .before .before .before .before .before .before .before .before .before .before
-      .before .before .before .before .before .before .before .args .t1
+      .before .before .before .before .before .before .before .before .before .args .t1
 
   abbrev block : List ℕ
   block = now (c .before .before .before .before .before .before .before .before .before .before .before .before .before .before .before .before
       .before .before .before .before .before .before .before .before .before .before .before .before .before .before .before .before .before .before
-      .before .before .before .before .before .before .before .before .args .block)
+      .before .before .before .before .before .before .before .before .before .before .args .block)
 
   abbrev time : ℕ
   time = c .before .before .before .before .before .before .before .before .before .before .before .before .before .before .before .before .before
       .before .before .before .before .before .before .before .before .before .before .before .before .before .before .before .before .before .before
-      .before .before .before .before .before .before .before .args .time
+      .before .before .before .before .before .before .before .before .before .args .time
 
   abbrev step : Step
   step = c .act .result
 
   changed : (x : Change) → step .change ≡ x → (after : Session) → after ≡ changed-by s block time (step .agreed) x
       → (answer-says (step .answer) ≡ frame-answer s (c .before .before .before .before .before .before .before .before .before .before .before
-      .before .before .before .before .before .before .before .before .before .before .before .before .before .before .before .before .before .before
-      .before .before .before .before .before .before .before .before .before .before .before .before .before .args .command) block) × (after ≡
+      .before .before .before .before .before .before .before .before .before .before .before .before .before .before .before .before .before
+      .before .before .before .before .before .before .before .before .before .before .before .before .before .before .before .before .args
+      .command) block) × (after ≡
       frame-session s (c .before .before .before .before .before .before .before .before .before .before .before .before .before .before .before
-      .before .before .before .before .before .before .before .before .before .before .before .before .before .before .before .before .before .before
-      .before .before .before .before .before .before .before .before .before .args .command) block time)
+      .before .before .before .before .before .before .before .before .before .before .before .before .before .before .before .before .before
+      .before .before .before .before .before .before .before .before .before .before .before .before .args .command) block time)
   changed x k after e =
       let (a, b) = frame-gives s (c .before .before .before .before .before .before .before .before .before .before .before .before .before .before
-      .before .before .before .before .before .before .before .before .before .before .before .before .before .before .before .before .before .before
-      .before .before .before .before .before .before .before .before .before .before .args .command) block time (outcome-of s block time step)
+      .before .before .before .before .before .before .before .before .before .before .before .before .before .before .before .before .before
+      .before .before .before .before .before .before .before .before .before .before .before .before .before .args .command) block time
+      (outcome-of s block time step)
       (gives-on _ _ (ap not (valid (c .before .before .before .before .before .before .before .before .before .before .before .before .before .before
-      .before))) (gives-on _ _ (formed (c .before .before .before .before .before .before .before .before .before .before .before)) (c .act .ensures
+      .before .before .before))) (gives-on _ _ (formed (c .before .before .before .before .before .before .before .before .before .before .before
+      .before .before)) (c .act .ensures
       .gives time))) in
       (a, e ∙ ap (changed-by s block time (step .agreed)) (sym k) ∙ b)
 
@@ -122,17 +126,19 @@ module _ (c : tie.After-put2) where
       .before .before .before .before .before .before))
       → (answer-says (step (c .before .before .before .before .before .before .before .before .before .before) .answer) ≡ frame-answer (s (c .before
       .before .before .before .before .before .before .before .before .before)) (c .before .before .before .before .before .before .before .before
-      .before .before .before .before .before .before .before .before .before .before .before .before .before .before .before .before .before .before
-      .before .before .before .before .before .before .before .before .before .before .before .before .before .before .before .before .before .before
-      .before .before .before .before .before .before .before .before .args .command) (block (c .before .before .before .before .before .before
+      .before .before .before .before .before .before .before .before .before .before .before .before .before .before .before .before .before
+      .before .before .before .before .before .before .before .before .before .before .before .before .before .before .before .before .before
+      .before .before .before .before .before .before .before .before .before .before .before .before .args .command) (block (c .before .before
+      .before .before .before .before
       .before .before .before .before)))
       × (heard (with-deliveries (with-transactions (with-subscriptions (s (c .before .before .before .before .before .before .before .before .before
       .before)) (c .before .before .set-mode .result)) (c .put2 .result)) d) (time (c .before .before .before .before .before .before .before .before
       .before .before))
       ≡ frame-session (s (c .before .before .before .before .before .before .before .before .before .before)) (c .before .before .before .before
-      .before .before .before .before .before .before .before .before .before .before .before .before .before .before .before .before .before .before
-      .before .before .before .before .before .before .before .before .before .before .before .before .before .before .before .before .before .before
-      .before .before .before .before .before .before .before .before .before .before .before .before .args .command) (block (c .before .before
+      .before .before .before .before .before .before .before .before .before .before .before .before .before .before .before .before .before
+      .before .before .before .before .before .before .before .before .before .before .before .before .before .before .before .before .before
+      .before .before .before .before .before .before .before .before .before .before .before .before .before .before .before .before .args
+      .command) (block (c .before .before
       .before .before .before .before .before .before .before .before)) (time (c .before .before .before .before .before .before .before .before
       .before .before)))
   used d e =
@@ -185,27 +191,30 @@ returns-2 c =
     frame-gives (a .t1) (a .command) (now (a .block)) (a .time) _
     (gives-on _ _ (ap not (valid (c .before .before .before .before .before))) (gives-kept _ 39 _ fails refl (c .kept2 .ensures)))
 
+chosen-requires : tie.Need-chosen-requires
+chosen-requires c κs = search needs
+
 settle-ids-requires : tie.Need-settle-ids-requires
 settle-ids-requires c κs =
     let s = c .before .before .before .before .before .before .before .before .before .before .before .before .before .before .before .before .before
     .before .before .before .before .before .before .before .before .before .before .before .before .before .before .before .before .before
-    .before .before .before .before .before .before in
-    let v = valid (c .before .before .before .before .before .before .before .before .before .before .before .before .before) in
+    .before .before .before .before .before .before .before .before in
+    let v = valid (c .before .before .before .before .before .before .before .before .before .before .before .before .before .before .before) in
     let sized = kept s v .ids .sized in (
       fits-of (s .args .t1) sized v Subscriptions,
       fits-of (s .args .t1) sized v Transactions,
-      noted (c .before .before .before .before .before
-          .before .before .before .before),
+      noted (c .before .before .before .before .before .before .before .before .before .before .before),
     )
 
 act-requires : tie.Need-act-requires
 act-requires c κs = (
-  valid (c .before .before .before .before .before .before .before .before .before .before .before .before .before .before),
-  noted (c .before .before .before .before .before .before .before .before .before .before),
+  valid (c .before .before .before .before .before .before .before .before .before .before .before .before .before .before .before .before),
+  noted (c .before .before .before .before .before .before .before .before .before .before .before .before),
   c .settle-ids .ensures (c .before .before .before .before .before .before .before .before .before .before .before .before .before .before .before
       .before .before .before .before .before .before .before .before .before .before .before .before .before .before .before .before .before .before
-      .before .before .before .before .before .before .before .before .args .t1)
-      (record { subs-are = refl; sub-lens-are = refl; txs-are = refl; tx-lens-are = refl }),
+      .before .before .before .before .before .before .before .before .before .before .args .t1)
+      (record { subs-are = refl; sub-lens-are = refl; txs-are = refl; tx-lens-are = refl }) (sym (c .before .before .before .before .before .before
+      .before .before .before .before .chosen .ensures)),
 )
 
 enum-told : tie.Need-enum-told
@@ -257,11 +266,11 @@ dropped-requires : tie.Need-dropped-requires
 dropped-requires c κs =
     let d = c .before .before .before .before .before .before .before .before .before .before .before .before .before .before in (
       laid-of (s d) (kept (c .before .before .before .before .before .before .before .before .before .before .before .before .before .before .before
-          .before .before .before .before .before .before .before .before .before .before .before .before .before .before .before .before .before .before
-          .before .before .before .before .before .before .before .before .before .before .before .before .before .before .before .before .before .before
-          .before .before .before .before .before) (valid (c .before .before .before .before .before .before .before .before .before .before .before
           .before .before .before .before .before .before .before .before .before .before .before .before .before .before .before .before .before
-          .before))),
+          .before .before .before .before .before .before .before .before .before .before .before .before .before .before .before .before .before
+          .before .before .before .before .before .before .before .before .before) (valid (c .before .before .before .before .before .before .before
+          .before .before .before .before .before .before .before .before .before .before .before .before .before .before .before .before .before
+          .before .before .before .before .before .before .before))),
       subst ModeFits (c .before .before .further2 .given .1) (asked (c .before .before .before .before .before .before .before .before
           .before .before) .mode-fits),
     )
@@ -272,21 +281,21 @@ enum-known-further-3 c = search needs
 slice-aggregate-settled : tie.Need-slice-aggregate-settled
 slice-aggregate-settled c = search (
   needs,
-  c .before .before .before .before .before .before .before .before .before .before .before .before .before
+  c .before .before .before .before .before .before .before .before .before .before .before .before .before .before .before .before .before .before
       .before .before .before .before .before .before .before .before .before .before .before .before .before .before .before .before .before .before
       .before .before .before .before .before .before .before .before .before .before .before .before .before .before .before .before .before .before
-      .before .before .before .before .before .before .before .before .good .0 .1 .1 .1 .1 .0,
+      .before .before .before .before .before .good .0 .1 .1 .1 .1 .0,
 )
 
 settled-requires : tie.Need-settled-requires
 settled-requires c κs =
     let d = c .before .before .before .before .before .before .before .before .before .before .before .before .before .before .before in (
       laid-of (s d) (kept (c .before .before .before .before .before .before .before .before .before .before .before .before .before .before .before
-          .before .before .before .before .before .before .before .before .before .before .before .before .before .before .before .before .before .before
-          .before .before .before .before .before .before .before .before .before .before .before .before .before .before .before .before .before .before
-          .before .before .before .before .before .before) (valid (c .before .before .before .before .before .before .before .before .before .before
-          .before .before .before .before .before .before .before .before .before .before .before .before .before .before .before .before .before .before
-          .before .before))),
+          .before .before .before .before .before .before .before .before .before .before .before .before .before .before .before .before .before
+          .before .before .before .before .before .before .before .before .before .before .before .before .before .before .before .before .before
+          .before .before .before .before .before .before .before .before .before .before) (valid (c .before .before .before .before .before .before
+          .before .before .before .before .before .before .before .before .before .before .before .before .before .before .before .before .before
+          .before .before .before .before .before .before .before .before .before))),
       subst (λ f. SettleFits f (s d .deliveries)) (c .before .before .before .further3 .given .1) (asked (c .before .before .before
           .before .before .before .before .before .before .before .before) .settle-fits) .number-inside,
     )
@@ -307,7 +316,8 @@ returns-8 c = used (c .before .before .before) _ (ap (λ f. deliveries-by f (s (
 
 returns-9 : tie.Need-returns-9
 returns-9 c = used (c .before .before .before .before .before) _ (c .dropped .ensures ∙ ap (λ f. deliveries-by f (s (c .before .before .before
-    .before .before .before .before .before .before .before .before .before .before .before .before))) (sym (c .before .before .before .further2 .given .1)))
+    .before .before .before .before .before .before .before .before .before .before .before .before))) (sym (c .before .before .before .further2
+    .given .1)))
 
 returns-10 : tie.Need-returns-10
 returns-10 c =
@@ -330,6 +340,7 @@ frame-spec =
     is-unknown-requires
     kept-requires-2
     returns-2
+    chosen-requires
     settle-ids-requires
     act-requires
     enum-told

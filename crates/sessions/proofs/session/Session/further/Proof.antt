@@ -4,7 +4,7 @@ use denote.Ref.{now}
 use borrow.Author.Tests.{ne-eqb}
 use Rattle.headers.specs.Block.{entries, listed}
 use Rattle.sessions.specs.Reads.{mode-says}
-use Rattle.sessions.proofs.Steps.{dropping-has, settling-has}
+use Rattle.sessions.proofs.Steps.{dropping-has}
 use Rattle.sessions.proofs.Locating.{located-there}
 use Rattle.sessions.proofs.Deciding.{looks-mode-unknown, looks-mode, looks-dropped, looks-label, looks-none}
 use borrow.Author.Needs.{needs}
@@ -55,41 +55,27 @@ returns-3 c =
     let s = c .before .before .before .before .before .before in
     let a = s .args in
     let es = listed (entries (now (a .block))) in
-    looks-dropped (a .self) (a .command) es (c .before .before .if2 .taken) _ _
-    (located-there (c .before .before .before .locate .ensures) (dropping-has (a .self) (a .command) es (s .pre .2) (c .before .before .if2 .taken)))
+    let e = c .before .before .before .if2 .taken in
+    looks-dropped (a .self) (a .command) es e _ _ (located-there (c .before .before .locate .ensures) (dropping-has (a .self) (a .command) es (s .pre .2) e))
     (c .drop-deliveries .ensures)
 
 settles-requires : tie.Need-settles-requires
 settles-requires c κs = search needs
 
-sub-settle-label : tie.Need-sub-settle-label
-sub-settle-label c = search needs
-
-part-settle-label-start : tie.Need-part-settle-label-start
-part-settle-label-start c = search needs
-
-part-settle-label-end : tie.Need-part-settle-label-end
-part-settle-label-end c = search needs
-
-settle-label-requires : tie.Need-settle-label-requires
-settle-label-requires c κs = search needs
+settle-requires : tie.Need-settle-requires
+settle-requires c κs = search needs
 
 returns-4 : tie.Need-returns-4
 returns-4 c =
-    let s = c .before .before .before .before .before .before .before .before in
+    let s = c .before .before .before .before .before .before in
     let a = s .args in
-    let es = listed (entries (now (a .block))) in
-    let t = sym (c .before .before .before .settles .ensures) ∙ c .before .before .if3 .taken in
-    looks-label (a .self) (a .command) es (ne-eqb _ _ (c .before .before .before .before .before .before .if1 .left)) (ne-eqb _ _ (c .before .before
-    .before .before .if2 .left)) t _
-    (located-there (c .before .before .before .before .before .locate .ensures) (settling-has (a .self) (a .command) es (s .pre .2) t)) (c
-    .settle-label .result) (c .settle-label .ensures)
+    looks-label (a .self) (a .command) (listed (entries (now (a .block)))) (ne-eqb _ _ (c .before .before .before .before .if1 .left)) (ne-eqb _ _ (c .before .before .before .if2 .left))
+    (sym (c .before .before .settles .ensures) ∙ c .before .if3 .taken) (s .pre .2) (c .settle .result) (c .settle .ensures)
 
 returns-5 : tie.Need-returns-5
 returns-5 c =
-    let a = c .before .before .before .before .before .before .args in
-    looks-none (a .self) (a .command) (listed (entries (now (a .block)))) (ne-eqb _ _ (c .before .before .before .before .if1 .left)) (ne-eqb _ _ (c
-    .before .before .if2 .left))
+    let a = c .before .before .before .before .before .args in
+    looks-none (a .self) (a .command) (listed (entries (now (a .block)))) (ne-eqb _ _ (c .before .before .before .if1 .left)) (ne-eqb _ _ (c .before .before .if2 .left))
     (sym (c .before .settles .ensures) ∙ c .if3 .left)
 
 pub further-spec : {M : Type 1} → statement M
@@ -109,9 +95,6 @@ further-spec =
     drop-deliveries-requires
     returns-3
     settles-requires
-    sub-settle-label
-    part-settle-label-start
-    part-settle-label-end
-    settle-label-requires
+    settle-requires
     returns-4
     returns-5)

@@ -1,11 +1,12 @@
 -- `session::Session::settle_label` meets its contract: settled, or 60. Assumes nothing.
-use mathlib.Core.Path.{_≡_}
+use mathlib.Core.Path.{_≡_, sym, _∙_}
 use mathlib.Core.Bool.{true}
 use Rattle.sessions.specs.Sessions.{is-valid}
 use Rattle.sessions.proofs.Kept.{Kept, kept-of}
 use denote.Ref.{now}
-use Rattle.sessions.proofs.Delivering.{laid-of, says-at, says-nowhere}
-use Rattle.sessions.proofs.Deciding.{label-settles, label-fails}
+use Rattle.sessions.proofs.Delivering.{laid-of, says-at, says-nowhere, label-found}
+use Rattle.sessions.proofs.Deciding.{label-settles, label-other, label-fails}
+use borrow.Author.Tests.{not-true, not-false}
 use borrow.Author.Needs.{needs}
 use Rattle.sessions.proofs.session.Session.settle_label.Statement.{statement}
 use Rattle.sessions.proofs.session.Session.settle_label.Tie as tie
@@ -29,18 +30,33 @@ find-requires c κs = laid-of (c .before .before .args .self) (kept (c .before .
 enum-known-i : tie.Need-enum-known-i
 enum-known-i c = search needs
 
-enum-told : tie.Need-enum-told
-enum-told c = search needs
+may-name-requires : tie.Need-may-name-requires
+may-name-requires c κs =
+    let s = c .before .before .before .before .before .before in
+    let valid = kept s (s .pre) in (
+      laid-of (s .args .self) valid,
+      label-found (s .args .self) valid (λ p. true) (now (s .args .label)) _ (says-at _ _ _ (c .before .before .before .find .ensures) (c .before .i .given .1)) .0,
+    )
 
 returns : tie.Need-returns
 returns c =
-    let s = c .before .before .before .before .before .before in
-    label-settles (s .args .self) (kept s (s .pre)) (now (s .args .label)) _ (says-at _ _ _ (c .before .before .before .find .ensures) (c .before .i .given .1))
+    let s = c .before .before .before .before .before .before .before .before in
+    label-other (s .args .self) (kept s (s .pre)) _ (now (s .args .label)) _ (says-at _ _ _ (c .before .before .before .before .before .find .ensures) (c .before .before .before .i .given .1))
+    (sym (c .before .may-name .ensures) ∙ not-true _ (c .if1 .taken))
+
+enum-told : tie.Need-enum-told
+enum-told c = search needs
 
 returns-2 : tie.Need-returns-2
 returns-2 c =
+    let s = c .before .before .before .before .before .before .before .before in
+    label-settles (s .args .self) (kept s (s .pre)) _ (now (s .args .label)) _ (says-at _ _ _ (c .before .before .before .before .before .find .ensures) (c .before .before .before .i .given .1))
+    (sym (c .before .may-name .ensures) ∙ not-false _ (c .if1 .left))
+
+returns-3 : tie.Need-returns-3
+returns-3 c =
     let s = c .before .before .before .before .before in
-    label-fails (s .args .self) (kept s (s .pre)) (now (s .args .label)) (says-nowhere _ _ (c .before .before .find .ensures) (c .enum-told .given .1))
+    label-fails (s .args .self) (kept s (s .pre)) _ (now (s .args .label)) (says-nowhere _ _ (c .before .before .find .ensures) (c .enum-told .given .1))
 
 pub settle-label-spec : {M : Type 1} → statement M
-settle-label-spec = tie.close (tie.spec find-requires enum-known-i enum-told returns returns-2)
+settle-label-spec = tie.close (tie.spec find-requires enum-known-i may-name-requires returns enum-told returns-2 returns-3)

@@ -1,20 +1,19 @@
--- `exports::stomp_decode` meets its contract: what is read back of the number is decode's answer.
+-- `exports::decode_packed` meets its contract: what is read back of the number is decode's answer.
 use mathlib.Core.Path.{_≡_, refl, subst}
-use Rattle.frames.specs.Grammar.{v1-2}
 use Rattle.frames.specs.Decoding.{Decodes}
 use Rattle.frames.specs.Answers.{decoded-says}
 use Rattle.frames.specs.declared.decode.Decoded.{Decoded}
 use Rattle.frames.proofs.Packed.{accepted-back, decode-small}
 use borrow.Author.Needs.{needs}
-use Rattle.frames.proofs.exports.stomp_decode.Statement.{statement}
-use Rattle.frames.proofs.exports.stomp_decode.Tie as tie
+use Rattle.frames.proofs.exports.decode_packed.Statement.{statement}
+use Rattle.frames.proofs.exports.decode_packed.Tie as tie
 
 -- what decode left, of the answer that was told
 told : (c : tie.After-decode) (f : Decoded) → c .decode .result ≡ f
-    → Decodes v1-2 (c .before .before .before .before .args .frame .now) (c .before .before .before .before .args .block .now) (decoded-says f) (c .decode .last .1 .0)
+    → let a = c .before .before .before .before .args in Decodes (a .version) (a .frame .now) (a .block .now) (decoded-says f) (c .decode .last .1 .1 .0)
 told c f e =
     let a = c .before .before .before .before .args in
-    subst (λ g. Decodes v1-2 (a .frame .now) (a .block .now) (decoded-says g) (c .decode .last .1 .0)) e (c .decode .ensures)
+    subst (λ g. Decodes (a .version) (a .frame .now) (a .block .now) (decoded-says g) (c .decode .last .1 .1 .0)) e (c .decode .ensures)
 
 decode-requires : tie.Need-decode-requires
 decode-requires c κs = search needs
@@ -40,7 +39,7 @@ same-length c = search needs
 returns : tie.Need-returns
 returns c =
     let d = told (c .before .before .before .before .before) _ (c .before .n .given .1) in
-    rw (accepted-back _ (decode-small v1-2 _ d)) (d, refl)
+    rw (accepted-back _ (decode-small _ _ d)) (d, refl)
 
 same-length-2 : tie.Need-same-length-2
 same-length-2 c = search needs
@@ -54,8 +53,8 @@ same-length-3 c = search needs
 returns-3 : tie.Need-returns-3
 returns-3 c = (told (c .before .before .before .before) _ (c .enum-told2 .given .1), refl)
 
-pub stomp-decode-spec : {M : Type 1} → statement M
-stomp-decode-spec =
+pub decode-packed-spec : {M : Type 1} → statement M
+decode-packed-spec =
     tie.close
     (tie.spec
     decode-requires
