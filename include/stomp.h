@@ -1,10 +1,11 @@
-/* Mouhtali: STOMP 1.2 frames, parsed, also piece by piece, decoded, searched and encoded; patterns of
- * names, matched; plans for handing out queued messages, checked; ports kept under the label of a run.
+/* Mouhtali: frames of STOMP 1.1 and 1.2, parsed, also piece by piece, decoded, searched and encoded; patterns
+ * of names, matched; plans for handing out queued messages, checked; ports kept under the label of a run.
  *
  * stomp_match and stomp_check_plan are in libtopics.a, which `rt staticlib topics` writes, the calls
  * stomp_registry_.. are in libregistry.a, which `rt staticlib registry` writes, the other functions are in
  * libframes.a, which `rt staticlib frames` writes, all for x86-64. For C99, C11 and C++.
- * docs/MANUAL.md has the rules of the format and what to do about each number.
+ * docs/MANUAL.md has the rules of the format, what sets the versions apart, and what to do about each number.
+ * A call that is not told a version is of 1.2.
  *
  * A slice is passed as a pointer to its first octet and its length. An empty slice may have any
  * pointer. Slices are used during the call only. The slices of one call must not overlap.
@@ -59,7 +60,7 @@ enum stomp_size {
     STOMP_REGISTRY_MAX_TEXT = 64  /* octets of a port's text */
 };
 
-/* What stomp_parse and stomp_feed found. */
+/* What stomp_parse, stomp_parse_with and stomp_feed found. */
 enum stomp_kind {
     STOMP_INCOMPLETE = 0, /* the octets can still be finished: read more */
     STOMP_HEART_BEAT = 1, /* they begin with a heart-beat */
@@ -67,11 +68,12 @@ enum stomp_kind {
     STOMP_INVALID = 3     /* neither: no item begins so; of stomp_feed also 70 and 71 */
 };
 
-/* The numbers of stomp_parse: what the octet at the offset does. Where several fit one octet,
- * the first of 1, 2, 11, 10, 3, 8, 9, 4, 5, 6, 7 that fits is given. */
+/* The numbers of stomp_parse and stomp_parse_with: what the octet at the offset does. Where several fit one
+ * octet, the first of 1, 2, 11, 10, 3, 8, 9, 4, 5, 6, 7 that fits is given. In version 1.1 octet 13 ends nothing:
+ * it is 1 where a heart-beat or a command's line end would begin, and in a header line an octet as any other. */
 enum stomp_parse_refusal {
     STOMP_INVALID_COMMAND = 1,        /* leaves no command, and begins no heart-beat */
-    STOMP_INVALID_LINE_END = 2,       /* follows 13 and is not 10 */
+    STOMP_INVALID_LINE_END = 2,       /* follows 13 and is not 10; never in version 1.1 */
     STOMP_INVALID_EMPTY_NAME = 3,     /* is a colon with an empty name: the header line begins with it */
     STOMP_INVALID_LINE_LENGTH = 4,    /* makes the line longer than STOMP_MAX_LINE, with the rest of a character
                                          or an escape and the colon that it still needs */
@@ -81,7 +83,8 @@ enum stomp_parse_refusal {
     STOMP_INVALID_SECOND_COLON = 8,   /* is a second colon in a header line; not in CONNECT and CONNECTED,
                                          where later colons belong to the value */
     STOMP_INVALID_NO_COLON = 9,       /* ends a header line, or begins its end, before the colon */
-    STOMP_INVALID_ESCAPE = 10,        /* follows a backslash and makes no escape with it */
+    STOMP_INVALID_ESCAPE = 10,        /* follows a backslash and makes no escape with it; in version 1.1 the
+                                         letter r too */
     STOMP_INVALID_UTF8 = 11           /* is one that no UTF-8 character (RFC 3629) has there, in a name or a
                                          value; bodies are not asked */
 };
@@ -93,9 +96,9 @@ enum stomp_feed_refusal {
     STOMP_FEED_INVALID_STATE = 71 /* the state is not STOMP_FEED_STATE octets long, or not valid */
 };
 
-/* The numbers of stomp_decode. */
+/* The numbers of stomp_decode and stomp_decode_with. */
 enum stomp_decode_refusal {
-    STOMP_DECODE_NOT_A_FRAME = 20, /* the octets are not exactly one frame */
+    STOMP_DECODE_NOT_A_FRAME = 20, /* the octets are not exactly one frame of the version */
     STOMP_DECODE_SHORT_BLOCK = 21  /* the block is shorter than needed */
 };
 
@@ -104,9 +107,11 @@ enum stomp_find_refusal {
     STOMP_FIND_MALFORMED = 22 /* the block is not a row of whole records */
 };
 
-/* The options of stomp_encode_with: bits, to be joined by |. Other bits are not looked at. */
+/* The options of the calls that have them: bits, to be joined by |. Other bits are not looked at. */
 enum stomp_option {
-    STOMP_COUNTED = 1 /* a line with the body's length also where the body holds no octet 0 */
+    STOMP_COUNTED = 1, /* of stomp_encode_with: a line with the body's length also where the body holds no
+                          octet 0 */
+    STOMP_1_1 = 2      /* version 1.1 of the protocol; without it 1.2 */
 };
 
 /* The numbers of stomp_encode and stomp_encode_with, in the order in which they are given. */
@@ -115,8 +120,8 @@ enum stomp_encode_refusal {
     STOMP_ENCODE_MALFORMED = 51,      /* the block is not a row of whole records */
     STOMP_ENCODE_LINE_COUNT = 52,     /* more than STOMP_MAX_LINES lines, an added one counted */
     STOMP_ENCODE_ENTRY = 53,          /* an empty name, a name or a value that is not UTF-8, a raw line over
-                                         STOMP_MAX_LINE, or in CONNECT and CONNECTED octet 10 or 13, or a
-                                         colon in the name; the index says which entry */
+                                         STOMP_MAX_LINE, or in CONNECT and CONNECTED octet 10, octet 13 (not in
+                                         version 1.1), or a colon in the name; the index says which entry */
     STOMP_ENCODE_BODY = 54,           /* a body is not allowed, or longer than STOMP_MAX_BODY */
     STOMP_ENCODE_CONTENT_LENGTH = 55, /* the first content-length is not the body's length in digits */
     STOMP_ENCODE_SHORT_TARGET = 56    /* the target is shorter than the encoded frame */
@@ -159,18 +164,24 @@ enum stomp_registry_refusal {
     STOMP_REGISTRY_RUNS_TAKEN = 95    /* STOMP_REGISTRY_RUNS runs are open */
 };
 
-/* Parses the first item of the octets. Octets behind it change nothing. Writes nothing.
+/* Parses the first item of the octets. Octets after it change nothing. Writes nothing.
  *
  * The answer is 0 where they are incomplete, 1 + 4*length for a heart-beat,
  * 2 + 4*(length + 2^16*(command + 2^4*(headers + 2^6*(body + 2^16*body_len)))) for a frame,
  * 3 + 4*(code + 2^8*offset) where they are invalid, with a number from 1 to 11. */
 uint64_t stomp_parse(const uint8_t *octets, size_t len);
 
+/* The same with options; with 0 it is stomp_parse. With STOMP_1_1 the octets are read by version 1.1: a line
+ * end is octet 10 alone, octet 13 is an ordinary one in header lines, `\r` is no escape, and 2 is never
+ * given. */
+uint64_t stomp_parse_with(uint32_t options, const uint8_t *octets, size_t len);
+
 /* Parses a stream as it arrives, piece by piece; a piece may be empty. `state` is the stream parser,
  * STOMP_FEED_STATE octets, all 0 before a stream's first piece. `buffer` holds the octets of the item
  * under way; it has at least STOMP_FEED_BUFFER octets, and need not be cleared. Both are handed back
  * as the last call left them. With any others the call is safe, but what it finds is not the stream's,
- * and its numbers may go up to four octets beyond the buffer.
+ * and its numbers may go up to four octets beyond the buffer. An item is read by version 1.2, or by the one
+ * that stomp_feed_tell told last before its first octet.
  *
  * The piece is taken up to the end of the item under way, or up to the octet refused, or whole. What
  * is taken is in the buffer after what was taken of that item before, so the item, or what is before
@@ -188,14 +199,27 @@ uint64_t stomp_parse(const uint8_t *octets, size_t len);
 uint64_t stomp_feed(uint8_t *state, size_t state_len, uint8_t *buffer, size_t buffer_len,
                     const uint8_t *piece, size_t piece_len);
 
+/* Tells the stream parser the version of the items from here on: 1.1 with STOMP_1_1, else 1.2. A state of 0
+ * reads by 1.2. Call it between items: after stomp_feed found one, and before the first octet of the next is
+ * handed in. So tell the version as soon as the opening frame is found, before what is left of its piece.
+ *
+ * The answer is 1 where it is taken. It is 0, and nothing changes, inside an item, after a refusal, and where the
+ * state is not STOMP_FEED_STATE octets long or not valid. */
+uint64_t stomp_feed_tell(uint8_t *state, size_t state_len, uint32_t options);
+
 /* Decodes the header lines of one frame into a header block: for each line, in order, a record of
  * the octets 72 68, the lengths of name and value in two octets each, high first, then the name and
  * the value, escapes replaced. `frame` must be exactly one frame, as long as stomp_parse says.
  *
- * The answer is the length of the records, or 2^16*code: 20, else 21. The records stand at the
- * front of the block, and what is behind them stays as it was. Where it is refused nothing is
+ * The answer is the length of the records, or 2^16*code: 20, else 21. The records are at the
+ * front of the block, and what is after them stays as it was. Where it is refused nothing is
  * written. `frame` and `block` must not overlap. */
 uint64_t stomp_decode(const uint8_t *frame, size_t frame_len, uint8_t *block, size_t block_len);
+
+/* The same with options; with 0 it is stomp_decode. With STOMP_1_1 it decodes one frame of version 1.1: take the
+ * options that the frame was parsed with. */
+uint64_t stomp_decode_with(uint32_t options, const uint8_t *frame, size_t frame_len, uint8_t *block,
+                           size_t block_len);
 
 /* Finds the first value of a name in a header block. `block_len` is the length in use, as
  * stomp_decode answered it, and not that of the buffer. Writes nothing.
@@ -217,14 +241,15 @@ uint64_t stomp_later(const uint8_t *block, size_t block_len, const uint8_t *name
  * with the body's length follows the entries: without it the body would end at that octet.
  *
  * The answer is the length of the encoded frame, or 2^16*code + index: the first of 50 to 56 that
- * fits, and the entry's index from 0 with 53, else index 0. The frame stands at the front of the
- * target, and what is behind it stays as it was. Where it is refused nothing is written. `block`,
+ * fits, and the entry's index from 0 with 53, else index 0. The frame is at the front of the
+ * target, and what is after it stays as it was. Where it is refused nothing is written. `block`,
  * `body` and `target` must not overlap. */
 uint64_t stomp_encode(uint32_t command, const uint8_t *block, size_t block_len, const uint8_t *body,
                       size_t body_len, uint8_t *target, size_t target_len);
 
 /* The same with options; with 0 it is stomp_encode. With STOMP_COUNTED the line is added wherever the
- * body is not empty and no entry is named content-length. */
+ * body is not empty and no entry is named content-length. With STOMP_1_1 the frame is one of version 1.1: octet
+ * 13 is written as it is, in CONNECT and CONNECTED too. */
 uint64_t stomp_encode_with(uint32_t options, uint32_t command, const uint8_t *block, size_t block_len,
                            const uint8_t *body, size_t body_len, uint8_t *target, size_t target_len);
 
@@ -278,7 +303,7 @@ uint64_t stomp_registry_end(uint8_t *registry, size_t registry_len, uint64_t ses
 uint64_t stomp_registry_ask(const uint8_t *registry, size_t registry_len, const uint8_t *run, size_t run_len,
                             const uint8_t *destination, size_t destination_len);
 
-/* Readers of what stomp_parse answered. */
+/* Readers of what stomp_parse and stomp_parse_with answered. */
 
 static inline enum stomp_kind stomp_parse_kind(uint64_t answer)
 {
@@ -388,7 +413,7 @@ static inline size_t stomp_feed_offset(uint64_t answer)
     return stomp_feed_kind(answer) == STOMP_INVALID ? (size_t)(answer >> 26) : 0;
 }
 
-/* Readers of what stomp_decode, stomp_encode, stomp_encode_with and stomp_match answered. */
+/* Readers of what stomp_decode, stomp_decode_with, stomp_encode, stomp_encode_with and stomp_match answered. */
 
 /* Whether it was refused, and nothing is written. */
 static inline int stomp_refused(uint64_t answer)

@@ -9,8 +9,9 @@
 pub const MAX_BLOCK: usize = 16544;
 pub const MAX_FRAME: usize = 49228;
 
-/// Octets of a registry.
+/// Octets of a registry, and of a stream parser's state.
 pub const REGISTRY: usize = 3524;
+pub const FEED_STATE: usize = 16;
 
 pub const COMMAND_ABORT: u32 = 1;
 pub const COMMAND_ACK: u32 = 2;
@@ -28,13 +29,15 @@ pub const COMMAND_STOMP: u32 = 13;
 pub const COMMAND_SUBSCRIBE: u32 = 14;
 pub const COMMAND_UNSUBSCRIBE: u32 = 15;
 
-/// The option of `encode_with`: a line with the body's length also where the body holds no octet 0.
+/// The options, to be joined by `|`: of `encode_with`, a line with the body's length also where the body holds
+/// no octet 0; of all calls that have options, version 1.1 of the protocol in the place of 1.2.
 pub const COUNTED: u32 = 1;
+pub const VERSION_1_1: u32 = 2;
 
-/// The numbers of `parse`: what the octet at the place does. Where several fit one octet, the first of
-/// 1, 2, 11, 10, 3, 8, 9, 4, 5, 6, 7 that fits is given.
+/// The numbers of `parse` and `parse_with`: what the octet at the place does. Where several fit one octet, the
+/// first of 1, 2, 11, 10, 3, 8, 9, 4, 5, 6, 7 that fits is given.
 pub const INVALID_COMMAND: u32 = 1; // leaves no command, and begins no heart-beat
-pub const INVALID_LINE_END: u32 = 2; // follows 13 and is not 10
+pub const INVALID_LINE_END: u32 = 2; // follows 13 and is not 10; never in version 1.1
 pub const INVALID_EMPTY_NAME: u32 = 3; // is a colon with an empty name: the header line begins with it
 pub const INVALID_LINE_LENGTH: u32 = 4; // makes the line longer than 512
 pub const INVALID_LINE_COUNT: u32 = 5; // begins a 33rd header line
@@ -44,6 +47,10 @@ pub const INVALID_SECOND_COLON: u32 = 8; // is a second colon; never in CONNECT 
 pub const INVALID_NO_COLON: u32 = 9; // ends a header line, or begins its end, before the colon
 pub const INVALID_ESCAPE: u32 = 10; // follows a backslash and makes no escape with it
 pub const INVALID_UTF8: u32 = 11; // is one that no UTF-8 character has there, in a name or a value
+
+/// The numbers of a stream parser itself, in the order in which they are given; else it gives those of `parse`.
+pub const FEED_SHORT_BUFFER: u32 = 70; // never here: a `StreamParser` has room for any item
+pub const FEED_INVALID_STATE: u32 = 71; // the state is not valid
 
 /// The numbers of `matches`, in the order in which they are given.
 pub const MATCH_NAME: u32 = 80; // the name is malformed
@@ -69,8 +76,18 @@ pub const REGISTRY_RUNS_TAKEN: u32 = 95; // four runs are open
 
 mod library {
     extern "C" {
-        pub fn stomp_parse(octets: *const u8, len: usize) -> u64;
-        pub fn stomp_decode(
+        pub fn stomp_parse_with(options: u32, octets: *const u8, len: usize) -> u64;
+        pub fn stomp_feed(
+            state: *mut u8,
+            state_len: usize,
+            buffer: *mut u8,
+            buffer_len: usize,
+            piece: *const u8,
+            piece_len: usize,
+        ) -> u64;
+        pub fn stomp_feed_tell(state: *mut u8, state_len: usize, options: u32) -> u64;
+        pub fn stomp_decode_with(
+            options: u32,
             frame: *const u8,
             frame_len: usize,
             block: *mut u8,
@@ -177,9 +194,14 @@ fn bits(answer: u64, from: u32, count: u32) -> usize {
     (answer >> from & ((1 << count) - 1)) as usize
 }
 
-/// The first item of the octets.
+/// The first item of the octets, in version 1.2.
 pub fn parse(octets: &[u8]) -> Parsed {
-    let answer = unsafe { library::stomp_parse(octets.as_ptr(), octets.len()) };
+    parse_with(0, octets)
+}
+
+/// The same with options.
+pub fn parse_with(options: u32, octets: &[u8]) -> Parsed {
+    let answer = unsafe { library::stomp_parse_with(options, octets.as_ptr(), octets.len()) };
     match answer & 3 {
         0 => Parsed::Incomplete,
         1 => Parsed::HeartBeat {
@@ -210,10 +232,109 @@ fn length(answer: u64) -> Result<usize, Refusal> {
     }
 }
 
-/// Decodes the headers of exactly one frame; the length used of the block.
+/// A stream that is parsed as it arrives, piece by piece: the state, and the octets of the item under way.
+pub struct StreamParser {
+    pub state: [u8; FEED_STATE],
+    buffer: Vec<u8>,
+}
+
+/// What `feed` found, and how many octets of the piece it took. The item, or the octets of one before the octet
+/// refused, are `octets`.
+#[derive(Debug, Clone, Copy, PartialEq, Eq)]
+pub struct Fed<'a> {
+    pub found: Parsed,
+    pub taken: usize,
+    pub octets: &'a [u8],
+}
+
+impl StreamParser {
+    /// Before the first octet of a stream, in version 1.2.
+    pub fn new() -> StreamParser {
+        StreamParser {
+            state: [0; FEED_STATE],
+            buffer: vec![0; MAX_FRAME],
+        }
+    }
+
+    /// The next piece. A call finds one item at most: hand in the rest of the piece until it is incomplete.
+    pub fn feed(&mut self, piece: &[u8]) -> Fed<'_> {
+        let answer = unsafe {
+            library::stomp_feed(
+                self.state.as_mut_ptr(),
+                self.state.len(),
+                self.buffer.as_mut_ptr(),
+                self.buffer.len(),
+                piece.as_ptr(),
+                piece.len(),
+            )
+        };
+        let taken = match answer & 3 {
+            0 => bits(answer, 2, 62),
+            _ => bits(answer, 2, 16),
+        };
+        let (found, used) = match answer & 3 {
+            0 => (Parsed::Incomplete, 0),
+            1 => {
+                let used = bits(answer, 18, 46);
+                (Parsed::HeartBeat { used }, used)
+            }
+            2 => {
+                let body = bits(answer, 28, 16);
+                let body_len = bits(answer, 44, 20);
+                let used = body + body_len + 1;
+                let frame = Frame {
+                    used,
+                    command: bits(answer, 18, 4) as u32,
+                    headers: bits(answer, 22, 6),
+                    body,
+                    body_len,
+                };
+                (Parsed::Frame(frame), used)
+            }
+            _ => {
+                let place = bits(answer, 26, 38);
+                let code = bits(answer, 18, 8) as u32;
+                (Parsed::Invalid(Refusal { code, place }), place)
+            }
+        };
+        // A state that was changed from outside may count a few octets more than the buffer has.
+        let used = used.min(self.buffer.len());
+        Fed {
+            found,
+            taken,
+            octets: &self.buffer[..used],
+        }
+    }
+
+    /// Tells the version of the items from here on, by the options. False, and nothing changes, inside an item,
+    /// after a refusal, and with an invalid state.
+    pub fn tell(&mut self, options: u32) -> bool {
+        let state = &mut self.state;
+        unsafe { library::stomp_feed_tell(state.as_mut_ptr(), state.len(), options) == 1 }
+    }
+}
+
+impl Default for StreamParser {
+    fn default() -> StreamParser {
+        StreamParser::new()
+    }
+}
+
+/// Decodes the headers of exactly one frame, of version 1.2; the length used of the block.
 pub fn decode(frame: &[u8], block: &mut [u8]) -> Result<usize, Refusal> {
+    decode_with(0, frame, block)
+}
+
+/// The same with options.
+pub fn decode_with(options: u32, frame: &[u8], block: &mut [u8]) -> Result<usize, Refusal> {
     length(unsafe {
-        library::stomp_decode(frame.as_ptr(), frame.len(), block.as_mut_ptr(), block.len())
+        library::stomp_decode_with(
+            options,
+            frame.as_ptr(),
+            frame.len(),
+            block.as_mut_ptr(),
+            block.len(),
+        )
     })
 }
 

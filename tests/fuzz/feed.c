@@ -1,13 +1,16 @@
 /* The stream parser. An input is
  *
- *   mark 1, [state 16], count of lengths 1, lengths 1 each, octets
+ *   mark 1, [state 16], count of lengths 1, lengths 1 each, [options 1 each], octets
  *
  * The mark's higher bits say how much longer than needed the buffer is; of the count the lowest four bits
  * are taken. The octets come in pieces of those lengths, in turn and again from the first; without a
  * length, or with none but 0, in one piece. What is left of a piece after an item is handed in again.
- * What each call has to answer is known from one parse an item of all octets, and what it leaves in the
- * buffer too. Behind a refusal, or at the end, come calls that must change nothing: the refusal repeated,
- * a short buffer (70), a count that no unfinished item has (71).
+ * With the fifth bit of the count there are as many options as lengths: before each call that hands in octets
+ * the version of one of them is told, in turn and again from the first. It is taken exactly where no octet of
+ * the item under way is. What each call has to answer is known from one parse an item of all octets, in the
+ * version of the item, and what it leaves in the buffer too. After a refusal, or at the end, come calls that must
+ * change nothing: the refusal repeated, a version told, a short buffer (70), a count that no unfinished item has
+ * (71).
  *
  * With an odd mark the state is there too: any octets. Then only what holds of every state is checked. */
 #include <stdio.h>
@@ -17,6 +20,7 @@
 #include "../../bench/baseline.h"
 #include "../../include/stomp.h"
 #include "fuzz.h"
+#include "version.h"
 
 enum { STATE = STOMP_FEED_STATE, LEAST = STOMP_FEED_BUFFER };
 
@@ -26,11 +30,22 @@ enum { SELDOM = 64 };
 /* The two octets of the state that are the count held, and a count that is too large. */
 enum { COUNT = 10, TOO_LARGE = 49228 };
 
+/* The octet of the state that is the version: 1 for 1.1. */
+enum { VERSION = 12 };
+
+/* In the octet before the lengths: their number, and whether versions are told. */
+enum { LENGTHS = 15, TOLD = 16 };
+
 /* The stream, the start of the item under way, what parsing answers to all octets from there on, how many
  * octets of the stream are taken, and the items before. */
 static const uint8_t *stream;
 static size_t stream_length, start, taken, items;
 static uint64_t whole;
+
+/* The options of the item under way, and those that are told: how many, and how many were. */
+static uint32_t version;
+static const uint8_t *tellings;
+static size_t telling_count, told;
 
 /* The buffer and the state, ours and as they have to be; the state is known where nothing may change. */
 static uint8_t *buffer, *state;
@@ -40,9 +55,10 @@ static uint8_t due_buffer[ROOM], due_state[STATE];
 static void fail(const char *what, uint64_t answer, uint64_t due)
 {
     fprintf(stderr,
-            "fuzz: feed: %s: answer %#llx, due %#llx; item at %zu, taken %zu of %zu, parsed %#llx, room %zu\n",
+            "fuzz: feed: %s: answer %#llx, due %#llx; item at %zu, taken %zu of %zu, parsed %#llx, options %lu, "
+            "room %zu\n",
             what, (unsigned long long)answer, (unsigned long long)due, start, taken, stream_length,
-            (unsigned long long)whole, room);
+            (unsigned long long)whole, (unsigned long)version, room);
     abort();
 }
 
@@ -82,12 +98,50 @@ static uint64_t refusal(uint64_t number, uint64_t offset)
     return 3 + 4 * ((number + (offset << 8)) << 16);
 }
 
-/* Parses the item under way: with ours, and with the baseline. */
+/* Parses the item under way: with ours, and with the baseline. For 1.1 the baseline gets no more than what
+ * settles the item, since each octet that it gets is copied. */
 static void parse_whole(void)
 {
-    whole = stomp_parse(stream + start, stream_length - start);
-    if (baseline_parse(stream + start, stream_length - start) != whole)
+    const uint8_t *octets = stream + start;
+    size_t length = stream_length - start;
+    whole = stomp_parse_with(version, octets, length);
+    if (version == 0 && (stomp_parse(octets, length) != whole || baseline_parse(octets, length) != whole))
         fail("the baseline parses otherwise", 0, whole);
+    if (stomp_parse_kind(whole) == STOMP_INVALID)
+        length = stomp_parse_offset(whole) < length ? stomp_parse_offset(whole) + 1 : length;
+    else if (stomp_parse_kind(whole) != STOMP_INCOMPLETE)
+        length = stomp_parse_used(whole) < length ? stomp_parse_used(whole) : length;
+    if (version != 0 && version_parse(version, octets, length) != whole)
+        fail("the baseline parses otherwise", 0, whole);
+}
+
+/* A version told that must be taken, or not and change nothing. */
+static void tell(uint32_t options, size_t length, bool due)
+{
+    memcpy(due_state, state, STATE);
+    if (due)
+        due_state[VERSION] = (options & STOMP_1_1) != 0;
+    uint64_t answer = stomp_feed_tell(state, length, options);
+    if (memcmp(our_guard(SECOND, STATE), filled, GUARD) != 0)
+        fail("an octet beside a slice is changed", answer, due);
+    if (answer != due)
+        fail("a version told is taken, or not", answer, due);
+    if (memcmp(state, due_state, STATE) != 0)
+        fail("a version told leaves another state", answer, due);
+}
+
+/* The next of the versions that the input tells, if it does. */
+static void tell_next(void)
+{
+    if (telling_count == 0)
+        return;
+    uint32_t options = tellings[told++ % telling_count] * (uint32_t)0x1010101;
+    bool between = taken == start;
+    tell(options, STATE, between);
+    if (between && (options & STOMP_1_1) != version) {
+        version = options & STOMP_1_1;
+        parse_whole();
+    }
 }
 
 /* How many octets from the item's start on are taken at most before it is settled, and how many settle it. */
@@ -124,6 +178,7 @@ static bool hand_in(size_t length)
 {
     size_t end = taken + length;
     for (;;) {
+        tell_next();
         const uint8_t *octets = stream + taken;
         bool settled = settles(end - start);
         size_t due_taken = settled ? start + settled_at() - taken : end - taken;
@@ -177,17 +232,27 @@ static void in_vain(bool refused)
         feed_in_vain(rest, left, room, again);
         feed_in_vain(rest, 0, room, again);
         feed_in_vain((const uint8_t *)"\n", 1, room, again);
+        tell(STOMP_1_1 - version, STATE, false);
     }
+    tell(STOMP_1_1 - version, STATE - 1, false);
     feed_in_vain(rest, left, LEAST - 1, refusal(STOMP_FEED_SHORT_BUFFER, 0));
     state[COUNT] = TOO_LARGE >> 8;
     state[COUNT + 1] = TOO_LARGE & 0xff;
     feed_in_vain(rest, left, room, refusal(STOMP_FEED_INVALID_STATE, 0));
+    tell(STOMP_1_1 - version, STATE, false);
     feed_in_vain(rest, left, 0, refusal(STOMP_FEED_SHORT_BUFFER, 0));
 }
 
-/* Any state: the call ends, takes no more than there is, and changes nothing where it refuses itself. */
+/* Any state: a version told changes the octet of the version alone, and only before an item; the call ends, takes
+ * no more than there is, and changes nothing where it refuses itself. */
 static void with_any_state(void)
 {
+    uint32_t same = state[VERSION] == 1 ? STOMP_1_1 : 0;
+    memcpy(due_state, state, STATE);
+    uint64_t between = stomp_feed_tell(state, STATE, same);
+    if (memcmp(state, due_state, STATE) != 0 || between > 1 || (between == 1 && state[0] != 0))
+        fail("the version that it has, told, changes something", between, 0);
+    tell(STOMP_1_1 - same, STATE, between == 1);
     memcpy(due_state, state, STATE);
     uint64_t answer = feed(stream, stream_length, room);
     unsigned code = stomp_feed_code(answer);
@@ -221,11 +286,16 @@ void fuzz_feed(const uint8_t *octets, size_t length)
     if (mark & 1)
         for (size_t i = 0; i < STATE; i++)
             state[i] = (uint8_t)take_octet(&octets, &length);
-    size_t count = take_octet(&octets, &length) & 15;
+    size_t counted = take_octet(&octets, &length);
+    size_t count = counted & LENGTHS;
     count = count < length ? count : length;
-    stream = octets + count;
-    stream_length = length - count;
-    start = taken = items = 0;
+    tellings = octets + count;
+    telling_count = counted & TOLD ? count : 0;
+    telling_count = telling_count < length - count ? telling_count : length - count;
+    stream = tellings + telling_count;
+    stream_length = length - count - telling_count;
+    start = taken = items = told = 0;
+    version = 0;
     if (mark & 1) {
         with_any_state();
         return;

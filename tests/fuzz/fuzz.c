@@ -2,16 +2,17 @@
  * our slices the page lies that cannot be touched (third bit), and what the buffers hold before (all of it).
  * The rest is cut into the arguments, numbers high octet first:
  *
- *   0 parse    octets; with the fourth bit they are fed in pieces, see feed.c
- *   1 decode   room 2, frame; with the fourth bit match: pattern length 2, pattern, name; with the fifth
- *              bit too a plan, and with the sixth as records, see plan.c
+ *   0 parse    [options 4], octets; with the fourth bit they are fed in pieces, see feed.c
+ *   1 decode   [options 4], room 2, frame; with the fourth bit match: pattern length 2, pattern, name; with
+ *              the fifth bit too a plan, and with the sixth as records, see plan.c
  *   2 encode   options 4, command 4, room 2, body length 2, body, block
  *   3 find     name length 2, name, block; then how many later entries follow, of the same; with the fifth
  *              bit calls of a registry, see registry.c
  *
- * A number that is missing is 0, and a slice is not longer than what is left. With the fourth bit
- * the block is not there as it is, but as a text of which whole records are made: octet 255 ends an
- * entry, 254 the name in it. So most changes of an input leave its block well-formed. */
+ * With the seventh bit parse and decode have options, and are called with them. A number that is missing is 0,
+ * and a slice is not longer than what is left. With the fourth bit the block is not there as it is, but as a
+ * text of which whole records are made: octet 255 ends an entry, 254 the name in it. So most changes of an
+ * input leave its block well-formed. */
 #define _DEFAULT_SOURCE
 
 #include <stdio.h>
@@ -23,15 +24,17 @@
 #include "../../bench/baseline.h"
 #include "../../include/stomp.h"
 #include "fuzz.h"
+#include "version.h"
 
 enum { PARSE, DECODE, ENCODE, FIND, MATCH, LATER };
 enum { PAGE_BEHIND = 4, AS_TEXT = 8, IN_PIECES = 8, MATCHED = 8, PLANNED = 16, AS_RECORDS = 32 };
-enum { REGISTERED = 16 };
+enum { REGISTERED = 16, WITH_OPTIONS = 64 };
 enum { HEAD = 6 };
 enum { NAME_END = 254, ENTRY_END = 255 };
 
 struct call {
     unsigned which;
+    bool with_options;
     uint32_t options;
     uint32_t command;
     const uint8_t *read[BUFFER];
@@ -96,13 +99,19 @@ static uint64_t call_ours(const struct call *c)
     }
     switch (c->which) {
     case PARSE:
-        answer = stomp_parse(s[FIRST], c->length[FIRST]);
+        if (c->with_options)
+            answer = stomp_parse_with(c->options, s[FIRST], c->length[FIRST]);
+        else
+            answer = stomp_parse(s[FIRST], c->length[FIRST]);
         break;
     case DECODE:
-        answer = stomp_decode(s[FIRST], c->length[FIRST], s[BUFFER], c->length[BUFFER]);
+        if (c->with_options)
+            answer = stomp_decode_with(c->options, s[FIRST], c->length[FIRST], s[BUFFER], c->length[BUFFER]);
+        else
+            answer = stomp_decode(s[FIRST], c->length[FIRST], s[BUFFER], c->length[BUFFER]);
         break;
     case ENCODE:
-        if (c->options == 0)
+        if (!c->with_options)
             answer = stomp_encode(c->command, s[FIRST], c->length[FIRST], s[SECOND], c->length[SECOND],
                                   s[BUFFER], c->length[BUFFER]);
         else
@@ -197,16 +206,16 @@ static uint64_t agreed(const struct call *c)
     struct copy buffer = copied(filled + GUARD, room);
     switch (c->which) {
     case PARSE:
-        other = baseline_parse(first.octets, c->length[FIRST]);
-        if (baseline_parse_memchr(first.octets, c->length[FIRST]) != other)
+        other = version_parse(c->options, first.octets, c->length[FIRST]);
+        if (!(c->options & STOMP_1_1) && baseline_parse_memchr(first.octets, c->length[FIRST]) != other)
             fail("the two of the baseline differ", c, ours, other);
         break;
     case DECODE:
-        other = baseline_decode(first.octets, c->length[FIRST], buffer.octets, room);
+        other = version_decode(c->options, first.octets, c->length[FIRST], buffer.octets, room);
         break;
     case ENCODE:
-        other = baseline_encode_with(c->options, c->command, first.octets, c->length[FIRST], second.octets,
-                                     c->length[SECOND], buffer.octets, room);
+        other = version_encode(c->options, c->command, first.octets, c->length[FIRST], second.octets,
+                               c->length[SECOND], buffer.octets, room);
         break;
     case FIND:
         other = plain_find(plain_named(first.octets, c->length[FIRST], second.octets, c->length[SECOND]));
@@ -332,10 +341,11 @@ int LLVMFuzzerTestOneInput(const uint8_t *octets, size_t length)
     }
     if (c.which == DECODE && (choice & MATCHED))
         c.which = MATCH;
-    if (c.which == ENCODE) {
+    if (c.which == ENCODE || ((c.which == PARSE || c.which == DECODE) && (choice & WITH_OPTIONS)))
         c.options = take_number(&r, 4);
+    c.with_options = c.which == ENCODE ? c.options != 0 : (choice & WITH_OPTIONS) != 0;
+    if (c.which == ENCODE)
         c.command = take_number(&r, 4);
-    }
     if (c.which == DECODE || c.which == ENCODE)
         c.length[BUFFER] = take_number(&r, 2);
     if (c.which == ENCODE || c.which == FIND || c.which == MATCH)

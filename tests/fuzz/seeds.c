@@ -1,8 +1,10 @@
 /* Writes inputs of fuzz.c made of streams: seeds DIRECTORY STREAM.. Each stream is fed in pieces, in some
  * ways. For each item one input that parses; for each frame also ones that decode it, encode what it
- * holds, with the option and without, and find its first two names and one that it does not have. They
- * are read with the baseline. A block is there as it is and as the text that fuzz.c makes it of. Then entries
- * that are not UTF-8, some names and patterns to match, plans, and calls of a registry. */
+ * holds, with the options and without, and find its first two names and one that it does not have. They
+ * are read with the baseline. A block is there as it is and as the text that fuzz.c makes it of. All of it but
+ * the blocks to search is there in version 1.1 too, and in pieces with the version told between them. Then
+ * items of version 1.1, entries that are not UTF-8, some names and patterns to match, plans, and calls of a
+ * registry. */
 #include <stdio.h>
 #include <stdlib.h>
 #include <string.h>
@@ -12,7 +14,7 @@
 
 enum { HEAD = 6, STREAM = 1 << 18, LONGEST_INPUT = 66000 };
 enum { PARSE, DECODE, ENCODE, FIND, PAGE_BEHIND = 4, AS_TEXT = 8, IN_PIECES = 8, MATCHED = 8 };
-enum { PLANNED = 16, AS_RECORDS = 32, REGISTERED = 16 };
+enum { PLANNED = 16, AS_RECORDS = 32, REGISTERED = 16, WITH_OPTIONS = 64, TOLD = 16 };
 enum { NAME_END = 254, ENTRY_END = 255 };
 
 static const char *directory;
@@ -86,6 +88,25 @@ static void write_find(const void *name, size_t name_length, const uint8_t *bloc
     finish_with(block, used);
 }
 
+/* Octets that are parsed, with the options. */
+static void write_parse(uint32_t options, const void *octets, size_t size)
+{
+    begin(PARSE | WITH_OPTIONS);
+    put_number(options, 4);
+    put(octets, size);
+    finish();
+}
+
+/* A frame that is decoded, with the options. */
+static void write_decode(uint32_t options, const void *frame, size_t size)
+{
+    begin(DECODE | WITH_OPTIONS);
+    put_number(options, 4);
+    put_number(STOMP_MAX_BLOCK, 2);
+    put(frame, size);
+    finish();
+}
+
 static void write_frame(const uint8_t *frame, uint64_t parsed)
 {
     static uint8_t block[STOMP_MAX_BLOCK];
@@ -95,7 +116,8 @@ static void write_frame(const uint8_t *frame, uint64_t parsed)
     put_number(sizeof block, 2);
     put(frame, stomp_parse_used(parsed));
     finish();
-    for (unsigned options = 0; options <= STOMP_COUNTED; options++) {
+    write_decode(STOMP_1_1, frame, stomp_parse_used(parsed));
+    for (unsigned options = 0; options <= (STOMP_COUNTED | STOMP_1_1); options++) {
         begin(ENCODE);
         put_number(options, 4);
         put_number(stomp_parse_command(parsed), 4);
@@ -136,14 +158,53 @@ static void write_broken(void)
     }
 }
 
-/* The stream in pieces: one octet each, some of none, and longer ones. */
+/* Items of version 1.1, and octets that are none: 13 in names and values, at each place where 1.2 has a line
+ * end, after a backslash, and the letter r there. They are parsed, decoded, and fed after a heart-beat. */
+static void write_1_1(void)
+{
+    static const char *const items[] = {
+        "\r\n", "\n", "ACK\r\n", "ACK\n\r\n\n", "ACK\nid\r\n", "ACK\n\r:\r\n\n", "ACK\nid:a\r\n\n",
+        "ACK\nid:a\\r\n\n", "ACK\nid:\\\\r\n\n", "ACK\nid:\\\r\n\n", "ACK\nid:\\n\\c\\\\\n\n",
+        "SEND\ncontent-length:1\r\n\na", "SEND\ncontent-length:1\n\n\r", "SEND\ncontent-length\r:1\n\na",
+        "SEND\ndestination:/p\r\n\nok\r", "CONNECT\npasscode:a:\r\n\n", "CONNECT\nlogin:\\r\n\n",
+        "CONNECTED\r\nversion:1.1\r\n\r\n", "ACK\nid:\xc3\r\n\n", "ACK\nsubscription:0\nmessage-id:7\n\n"
+    };
+    for (size_t i = 0; i < sizeof items / sizeof *items; i++) {
+        size_t size = strlen(items[i]) + 1;
+        for (uint32_t options = 0; options <= STOMP_1_1; options += STOMP_1_1) {
+            write_parse(options, items[i], size);
+            write_decode(options, items[i], size);
+            begin(PARSE | IN_PIECES);
+            put_number(0, 1);
+            put_number(TOLD | 1, 1);
+            put_number(1, 1);
+            put_number(options, 1);
+            put("\n", 1);
+            put(items[i], size);
+            put(items[i], size);
+            finish();
+        }
+    }
+}
+
+/* The stream in pieces: one octet each, some of none, and longer ones; then with versions told. */
 static void write_feeds(const uint8_t *stream, size_t size)
 {
+    static const char *const tellings[] = {"\1\1\2", "\4\1\0\7\2\2\0\2\0", "\2\0\144\2\2", "\2\377\1\0\2"};
     static const char *const lengths[] = {"\1\1", "\4\1\0\7\2", "\2\0\144", "\1\377"};
     for (size_t i = 0; i < sizeof lengths / sizeof *lengths; i++) {
         begin(PARSE | IN_PIECES);
         put_number(0, 1);
         put(lengths[i], 1 + (size_t)lengths[i][0]);
+        put(stream, size < LONGEST_INPUT - length ? size : LONGEST_INPUT - length);
+        finish();
+    }
+    for (size_t i = 0; i < sizeof tellings / sizeof *tellings; i++) {
+        size_t pieces = (size_t)tellings[i][0];
+        begin(PARSE | IN_PIECES);
+        put_number(0, 1);
+        put_number(TOLD | pieces, 1);
+        put(tellings[i] + 1, 2 * pieces);
         put(stream, size < LONGEST_INPUT - length ? size : LONGEST_INPUT - length);
         finish();
     }
@@ -355,10 +416,12 @@ int main(int argc, char **argv)
             begin(PARSE);
             put(stream + at, used ? used : size - at);
             finish();
+            write_parse(STOMP_1_1, stream + at, used ? used : size - at);
             if (stomp_parse_kind(parsed) == STOMP_FRAME)
                 write_frame(stream + at, parsed);
         }
     }
+    write_1_1();
     write_broken();
     write_matches();
     write_plans();

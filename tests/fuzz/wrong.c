@@ -2,6 +2,10 @@
 #include "../../include/stomp.h"
 
 uint64_t right_parse(const uint8_t *octets, size_t len);
+uint64_t right_parse_with(uint32_t options, const uint8_t *octets, size_t len);
+uint64_t right_decode_with(uint32_t options, const uint8_t *frame, size_t frame_len, uint8_t *block,
+                           size_t block_len);
+uint64_t right_feed_tell(uint8_t *state, size_t state_len, uint32_t options);
 uint64_t right_decode(const uint8_t *frame, size_t frame_len, uint8_t *block, size_t block_len);
 uint64_t right_find(const uint8_t *block, size_t block_len, const uint8_t *name, size_t name_len);
 uint64_t right_later(const uint8_t *block, size_t block_len, const uint8_t *name, size_t name_len);
@@ -33,6 +37,22 @@ uint64_t stomp_parse(const uint8_t *octets, size_t len)
     if (WRONG == 21 && stomp_parse_code(answer) == STOMP_INVALID_UTF8 && offset > 0 && octets[offset - 1] == '\\')
         answer -= 4 * (STOMP_INVALID_UTF8 - STOMP_INVALID_ESCAPE);
     return answer;
+}
+
+/* 28: takes 13 and then 10 for a line end in version 1.1 too. */
+uint64_t stomp_parse_with(uint32_t options, const uint8_t *octets, size_t len)
+{
+    for (size_t i = 1; WRONG == 28 && i < len; i++)
+        if (octets[i - 1] == 13 && octets[i] == 10)
+            options = 0;
+    return right_parse_with(options, octets, len);
+}
+
+/* 30: decodes every frame by version 1.2. */
+uint64_t stomp_decode_with(uint32_t options, const uint8_t *frame, size_t frame_len, uint8_t *block,
+                           size_t block_len)
+{
+    return right_decode_with(WRONG == 30 ? 0 : options, frame, frame_len, block, block_len);
 }
 
 /* 2: writes the octet before the block; 3: the one behind it; 4: the one behind the records. */
@@ -74,7 +94,7 @@ uint64_t stomp_encode(uint32_t command, const uint8_t *block, size_t block_len, 
     return answer;
 }
 
-/* 13: does not look at the option; 14: takes every option for it. */
+/* 13: does not look at the options; 14: takes every option for a length line; 31: writes by version 1.2. */
 uint64_t stomp_encode_with(uint32_t options, uint32_t command, const uint8_t *block, size_t block_len,
                            const uint8_t *body, size_t body_len, uint8_t *target, size_t target_len)
 {
@@ -82,6 +102,8 @@ uint64_t stomp_encode_with(uint32_t options, uint32_t command, const uint8_t *bl
         options = 0;
     if (WRONG == 14)
         options = STOMP_COUNTED;
+    if (WRONG == 31)
+        options &= STOMP_COUNTED;
     return right_encode_with(options, command, block, block_len, body, body_len, target, target_len);
 }
 
@@ -107,6 +129,16 @@ uint64_t stomp_feed(uint8_t *state, size_t state_len, uint8_t *buffer, size_t bu
     if (WRONG == 12 && stomp_feed_code(answer) == STOMP_FEED_INVALID_STATE)
         state[0]++;
     return answer;
+}
+
+/* 29: takes a version inside an item. */
+uint64_t stomp_feed_tell(uint8_t *state, size_t state_len, uint32_t options)
+{
+    uint64_t answer = right_feed_tell(state, state_len, options);
+    if (WRONG != 29 || answer == 1 || state_len != STOMP_FEED_STATE || state[0] == 0 || state[0] > 13)
+        return answer;
+    state[12] = (options & STOMP_1_1) != 0;
+    return 1;
 }
 
 /* 15: a malformed pattern is told before a malformed name; 16: one word `#` takes no more than one word. */
