@@ -219,7 +219,7 @@ static void check_made(uint64_t *seed)
             block.length = random_between(seed, 0, block.length);
         uint32_t options = (uint32_t)random_between(seed, 0, 1);
         if (random_between(seed, 0, 7) == 0)
-            options |= (uint32_t)random_next(seed) << 1;
+            options |= (uint32_t)random_next(seed) << 2;
         struct call c = {true, options, command, block.octets, block.length, body.octets, body.length};
         uint64_t answer = try_call(&c);
         if (!stomp_refused(answer))

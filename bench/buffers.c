@@ -153,7 +153,7 @@ static void try_damaged(const struct call *c)
 {
     static struct row made;
     struct call changed = *c;
-    changed.options = (uint32_t)random_between(&seed, 0, 3);
+    changed.options = (uint32_t)random_between(&seed, 0, 1) | (uint32_t)random_between(&seed, 0, 1) << 2;
     switch (random_between(&seed, 0, 5)) {
     case 0:
         changed.command = (uint32_t)random_between(&seed, 0, 17);

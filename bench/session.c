@@ -8,7 +8,19 @@
 enum { BEAT_MAX = 3600000 };
 
 /* The headers that a session looks at. */
-enum header { ACCEPT_VERSION, HEART_BEAT, HOST, DESTINATION, ID, TRANSACTION, RECEIPT, ACK_MODE, HEADERS };
+enum header {
+    ACCEPT_VERSION,
+    HEART_BEAT,
+    HOST,
+    DESTINATION,
+    ID,
+    TRANSACTION,
+    RECEIPT,
+    ACK_MODE,
+    SUBSCRIPTION,
+    MESSAGE_ID,
+    HEADERS
+};
 
 struct name {
     const char *text;
@@ -18,7 +30,8 @@ struct name {
 static const struct name header_names[HEADERS] = {{"accept-version", 14}, {"heart-beat", 10},
                                                   {"host", 4},            {"destination", 11},
                                                   {"id", 2},              {"transaction", 11},
-                                                  {"receipt", 7},         {"ack", 3}};
+                                                  {"receipt", 7},         {"ack", 3},
+                                                  {"subscription", 12},   {"message-id", 10}};
 
 static const struct name mode_names[MODES] = {{"auto", 4}, {"client", 6}, {"client-individual", 17}};
 
@@ -63,9 +76,24 @@ static inline bool is_zero(const uint8_t *at, size_t length)
 #endif
 }
 
-static bool is_only_1_2(const bool flags[3])
+static bool may_offer(const bool flags[3])
 {
-    return !flags[0] && !flags[1] && flags[2];
+    return !flags[0] && (flags[1] || flags[2]);
+}
+
+/* Whether the versions that both sides have are some, all of them offered. */
+static bool may_share(const struct session *s)
+{
+    for (size_t v = 0; v < 3; v++)
+        if (s->shared[v] && !s->offered[v])
+            return false;
+    return s->shared[0] || s->shared[1] || s->shared[2];
+}
+
+/* Whether version 1.1 was chosen. */
+static bool speaks_1_1(const struct session *s)
+{
+    return s->shared[1] && !s->shared[2];
 }
 
 /* Whether no length is too large, no octet but 0 stands behind an id, and no id stands twice. */
@@ -109,7 +137,7 @@ static bool is_valid(const struct session *s)
     if (s->phase > CLOSED || s->sends > BEAT_MAX || s->wants > BEAT_MAX || s->inbound > BEAT_MAX ||
         s->outbound > BEAT_MAX)
         return false;
-    if (s->phase != CLOSED && !is_only_1_2(s->offered))
+    if ((s->phase != CLOSED && !may_offer(s->offered)) || (s->phase == OPEN && !may_share(s)))
         return false;
     return is_valid_store(s->subscriptions, s->subscription_lengths, SUBSCRIPTIONS) &&
            is_valid_store(s->transactions, s->transaction_lengths, TRANSACTIONS) && has_valid_deliveries(s);
@@ -156,16 +184,17 @@ static unsigned phase_refusal(const struct session *s, uint32_t command)
 }
 
 /* Whether every header that the command needs is there. */
-static bool has_needed(uint32_t command, const struct octets values[HEADERS])
+static bool has_needed(const struct session *s, uint32_t command, const struct octets values[HEADERS])
 {
     switch (command) {
     case STOMP_COMMAND_CONNECT:
     case STOMP_COMMAND_STOMP: return values[ACCEPT_VERSION].at && values[HOST].at;
     case STOMP_COMMAND_SEND: return values[DESTINATION].at;
     case STOMP_COMMAND_SUBSCRIBE: return values[DESTINATION].at && values[ID].at;
-    case STOMP_COMMAND_UNSUBSCRIBE:
+    case STOMP_COMMAND_UNSUBSCRIBE: return values[ID].at;
     case STOMP_COMMAND_ACK:
-    case STOMP_COMMAND_NACK: return values[ID].at;
+    case STOMP_COMMAND_NACK:
+        return speaks_1_1(s) ? values[SUBSCRIPTION].at && values[MESSAGE_ID].at : values[ID].at != NULL;
     case STOMP_COMMAND_BEGIN:
     case STOMP_COMMAND_COMMIT:
     case STOMP_COMMAND_ABORT: return values[TRANSACTION].at;
@@ -354,14 +383,14 @@ static void close_session(struct session *s)
     remove_deliveries(s, gone);
 }
 
-/* 60, or 0 and what ACK or NACK settles removed. */
-static unsigned settle(struct session *s, struct octets label)
+/* 60, or 0 and what ACK or NACK settles removed; of any subscription where the owner is SUBSCRIPTIONS. */
+static unsigned settle(struct session *s, struct octets label, size_t owner)
 {
     struct store labels = labels_of(s);
     if (label.length == 0 || label.length > ID_OCTETS)
         return 60;
     size_t named = find_id(&labels, label);
-    if (named == labels.places)
+    if (named == labels.places || (owner != SUBSCRIPTIONS && s->owners[named] != owner))
         return 60;
     if (s->modes[s->owners[named]] == CLIENT) {
         remove_of(s, s->owners[named], named + 1);
@@ -414,6 +443,24 @@ static unsigned use_transaction(struct session *s, enum use use, struct octets i
     return number;
 }
 
+/* The lower of two numbers, where 0 is none. */
+static unsigned lower(unsigned a, unsigned b)
+{
+    return a == 0 || (b != 0 && b < a) ? b : a;
+}
+
+/* ACK and NACK, with the number of their transaction: in 1.1 they name a subscription too. */
+static unsigned acknowledge(struct session *s, const struct octets values[HEADERS], unsigned number)
+{
+    size_t owner = SUBSCRIPTIONS;
+    bool by_1_1 = speaks_1_1(s);
+    if (by_1_1) {
+        struct store in = subscriptions_of(s);
+        number = lower(number, find_place(&in, NEED, values[SUBSCRIPTION], &owner));
+    }
+    return number != 0 ? number : settle(s, values[by_1_1 ? MESSAGE_ID : ID], owner);
+}
+
 /* What the command does with what it names. */
 static unsigned name_id(struct session *s, uint32_t command, const struct octets values[HEADERS])
 {
@@ -429,7 +476,7 @@ static unsigned name_id(struct session *s, uint32_t command, const struct octets
     case STOMP_COMMAND_NACK:
         if (values[TRANSACTION].at)
             number = use_transaction(s, NEED, values[TRANSACTION]);
-        return number == 0 && command != STOMP_COMMAND_SEND ? settle(s, values[ID]) : number;
+        return command == STOMP_COMMAND_SEND ? number : acknowledge(s, values, number);
     default: return 0;
     }
 }
@@ -437,7 +484,7 @@ static unsigned name_id(struct session *s, uint32_t command, const struct octets
 /* 43 and what follows it, or 0 and the session changed. */
 static unsigned act(struct session *s, uint32_t command, const struct octets values[HEADERS])
 {
-    if (!has_needed(command, values))
+    if (!has_needed(s, command, values))
         return 43;
     if (opens(command))
         return open_session(s, values);
@@ -451,7 +498,7 @@ static unsigned act(struct session *s, uint32_t command, const struct octets val
 unsigned session_make(struct session *s, uint32_t sends, uint32_t wants, const bool offered[3])
 {
     memset(s, 0, sizeof *s);
-    if (sends > BEAT_MAX || wants > BEAT_MAX || !is_only_1_2(offered)) {
+    if (sends > BEAT_MAX || wants > BEAT_MAX || !may_offer(offered)) {
         s->phase = CLOSED;
         return 34;
     }
