@@ -20,7 +20,7 @@ use lib.Dec.{ltb}
 use Rattle.headers.specs.Rows.{every, is_octet}
 use Rattle.headers.specs.Block.{Entry, image}
 use Rattle.headers.specs.Answers.{Answer, accepted, refused, left_in}
-use Rattle.frames.specs.Grammar.{number, word, style, lines_max, Head, head, end}
+use Rattle.frames.specs.Grammar.{number, word, style, lines_max, head, end}
 use Rattle.frames.specs.declared.version.Version.{Version}
 use Rattle.frames.specs.Replies.{Complete}
 use Rattle.frames.specs.Parsing.{parsed}

@@ -3,15 +3,14 @@
 --     agreement                    the items, their octets, and how it ends
 --     feeds_once, parses_once      each side has one outcome
 use mathlib.Core.Path.{◌≡◌, refl, sym, ◌∙◌, ap, ap₂, subst}
-use mathlib.Core.Bool.{Bool, true, false, cond}
+use mathlib.Core.Bool.{true}
 use mathlib.Core.List.{List, [], ◌∷◌, ◌++◌, append_assoc, append-nil}
 use Prim.Native.Nat.{ℕ, zero, suc, ◌+◌, ◌-◌, ◌≤◌, ◌<◌}
 use native.Mathlib.Omega.{arith}
 use lib.ListN.{length, take, drop, length-append, length-drop}
-use lib.Seq.{take-append-le, drop-append-le, drop-append-add}
-use lib.Dec.{eqb, leb}
+use lib.Seq.{take-append-le, drop-append-add}
 use borrow.Author.Tests.{le-leb, lt-leb, ne_eqb}
-use Rattle.headers.specs.Rows.{empty, every, is_octet}
+use Rattle.headers.specs.Rows.{every, is_octet}
 use Rattle.headers.proofs.Rows.{every_append, every_left, every_right, every_drop}
 use Rattle.frames.specs.declared.version.Version.{Version}
 use Rattle.frames.specs.Replies.{Reply, Complete, Incomplete, Invalid}

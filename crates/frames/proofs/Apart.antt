@@ -2,7 +2,6 @@
 use mathlib.Core.Path.{◌≡◌, refl, ap}
 use mathlib.Core.Bool.{cond}
 use mathlib.Core.List.{[], ◌∷◌}
-use Prim.Native.Nat.{ℕ}
 use lib.Dec.{eqb}
 use Rattle.headers.specs.Answers.{Answer, accepted, refused}
 use Rattle.headers.proofs.Answers.{once}

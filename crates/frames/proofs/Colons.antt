@@ -2,9 +2,9 @@
 --     no_second_colon    octets that begin with the first line of such a frame are never refused with 8
 use mathlib.Core.Path.{◌≡◌, refl, sym, ◌∙◌, ap, subst}
 use mathlib.Core.Logic.{◌≢◌}
-use mathlib.Core.Bool.{Bool, true, false, ◌&&◌, ◌||◌, not}
+use mathlib.Core.Bool.{Bool, true, false, ◌||◌, not}
 use mathlib.Core.List.{List, [], ◌∷◌, ◌++◌, append_assoc}
-use Prim.Native.Nat.{ℕ, ◌≤◌, ◌<◌}
+use Prim.Native.Nat.{ℕ, ◌<◌}
 use native.Mathlib.Omega.{arith}
 use lib.Dec.{eqb, leb}
 use borrow.Author.Tests.{leb-true}
@@ -14,7 +14,7 @@ use Rattle.frames.specs.Grammar.{Command, CONNECT, CONNECTED, word, end, escapin
 use Rattle.frames.specs.declared.version.Version.{Version}
 use Rattle.frames.specs.Replies.{Invalid}
 use Rattle.frames.specs.Parsing.{parsed}
-use Rattle.frames.specs.Open.{Open, start, heart_beat_13, command, command_13, begin, name, value, line_13, blank_13, body, so_far, At}
+use Rattle.frames.specs.Open.{Open, start, heart_beat_13, command, command_13, begin, name, value, line_13, blank_13, body, so_far}
 use Rattle.frames.specs.Refusals.{second_colon, fits, numbered}
 use Rattle.frames.proofs.Commands.{each_test, each_same}
 use Rattle.frames.proofs.Table.{refused_at, first_reason, same_reason}

@@ -20,7 +20,7 @@ use lib.ListN.{length, length-append, length-map}
 use lib.Dec.{eqb, eqb-zero-suc, eqb-suc-zero}
 use borrow.Author.Tests.{eqb-true, leb-true, ltb-false, lt-ltb, not-true, not-false}
 use Rattle.headers.specs.Rows.{empty, every, any, All, is_octet}
-use Rattle.headers.specs.Text.{Text, escape_table, reads_whole}
+use Rattle.headers.specs.Text.{Text, reads_whole}
 use Rattle.headers.specs.Escapes.{decode, encode, escaped, encode_octet, letter_of}
 use Rattle.headers.specs.Numbers.{is_digit, decimal, Amount, is_amount, amount, shortest}
 use Rattle.headers.specs.Block.{Entry, record_head, entry_record, image, entries}
@@ -29,7 +29,7 @@ use Rattle.headers.specs.Answers.{Answer, accepted, refused}
 use Rattle.headers.specs.declared.text.Style.{Style}
 use Rattle.headers.specs.declared.text.Field.{Field}
 use Rattle.headers.specs.declared.text.Field.TheVariants.{Name as in_name, Value as in_value}
-use Rattle.headers.proofs.Rows.{cond_case, and_left, and_right, and_no, and_yes, or_yes, or_false_left, not_empty, cons_some, every_left, every_right, every_append, every_snoc, every_also, any_key}
+use Rattle.headers.proofs.Rows.{cond_case, and_left, and_right, and_no, and_yes, or_yes, or_false_left, not_empty, cons_some, every_left, every_right, every_append, every_snoc, every_also}
 use Rattle.headers.proofs.Coding.{decode_encode, encode_decode, encode_text, decode_bare, bare, content_length_bare}
 use Rattle.headers.proofs.Reading.{table_is, each_half, digits_text, is_text_text}
 use Rattle.headers.proofs.Numerals.{size_least}

@@ -19,7 +19,7 @@ use lib.ListN.{length, length-append, length-map}
 use lib.Dec.{ltb}
 use borrow.Author.Tests.{le-leb, le-ltb, ltb-true, eq-eqb}
 use Rattle.headers.specs.Rows.{same, every, any, All, is_octet}
-use Rattle.headers.specs.Text.{none, more, escape_table, opens, is_letter}
+use Rattle.headers.specs.Text.{none, escape_table, opens, is_letter}
 use Rattle.headers.specs.Escapes.{decode, encode, meaning}
 use Rattle.headers.specs.Numbers.{decimal}
 use Rattle.headers.specs.Block.{Entry, Short, two_octets, record_head, entry_record, image, entries}

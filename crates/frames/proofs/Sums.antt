@@ -18,7 +18,7 @@ use Rattle.headers.specs.Block.{Entry, image, entries, listed, record_length, fr
 use Rattle.headers.specs.Stretches.{unescaped, plain_line}
 use Rattle.headers.specs.Answers.{is_block}
 use Rattle.headers.specs.Lines.{raw_line, written_line, can_stand, can_write}
-use Rattle.headers.specs.Escapes.{encode, writable}
+use Rattle.headers.specs.Escapes.{encode}
 use Rattle.headers.specs.declared.text.Style.{Style}
 use Rattle.headers.specs.declared.text.Field.TheVariants.{Name as in_name, Value as in_value}
 use Rattle.headers.proofs.Rows.{and_right}

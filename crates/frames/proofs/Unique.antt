@@ -8,14 +8,14 @@
 --     body_back        the octets at the start and of the length that are told of a frame are its body
 use mathlib.Core.Path.{◌≡◌, refl, sym, ◌∙◌, ap}
 use mathlib.Core.Bool.{Bool, true, false}
-use mathlib.Core.Option.{Option, some}
+use mathlib.Core.Option.{some}
 use mathlib.Core.List.{List, [], ◌∷◌, ◌++◌, map, append_assoc}
 use Prim.Native.Nat.{ℕ}
 use lib.ListN.{length, take, drop}
 use lib.Seq.{drop-append_seam, take-append_seam}
 use Rattle.headers.specs.Rows.{every, is_octet, first_of, All}
 use Rattle.headers.specs.Answers.{Answer, left_in}
-use Rattle.frames.specs.Grammar.{Head, head, end, frame, Tree, octets, Valid}
+use Rattle.frames.specs.Grammar.{Head, head, end, frame, octets}
 use Rattle.frames.specs.declared.version.Version.{Version}
 use Rattle.frames.specs.Replies.{Reply, told}
 use Rattle.frames.specs.Replies as reply

@@ -13,7 +13,7 @@ use crate::version::Version;
 use headers::{Known, RecordWritten, Style};
 
 // What decoding gives: the length used; or that it is not exactly one frame (20), or that the block is too short (21).
-#[derive(Drop)]
+#[derive(Clone, Copy)]
 pub enum Decoded {
     Length(usize),
     NotFrame,

@@ -17,7 +17,7 @@ use headers::{DecimalRead, DecimalWritten, EntryAt, Found, LineLength, LineWritt
 // What encoding gives: the image's length; or that the command is unknown (50), the block malformed (51), that there are too many
 // lines (52), that the entry of an index cannot be written (53), that the body is not allowed or too long (54), that the first
 // content-length is not the body's (55), or that the target is too short (56).
-#[derive(Drop)]
+#[derive(Clone, Copy)]
 pub enum Encoded {
     Length(usize),
     UnknownCommand,
@@ -47,7 +47,7 @@ impl Encoded {
 }
 
 // The content-length of a block: whether the block is well formed, whether an entry has the name, and where the first value stands.
-#[derive(Drop)]
+#[derive(Clone, Copy)]
 pub(crate) struct Declared {
     pub start: usize,
     pub end: usize,
@@ -57,7 +57,7 @@ pub(crate) struct Declared {
 
 // What the entries of a block come to: how many they are, or 33; how many from the front can be written; the octets of the lines of
 // those, with their line ends.
-#[derive(Drop)]
+#[derive(Clone, Copy)]
 pub(crate) struct Totals {
     pub count: usize,
     pub good: usize,
@@ -65,7 +65,7 @@ pub(crate) struct Totals {
 }
 
 // The answer of a call, and whether no octet of the block is escaped in its lines.
-#[derive(Drop)]
+#[derive(Clone, Copy)]
 pub(crate) struct Settled {
     pub answer: Encoded,
     pub plain: bool,

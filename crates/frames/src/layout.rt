@@ -7,7 +7,7 @@ use headers::{Known, Stops};
 
 // The parts of a header line: its name from the line's start up to colon, its value from value up to end; next is after its line end.
 // The stretch without a backslash at the front of each is known.
-#[derive(Drop)]
+#[derive(Clone, Copy)]
 pub struct LineAt {
     pub colon: usize,
     pub value: usize,
@@ -17,7 +17,7 @@ pub struct LineAt {
 }
 
 // Where a name or a value ends, and how far the stretch without a backslash at its front goes.
-#[derive(Drop)]
+#[derive(Clone, Copy)]
 pub struct TextEnd {
     pub at: usize,
     pub known: usize,

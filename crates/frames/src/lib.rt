@@ -1,4 +1,6 @@
 // Frames: the grammar of items, parsing, decoding and encoding.
+#![tactic(auto)]
+
 pub mod limits; // the sizes of frames
 pub mod version; // the protocol versions
 mod word; // the words of commands, and what a command asks

@@ -10,7 +10,7 @@ use crate::version::Version;
 
 // The first item: 1 a heart-beat, 2 a frame; the octets used; of a frame its command, the number of its headers, and where its body
 // begins and how long it is.
-#[derive(Drop)]
+#[derive(Clone, Copy)]
 pub struct Item {
     pub kind: u32,
     pub len: usize,
@@ -21,7 +21,7 @@ pub struct Item {
 }
 
 // The number of a refusal, and the first octet that no item can have there.
-#[derive(Drop)]
+#[derive(Clone, Copy)]
 pub struct Refusal {
     pub code: u32,
     pub offset: usize,
@@ -64,7 +64,7 @@ impl Refusal {
 }
 
 // What parsing replies.
-#[derive(Drop)]
+#[derive(Clone, Copy)]
 pub enum Parsed {
     Complete(Item),
     Incomplete,

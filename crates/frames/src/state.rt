@@ -3,7 +3,7 @@ ghost use Rattle.std.specs.Prelude.{◌≡◌};
 ghost use Rattle.frames.specs.Scanning.{Bounded, nothing_read, to_phase, in_head, in_line, in_part, frame_read, invalid};
 
 // How far an item is read. The small fields stand together at the end, so that the state has no gaps inside, which are slow to copy.
-#[derive(Drop)]
+#[derive(Clone, Copy)]
 pub struct Scan {
     // Header lines read.
     pub lines: usize,

@@ -12,20 +12,20 @@ use crate::state::Scan;
 use crate::version::Version;
 
 // How far the item under way is read, or the refusal that is repeated.
-#[derive(Drop)]
+#[derive(Clone, Copy)]
 pub struct StreamParser {
     pub scan: Scan,
 }
 
 // What parsing replies to the octets of the item so far, and how many octets of the piece it takes.
-#[derive(Drop)]
+#[derive(Clone, Copy)]
 pub struct Taken {
     pub reply: Parsed,
     pub octets: usize,
 }
 
 // What a call answers: a reply; or that the buffer is shorter than 49,228 octets (70), or the record not valid (71).
-#[derive(Drop)]
+#[derive(Clone, Copy)]
 pub enum Fed {
     Replied(Taken),
     ShortBuffer,
@@ -40,7 +40,7 @@ impl Fed {
 }
 
 // An answer, and the stream parser that is left.
-#[derive(Drop)]
+#[derive(Clone, Copy)]
 pub struct Step {
     pub answer: Fed,
     pub parser: StreamParser,
@@ -163,7 +163,7 @@ fn with_version(st: Scan, version: Version) -> Scan
 }
 
 // What telling a version gives: whether it was taken, and the stream parser that is left.
-#[derive(Drop)]
+#[derive(Clone, Copy)]
 pub struct Telling {
     pub taken: bool,
     pub parser: StreamParser,

@@ -4,7 +4,7 @@ ghost use Rattle.frames.specs.Grammar.{crlf};
 ghost use Rattle.frames.specs.Answers.{version_in};
 
 // The protocol version that octets are read and written by: 1.1 or 1.2.
-#[derive(Drop)]
+#[derive(Clone, Copy)]
 pub enum Version {
     V11,
     V12,

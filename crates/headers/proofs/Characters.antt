@@ -14,8 +14,8 @@ use lib.Seq.{drop-cons, drop-drop, take-append_seam, drop-append_seam, take-add,
 use lib.Dec.{eqb, leb, ltb}
 use borrow.Author.Tests.{eqb-true, eqb-false, ne_eqb, leb-true, le-leb, ltb-true, ltb-false, lt-ltb, le-ltb, lt-leb}
 use Rattle.headers.specs.Rows.{any, every}
-use Rattle.headers.specs.Text.{stops, opens, escape_table, is_letter, starts, starts_with, reads, missing, tail, second, ascii, Character, itself, escape, wide, Text, none, more, Wide, led_by, Utf8, utf8_none, utf8_ascii, utf8_wide, Part, fresh, back, led, tails, owes, left, of_utf8, of_escape, Into, into, bad, stop, utf8_reads, then_reads, ended, reads_whole, is_text_from, is_utf8_from, is_utf8}
-use Rattle.headers.specs.Escapes.{meaning, encode, writable, means, character_means}
+use Rattle.headers.specs.Text.{stops, opens, is_letter, starts, starts_with, reads, missing, tail, second, ascii, Character, itself, escape, wide, Text, none, more, Wide, led_by, Utf8, utf8_none, utf8_ascii, utf8_wide, Part, fresh, back, led, tails, owes, left, of_utf8, of_escape, Into, into, bad, stop, utf8_reads, then_reads, ended, reads_whole, is_text_from, is_utf8_from, is_utf8}
+use Rattle.headers.specs.Escapes.{encode, writable, means, character_means}
 use Rattle.headers.specs.Characters.{part_number, utf8_part, text_part, is_begun, into_number, is_wide, wide_front, front_character, Wides, no_wide, one_wide, WideStretch}
 use Rattle.headers.specs.declared.text.Style.{Style}
 use Rattle.headers.specs.declared.text.Field.{Field}

@@ -352,7 +352,7 @@ encode_is_from s f (x ∷ xs) p d =
     (λ h. turned p d h (encode_is_from s f xs fresh tt)) (λ h. itself_on p d h (encode_is_from s f xs))
   where
     on : s.escapes ≡ true → is_letter s (letter_of s x) ≡ true → is_text_from s f fresh (92 ∷ letter_of s x ∷ encode s xs) ≡ is_text_from s f fresh (encode s xs)
-    on e l = rw (e, l)
+    on e l = simp (e, l)
 
     turned : (p : Part) → Settled p → escaped s x ≡ true → is_text_from s f fresh (encode s xs) ≡ every (writable s f) xs && is_utf8_from fresh xs
         → is_text_from s f p (92 ∷ letter_of s x ∷ encode s xs) ≡ (writable s f x && every (writable s f) xs) && is_utf8_from p (x ∷ xs)

@@ -20,7 +20,7 @@ use Rattle.headers.specs.Escapes.{decode, encode, escaped, writable}
 use Rattle.headers.specs.Numbers.{shortest}
 use Rattle.headers.specs.Block.{Entry, entry_record, Short, is_short, entries}
 use Rattle.headers.specs.Stretches.{not_back, kept, unescaped}
-use Rattle.headers.specs.Lines.{line_max, entry_of, decoded_entry, raw_line, written_line, can_stand, can_write}
+use Rattle.headers.specs.Lines.{entry_of, decoded_entry, raw_line, written_line, can_stand, can_write}
 use Rattle.headers.specs.Answers.{Answer, accepted, refused, Check, settle, left_in, written_record, lacks_room, decoded_answer, writable_answer, length_answer, encoded_answer, line_answer, decimal_answer}
 use Rattle.headers.specs.declared.text.Style.{Style}
 use Rattle.headers.specs.declared.text.Field.{Field}

@@ -4,14 +4,14 @@ ghost use Rattle.headers.specs.Block.{two_at, entries};
 ghost use Rattle.headers.specs.Answers.{find_answer, found_says, count_from, counted_says, is_block, entry_answer, entry_says};
 
 // A part of octets that the caller has: where it begins, and how long it is.
-#[derive(Drop)]
+#[derive(Clone, Copy)]
 pub struct Span {
     pub start: usize,
     pub len: usize,
 }
 
 // The first value of a name: its place in the block, and how many later entries have the name.
-#[derive(Drop)]
+#[derive(Clone, Copy)]
 pub struct FirstValue {
     pub start: usize,
     pub len: usize,
@@ -19,7 +19,7 @@ pub struct FirstValue {
 }
 
 // What looking a name up gives: its first value, that no entry has it, or that the block is malformed (22).
-#[derive(Drop)]
+#[derive(Clone, Copy)]
 pub enum Found {
     Value(FirstValue),
     Absent,
@@ -27,21 +27,21 @@ pub enum Found {
 }
 
 // How many entries have a name, or that the block is malformed.
-#[derive(Drop)]
+#[derive(Clone, Copy)]
 enum Counted {
     Number(usize),
     Malformed,
 }
 
 // The lengths of a record's name and value.
-#[derive(Drop)]
+#[derive(Clone, Copy)]
 pub struct Lengths {
     pub name: usize,
     pub value: usize,
 }
 
 // What stands at a place of a block: a whole record, nothing more, or no record.
-#[derive(Drop)]
+#[derive(Clone, Copy)]
 pub enum EntryAt {
     Entry(Lengths),
     End,

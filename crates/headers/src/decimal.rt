@@ -4,14 +4,14 @@ ghost use Rattle.headers.specs.Numbers.{amount, digits, shortest};
 ghost use Rattle.headers.specs.Answers.{left_in, read_says, decimal_answer, decimal_says};
 
 // What reading a decimal gives.
-#[derive(Drop)]
+#[derive(Clone, Copy)]
 pub enum DecimalRead {
     Number(u32),
     Invalid,
 }
 
 // What writing a decimal gives: its length, or no room for it.
-#[derive(Drop)]
+#[derive(Clone, Copy)]
 pub enum DecimalWritten {
     Length(usize),
     TooShort,

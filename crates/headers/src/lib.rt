@@ -1,4 +1,6 @@
 // Header text and escapes, decimal numbers, and the header block: the lowest layer.
+#![tactic(auto)]
+
 pub mod octets; // rows of octets
 pub mod plain; // stretches of plain octets
 pub mod utf8; // characters of UTF-8

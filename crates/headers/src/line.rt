@@ -21,14 +21,14 @@ pub const LINE_MAX: usize = 512;
 pub const TEXT_MAX: usize = 511;
 
 // The length of an entry's raw line, its line end not counted; or that it cannot be written (53).
-#[derive(Drop)]
+#[derive(Clone, Copy)]
 pub enum LineLength {
     Length(usize),
     Unwritable,
 }
 
 // What writing a line gives: its length with its line end; or that the entry cannot be written (53), or has no room (56).
-#[derive(Drop)]
+#[derive(Clone, Copy)]
 pub enum LineWritten {
     Length(usize),
     Unwritable,
@@ -36,7 +36,7 @@ pub enum LineWritten {
 }
 
 // What is known of short text: whether each octet of it can be written; if so, how long it is encoded, and whether every octet is below 128.
-#[derive(Drop)]
+#[derive(Clone, Copy)]
 pub(crate) struct Measured {
     pub length: usize,
     pub writable: bool,
@@ -44,7 +44,7 @@ pub(crate) struct Measured {
 }
 
 // What is known of a block: how many octets of it from a place on are escaped, and its largest octet.
-#[derive(Drop)]
+#[derive(Clone, Copy)]
 pub(crate) struct Tally {
     pub escapes: u8,
     pub most: u8,

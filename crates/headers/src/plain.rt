@@ -4,7 +4,7 @@ ghost use Rattle.headers.specs.Rows.{every};
 ghost use Rattle.headers.specs.Stretches.{span, plain_in, calm, not_back, Stretch};
 
 // The octets that end a stretch beside 10: 10 again in the place of one that does not. An octet above top ends it too.
-#[derive(Drop)]
+#[derive(Clone, Copy)]
 pub struct Stops {
     pub cr: u8,
     pub colon: u8,

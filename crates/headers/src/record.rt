@@ -9,7 +9,7 @@ use crate::octets::{both_fit, copy};
 use crate::text::{Style, decoded_length, put_decoded};
 
 // What writing a record gives: its length; or that it has no room (21).
-#[derive(Drop)]
+#[derive(Clone, Copy)]
 pub enum RecordWritten {
     Length(usize),
     TooShort,
@@ -29,7 +29,7 @@ fn put_head(d: &mut [u8], name: usize, value: usize)
 }
 
 // How many octets at the front of a name and of a value are known to have no backslash.
-#[derive(Drop)]
+#[derive(Clone, Copy)]
 pub struct Known {
     pub name: usize,
     pub value: usize,

@@ -11,7 +11,7 @@ use crate::plain::stretch;
 use crate::utf8::utf8_next;
 
 // What a command makes of header text.
-#[derive(Drop)]
+#[derive(Clone, Copy)]
 pub struct Style {
     // Whether a backslash begins an escape.
     pub escapes: bool,
@@ -20,7 +20,7 @@ pub struct Style {
 }
 
 // The two fields of a header line.
-#[derive(Drop)]
+#[derive(Clone, Copy)]
 pub enum Field {
     Name,
     Value,

@@ -13,14 +13,14 @@ use headers::Span;
 use stores::Search;
 
 // The answer to a call that changes the registry: accepted, or refused with a number, the registry as it was.
-#[derive(Drop)]
+#[derive(Clone, Copy)]
 pub enum Done {
     Accepted,
     Refused(u32),
 }
 
 // The answer to asking: where the port's text is in the record; that there is none; or refused with a number.
-#[derive(Drop)]
+#[derive(Clone, Copy)]
 pub enum Asked {
     Port(Span),
     Nothing,

@@ -4,7 +4,7 @@ ghost use Rattle.headers.specs.Answers.{Puts};
 ghost use Rattle.stores.specs.Compaction.{stays_at, if_kept, kept_octets, kept_in, Compacts};
 
 // Which rows are taken out: those numbered from one on and before another that are of the place.
-#[derive(Drop)]
+#[derive(Clone, Copy)]
 pub struct Range {
     pub from: usize,
     pub to: usize,

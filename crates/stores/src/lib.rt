@@ -1,5 +1,7 @@
 // Flat stores of octets: searches, texts in places of one width, keys of places, and rows moved together. What the stores of sessions
 // and of others share.
+#![tactic(auto)]
+
 pub mod search; // where a search ended, and whether two rows are the same
 pub mod places; // a text in a place, and 0 after it
 pub mod keys; // numbers for places, to tell most of them apart

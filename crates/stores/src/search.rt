@@ -4,7 +4,7 @@ ghost use Rattle.headers.specs.Rows.{same};
 ghost use Rattle.stores.specs.Searches.{is_at};
 
 // Where a search ended: the number of a place.
-#[derive(Drop)]
+#[derive(Clone, Copy)]
 pub enum Search {
     At(usize),
     Nowhere,

@@ -1,0 +1,177 @@
+-- `decode::decode` meets its contract: parse tells whether it is exactly one frame; its entries are measured, then written.
+use Prim.Native.Nat.{ℕ, ◌≤◌}
+use native.Mathlib.Omega.{arith}
+use lib.ListN.{length, drop}
+use mathlib.Core.Path.{◌≡◌, refl, ◌∙◌, ap}
+use mathlib.Core.Logic.{◌⊎◌, ⊎_elim}
+use Rattle.headers.specs.Rows.{All}
+use Rattle.headers.specs.Block.{image, Short}
+use Rattle.frames.specs.Grammar.{crlf}
+use Rattle.frames.specs.Scanning.{style_of}
+use Rattle.frames.specs.Answers.{parsed_says}
+use Rattle.frames.proofs.Readings.{OneFrame, one_frame, not_frame}
+use Rattle.frames.proofs.Decoding.{few_lines, not_complete, decodes_none, each_short, Settled, settled, ample}
+use Rattle.frames.specs.Layout.{line_cr, front_lines}
+use Rattle.frames.specs.Decoding.{line_entries}
+use borrow.Enum.Refused.{opened}
+use Rattle.frames.proofs.decode.decode.Goals as goal
+
+pub returns-in_default : goal.returns-in_default
+returns-in_default c =
+    let s = c.args in
+    let r = c.parse in
+    decodes_none s.version s.block.now
+    (not_frame s.version (parsed_says r.result) r.ensures.1 refl
+    (not_complete (length s.frame.now) r.result
+    (λ i e. let other : (◌≡◌ {A = ℕ} 0 1) ⊎ (◌≡◌ {A = ℕ} 0 2) = rw e at (opened c.in_default.in_default-own.keys2) in ⊎_elim (λ z. omega (arith, z)) (λ z. omega (arith, z)) other)))
+
+pub returns-then-item-eq1 : goal.returns-then-item-eq1
+returns-then-item-eq1 c =
+    let s = c.args in
+    decodes_none s.version s.block.now
+    (not_frame s.version _ c.parse.ensures.1
+    (ap parsed_says c.in-Complete.is) (λ all. c.if-item-eq1.true))
+
+pub returns-then-item-frame : goal.returns-then-item-frame
+returns-then-item-frame c =
+    let s = c.args in
+    decodes_none s.version s.block.now
+    (not_frame s.version _ c.parse.ensures.1
+    (ap parsed_says c.in-Complete.is) (λ all. absurd (c.if-item-frame.true all)))
+
+one-1 : (c : goal.After-put_records-arg-1) → let i = c.in-Complete.item in
+    OneFrame c.args.version c.args.frame.now i.command i.headers i.body i.body_len
+one-1 c =
+    one_frame c.args.version c.parse.ensures.1
+    (ap parsed_says c.in-Complete.is) c.if-item-eq1.false c.if-item-frame.false
+
+cr_is-1 : (c : goal.After-put_records-arg-1) → c.or_10-cr.result ≡ line_cr (crlf c.args.version)
+cr_is-1 c = c.or_10-cr.ensures ∙ ap line_cr c.has_crlf-crlf.ensures
+
+style_is-1 : (c : goal.After-put_records-arg-1) → c.style_of-style.result ≡ style_of (crlf c.args.version) c.in-Complete.item.command
+style_is-1 c = c.style_of-style.ensures ∙ ap (λ w. style_of w c.in-Complete.item.command) c.has_crlf-crlf.ensures
+
+fits-1 : (c : goal.After-put_records-arg-1) → let a = c.args in 16544 ≤ length a.block.now → length (image ((line_entries c.style_of-style.result (front_lines c.or_10-cr.result c.in-Complete.item.headers (drop c.first_line-from.result c.args.frame.now))))) ≤ length a.block.now
+fits-1 c =
+    ample _ (one-1 c) c.or_10-cr.result c.style_of-style.result c.first_line-from.result (cr_is-1 c) (style_is-1 c) c.first_line-from.ensures.1 c.args.block.now
+
+shorts-1 : (c : goal.After-put_records-arg-1) → All Short ((line_entries c.style_of-style.result (front_lines c.or_10-cr.result c.in-Complete.item.headers (drop c.first_line-from.result c.args.frame.now))))
+shorts-1 c = each_short _ (one-1 c) c.or_10-cr.result c.style_of-style.result c.first_line-from.result (cr_is-1 c) (style_is-1 c) c.first_line-from.ensures.1
+
+pub put_records-requires : goal.put_records-requires
+put_records-requires c = (c.first_line-from.ensures.0, fits-1 c c.if-block-ge-BLOCK.true, shorts-1 c)
+
+one-2 : (c : goal.After-slice_known-then-block-ge-BLOCK-1) → let i = c.in-Complete.item in
+    OneFrame c.args.version c.args.frame.now i.command i.headers i.body i.body_len
+one-2 c =
+    one_frame c.args.version c.parse.ensures.1
+    (ap parsed_says c.in-Complete.is) c.if-item-eq1.false c.if-item-frame.false
+
+cr_is-2 : (c : goal.After-slice_known-then-block-ge-BLOCK-1) → c.or_10-cr.result ≡ line_cr (crlf c.args.version)
+cr_is-2 c = c.or_10-cr.ensures ∙ ap line_cr c.has_crlf-crlf.ensures
+
+style_is-2 : (c : goal.After-slice_known-then-block-ge-BLOCK-1) → c.style_of-style.result ≡ style_of (crlf c.args.version) c.in-Complete.item.command
+style_is-2 c = c.style_of-style.ensures ∙ ap (λ w. style_of w c.in-Complete.item.command) c.has_crlf-crlf.ensures
+
+-- what is known of them, whatever is measured
+settles-1 : (c : goal.After-slice_known-then-block-ge-BLOCK-1) (total : ℕ) → total ≡ length (image ((line_entries c.style_of-style.result (front_lines c.or_10-cr.result c.in-Complete.item.headers (drop c.first_line-from.result c.args.frame.now)))))
+    → let a = c.args in Settled a.version a.frame.now a.block.now ((line_entries c.style_of-style.result (front_lines c.or_10-cr.result c.in-Complete.item.headers (drop c.first_line-from.result c.args.frame.now)))) total
+settles-1 c = settled _ (one-2 c) c.or_10-cr.result c.style_of-style.result c.first_line-from.result (cr_is-2 c) (style_is-2 c) c.first_line-from.ensures.1 _
+
+fits-2 : (c : goal.After-slice_known-then-block-ge-BLOCK-1) → let a = c.args in 16544 ≤ length a.block.now → length (image ((line_entries c.style_of-style.result (front_lines c.or_10-cr.result c.in-Complete.item.headers (drop c.first_line-from.result c.args.frame.now))))) ≤ length a.block.now
+fits-2 c =
+    ample _ (one-2 c) c.or_10-cr.result c.style_of-style.result c.first_line-from.result (cr_is-2 c) (style_is-2 c) c.first_line-from.ensures.1 c.args.block.now
+
+pub returns-then-block-ge-BLOCK : goal.returns-then-block-ge-BLOCK
+returns-then-block-ge-BLOCK c =
+    (settles-1 c c.put_records.result c.put_records.ensures.0).whole (omega (arith, fits-2 c c.if-block-ge-BLOCK.true, c.put_records.ensures.0)) _ c.put_records.ensures.1
+
+one-3 : (c : goal.Else-block-ge-BLOCK) → let i = c.in-Complete.item in
+    OneFrame c.args.version c.args.frame.now i.command i.headers i.body i.body_len
+one-3 c =
+    one_frame c.args.version c.parse.ensures.1
+    (ap parsed_says c.in-Complete.is) c.if-item-eq1.false c.if-item-frame.false
+
+pub measure-requires : goal.measure-requires
+measure-requires c = (c.first_line-from.ensures.0, few_lines _ (one-3 c))
+
+one-4 : (c : goal.Then-block-measure) → let i = c.in-Complete.item in
+    OneFrame c.args.version c.args.frame.now i.command i.headers i.body i.body_len
+one-4 c =
+    one_frame c.args.version c.parse.ensures.1
+    (ap parsed_says c.in-Complete.is) c.if-item-eq1.false c.if-item-frame.false
+
+cr_is-3 : (c : goal.Then-block-measure) → c.or_10-cr.result ≡ line_cr (crlf c.args.version)
+cr_is-3 c = c.or_10-cr.ensures ∙ ap line_cr c.has_crlf-crlf.ensures
+
+style_is-3 : (c : goal.Then-block-measure) → c.style_of-style.result ≡ style_of (crlf c.args.version) c.in-Complete.item.command
+style_is-3 c = c.style_of-style.ensures ∙ ap (λ w. style_of w c.in-Complete.item.command) c.has_crlf-crlf.ensures
+
+-- what is known of them, whatever is measured
+settles-2 : (c : goal.Then-block-measure) (total : ℕ) → total ≡ length (image ((line_entries c.style_of-style.result (front_lines c.or_10-cr.result c.in-Complete.item.headers (drop c.first_line-from.result c.args.frame.now)))))
+    → let a = c.args in Settled a.version a.frame.now a.block.now ((line_entries c.style_of-style.result (front_lines c.or_10-cr.result c.in-Complete.item.headers (drop c.first_line-from.result c.args.frame.now)))) total
+settles-2 c = settled _ (one-4 c) c.or_10-cr.result c.style_of-style.result c.first_line-from.result (cr_is-3 c) (style_is-3 c) c.first_line-from.ensures.1 _
+
+-- its entries are measured
+measured-1 : (c : goal.Then-block-measure) → let a = c.args in
+    Settled a.version a.frame.now a.block.now ((line_entries c.style_of-style.result (front_lines c.or_10-cr.result c.in-Complete.item.headers (drop c.first_line-from.result c.args.frame.now)))) c.measure.result
+measured-1 c = settles-2 c c.measure.result c.measure.ensures
+
+pub returns-then-block-measure : goal.returns-then-block-measure
+returns-then-block-measure c = (measured-1 c).short c.if-block-measure.true
+
+one-5 : (c : goal.After-put_records-arg-2-1) → let i = c.in-Complete.item in
+    OneFrame c.args.version c.args.frame.now i.command i.headers i.body i.body_len
+one-5 c =
+    one_frame c.args.version c.parse.ensures.1
+    (ap parsed_says c.in-Complete.is) c.if-item-eq1.false c.if-item-frame.false
+
+cr_is-4 : (c : goal.After-put_records-arg-2-1) → c.or_10-cr.result ≡ line_cr (crlf c.args.version)
+cr_is-4 c = c.or_10-cr.ensures ∙ ap line_cr c.has_crlf-crlf.ensures
+
+style_is-4 : (c : goal.After-put_records-arg-2-1) → c.style_of-style.result ≡ style_of (crlf c.args.version) c.in-Complete.item.command
+style_is-4 c = c.style_of-style.ensures ∙ ap (λ w. style_of w c.in-Complete.item.command) c.has_crlf-crlf.ensures
+
+-- what is known of them, whatever is measured
+settles-3 : (c : goal.After-put_records-arg-2-1) (total : ℕ) → total ≡ length (image ((line_entries c.style_of-style.result (front_lines c.or_10-cr.result c.in-Complete.item.headers (drop c.first_line-from.result c.args.frame.now)))))
+    → let a = c.args in Settled a.version a.frame.now a.block.now ((line_entries c.style_of-style.result (front_lines c.or_10-cr.result c.in-Complete.item.headers (drop c.first_line-from.result c.args.frame.now)))) total
+settles-3 c = settled _ (one-5 c) c.or_10-cr.result c.style_of-style.result c.first_line-from.result (cr_is-4 c) (style_is-4 c) c.first_line-from.ensures.1 _
+
+-- its entries are measured
+measured-2 : (c : goal.After-put_records-arg-2-1) → let a = c.args in
+    Settled a.version a.frame.now a.block.now ((line_entries c.style_of-style.result (front_lines c.or_10-cr.result c.in-Complete.item.headers (drop c.first_line-from.result c.args.frame.now)))) c.measure.result
+measured-2 c = settles-3 c c.measure.result c.measure.ensures
+
+shorts-2 : (c : goal.After-put_records-arg-2-1) → All Short ((line_entries c.style_of-style.result (front_lines c.or_10-cr.result c.in-Complete.item.headers (drop c.first_line-from.result c.args.frame.now))))
+shorts-2 c = each_short _ (one-5 c) c.or_10-cr.result c.style_of-style.result c.first_line-from.result (cr_is-4 c) (style_is-4 c) c.first_line-from.ensures.1
+
+pub put_records-requires-2 : goal.put_records-requires-2
+put_records-requires-2 c =
+    (c.first_line-from.ensures.0, (measured-2 c).room c.if-block-measure.false, shorts-2 c)
+
+one-6 : (c : goal.After-slice_known-2-1) → let i = c.in-Complete.item in
+    OneFrame c.args.version c.args.frame.now i.command i.headers i.body i.body_len
+one-6 c =
+    one_frame c.args.version c.parse.ensures.1
+    (ap parsed_says c.in-Complete.is) c.if-item-eq1.false c.if-item-frame.false
+
+cr_is-5 : (c : goal.After-slice_known-2-1) → c.or_10-cr.result ≡ line_cr (crlf c.args.version)
+cr_is-5 c = c.or_10-cr.ensures ∙ ap line_cr c.has_crlf-crlf.ensures
+
+style_is-5 : (c : goal.After-slice_known-2-1) → c.style_of-style.result ≡ style_of (crlf c.args.version) c.in-Complete.item.command
+style_is-5 c = c.style_of-style.ensures ∙ ap (λ w. style_of w c.in-Complete.item.command) c.has_crlf-crlf.ensures
+
+-- what is known of them, whatever is measured
+settles-4 : (c : goal.After-slice_known-2-1) (total : ℕ) → total ≡ length (image ((line_entries c.style_of-style.result (front_lines c.or_10-cr.result c.in-Complete.item.headers (drop c.first_line-from.result c.args.frame.now)))))
+    → let a = c.args in Settled a.version a.frame.now a.block.now ((line_entries c.style_of-style.result (front_lines c.or_10-cr.result c.in-Complete.item.headers (drop c.first_line-from.result c.args.frame.now)))) total
+settles-4 c = settled _ (one-6 c) c.or_10-cr.result c.style_of-style.result c.first_line-from.result (cr_is-5 c) (style_is-5 c) c.first_line-from.ensures.1 _
+
+-- its entries are measured
+measured-3 : (c : goal.After-slice_known-2-1) → let a = c.args in
+    Settled a.version a.frame.now a.block.now ((line_entries c.style_of-style.result (front_lines c.or_10-cr.result c.in-Complete.item.headers (drop c.first_line-from.result c.args.frame.now)))) c.measure.result
+measured-3 c = settles-4 c c.measure.result c.measure.ensures
+
+pub returns : goal.returns
+returns c =
+    let fits = (measured-3 c).room c.if-block-measure.false in
+    (settles-4 c c.put_records-2.result c.put_records-2.ensures.0).whole (omega (arith, fits, c.put_records-2.ensures.0)) _ c.put_records-2.ensures.1

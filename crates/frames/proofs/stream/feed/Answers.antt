@@ -1,0 +1,102 @@
+-- `stream::feed` meets its contract: the checks in order, a run over the piece, and a copy of what it took.
+use mathlib.Core.Path.{◌≡◌, sym, ◌∙◌, ap}
+use mathlib.Core.Bool.{true, cond}
+use Prim.Native.Nat.{◌+◌, ◌-◌, ◌≤◌}
+use native.Mathlib.Omega.{arith}
+use lib.ListN.{length, take}
+use lib.Seq.{paste}
+use Rattle.headers.specs.Rows.{copied}
+use Rattle.headers.proofs.Copying.{copied_front}
+use Rattle.frames.specs.Scanning.{nothing_read}
+use Rattle.frames.specs.Streams.{replied, is_resumable, is_whole}
+use Rattle.frames.proofs.Counting.{scan_counts}
+use Rattle.frames.proofs.Resuming.{resumed, gives_short, gives_invalid, gives_reply}
+use Rattle.frames.proofs.stream.feed.Goals as goal
+
+pub returns-then-buffer-lt-FRAME : goal.returns-then-buffer-lt-FRAME
+returns-then-buffer-lt-FRAME c = let a = c.args in gives_short a.parser.scan a.buffer.now a.piece.now c.if-buffer-lt-FRAME.true
+
+pub returns-then-not-is_resumable : goal.returns-then-not-is_resumable
+returns-then-not-is_resumable c =
+    let a = c.args in
+    gives_invalid a.parser.scan a.buffer.now a.piece.now c.if-buffer-lt-FRAME.false (sym c.is_resumable.ensures ∙ c.if-not-is_resumable.true)
+
+-- the record passes its rule
+passed-1 : (c : goal.Else-not-is_resumable) → let st = c.args.parser.scan in is_resumable st ≡ true
+passed-1 c = sym c.is_resumable.ensures ∙ c.if-not-is_resumable.false
+
+pub run_on-next-requires : goal.run_on-next-requires
+run_on-next-requires c = (resumed _ (passed-1 c)).0
+
+-- how far the run went
+counted-1 : (c : goal.After-struct_known-1) → let a = c.args in
+    (a.parser.scan.at ≤ c.run_on-next.result.at) × (c.run_on-next.result.at ≤ a.parser.scan.at + length a.piece.now)
+counted-1 c =
+    let a = c.args in
+    let n = scan_counts a.piece.now a.parser.scan in
+    (omega (arith, n.onward, ap (λ z. z.at) c.run_on-next.ensures.0), omega (arith, n.most, ap (λ z. z.at) c.run_on-next.ensures.0))
+
+pub overflow_sub-octets : goal.overflow_sub-octets
+overflow_sub-octets c = (counted-1 c).0
+
+-- the record passes its rule
+passed-2 : (c : goal.After-struct_known-1) → let st = c.args.parser.scan in is_resumable st ≡ true
+passed-2 c = sym c.is_resumable.ensures ∙ c.if-not-is_resumable.false
+
+pub overflow_sub-buffer : goal.overflow_sub-buffer
+overflow_sub-buffer c = omega (arith, (resumed _ (passed-2 c)).1, c.if-buffer-lt-FRAME.false)
+
+-- how far the run went
+counted-2 : (c : goal.After-copy-arg-1) → let a = c.args in
+    (a.parser.scan.at ≤ c.run_on-next.result.at) × (c.run_on-next.result.at ≤ a.parser.scan.at + length a.piece.now)
+counted-2 c =
+    let a = c.args in
+    let n = scan_counts a.piece.now a.parser.scan in
+    (omega (arith, n.onward, ap (λ z. z.at) c.run_on-next.ensures.0), omega (arith, n.most, ap (λ z. z.at) c.run_on-next.ensures.0))
+
+-- the record passes its rule
+passed-3 : (c : goal.After-copy-arg-1) → let st = c.args.parser.scan in is_resumable st ≡ true
+passed-3 c = sym c.is_resumable.ensures ∙ c.if-not-is_resumable.false
+
+-- what was taken has room in the buffer
+fitting-1 : (c : goal.After-copy-arg-1) → let a = c.args in
+    (c.least-n.result ≤ length a.piece.now) × (a.parser.scan.at + c.least-n.result ≤ length a.buffer.now)
+fitting-1 c =
+    (omega (arith, c.least-n.ensures, counted-2 c), omega (arith, c.least-n.ensures, (resumed _ (passed-3 c)).1, c.if-buffer-lt-FRAME.false))
+
+pub slice_bounds-copy-end : goal.slice_bounds-copy-end
+slice_bounds-copy-end c = (fitting-1 c).0
+
+-- the record passes its rule
+passed-4 : (c : goal.After-next_item-scan) → let st = c.args.parser.scan in is_resumable st ≡ true
+passed-4 c = sym c.is_resumable.ensures ∙ c.if-not-is_resumable.false
+
+-- how far the run went
+counted-3 : (c : goal.After-next_item-scan) → let a = c.args in
+    (a.parser.scan.at ≤ c.run_on-next.result.at) × (c.run_on-next.result.at ≤ a.parser.scan.at + length a.piece.now)
+counted-3 c =
+    let a = c.args in
+    let n = scan_counts a.piece.now a.parser.scan in
+    (omega (arith, n.onward, ap (λ z. z.at) c.run_on-next.ensures.0), omega (arith, n.most, ap (λ z. z.at) c.run_on-next.ensures.0))
+
+-- what was taken has room in the buffer
+fitting-2 : (c : goal.After-next_item-scan) → let a = c.args in
+    (c.least-n.result ≤ length a.piece.now) × (a.parser.scan.at + c.least-n.result ≤ length a.buffer.now)
+fitting-2 c =
+    (omega (arith, c.least-n.ensures, counted-3 c), omega (arith, c.least-n.ensures, (resumed _ (passed-4 c)).1, c.if-buffer-lt-FRAME.false))
+
+pub returns : goal.returns
+returns c =
+    let a = c.args in
+    let n = c.least-n.result in
+    let all : n - 0 ≡ n = omega arith in
+    let fits = fitting-2 c in
+    let next = c.run_on-next.result in
+    let same : next.crlf ≡ a.parser.scan.crlf = ap (λ z. z.crlf) c.run_on-next.ensures.0 ∙ (scan_counts a.piece.now a.parser.scan).same_ends in
+    let g = gives_reply a.parser.scan a.buffer.now a.piece.now c.if-buffer-lt-FRAME.false (passed-4 c) c.run_on-next.result c.run_on-next.ensures.0 in (
+      ap (λ z. replied z (c.run_on-next.result.at - a.parser.scan.at)) c.reply-reply.ensures ∙ g.0,
+      c.next_item-scan.ensures ∙ ap (λ w. cond (is_whole next) (nothing_read w) next) same ∙ g.1,
+      c.copy.ensures ∙ ap (λ m. copied a.buffer.now a.parser.scan.at (take m a.piece.now)) all
+          ∙ copied_front a.buffer.now a.parser.scan.at a.piece.now n fits.0 fits.1
+          ∙ ap (paste a.buffer.now a.parser.scan.at a.piece.now) c.least-n.ensures ∙ g.2,
+    )

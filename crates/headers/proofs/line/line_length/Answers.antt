@@ -1,0 +1,89 @@
+-- `line::line_length` meets its contract: each refusal says why the entry cannot be written.
+use mathlib.Core.Path.{◌≡◌, sym, ap, ◌∙◌}
+use mathlib.Core.Bool.{true}
+use native.Mathlib.Omega.{arith}
+use lib.ListN.{length}
+use borrow.Author.Tests.{leb-true, leb-false}
+use Rattle.headers.specs.Escapes.{encode}
+use Rattle.headers.specs.Lines.{entry_of, can_stand}
+use Rattle.headers.specs.Answers.{length_says}
+use Rattle.headers.specs.declared.text.Field.TheVariants.{Name, Value}
+use Rattle.headers.proofs.Rows.{empty_zero, empty_not}
+use Rattle.headers.proofs.Settling.{told_refused, told_accepted, raw_long, no_name, no_name_text, no_value_text, no_room, no_room_plain, can, length_no, length_yes}
+use Rattle.headers.proofs.line.line_length.Goals as goal
+
+pub returns-then-name-eq0 : goal.returns-then-name-eq0
+returns-then-name-eq0 c = let a = c.args in
+    let e = entry_of a.name.now a.value.now in
+    sym (length_no a.style e (no_name a.style e (empty_zero a.name.now c.if-name-eq0.true)))
+
+pub returns-then-not-both_fit : goal.returns-then-not-both_fit
+returns-then-not-both_fit c = let a = c.args in
+    let e = entry_of a.name.now a.value.now in
+    sym (length_no a.style e (no_room_plain a.style e (omega (arith, leb-false, sym c.both_fit.ensures ∙ c.if-not-both_fit.true))))
+
+pub text_length-requires : goal.text_length-requires
+text_length-requires c = omega (arith, leb-true, sym c.both_fit.ensures ∙ c.if-not-both_fit.false)
+
+pub returns-in_default : goal.returns-in_default
+returns-in_default c = let a = c.args in
+    let e = entry_of a.name.now a.value.now in
+    sym (length_no a.style e (no_name_text a.style e (told_refused _ _ 53 (sym (ap length_says c.in_default.is) ∙ c.text_length.ensures))))
+
+pub text_length-requires-2 : goal.text_length-requires-2
+text_length-requires-2 c =
+    omega (arith, leb-true, sym c.both_fit.ensures ∙ c.if-not-both_fit.false)
+
+pub returns-in_default-text_length : goal.returns-in_default-text_length
+returns-in_default-text_length c = let a = c.args in
+    let e = entry_of a.name.now a.value.now in
+    sym (length_no a.style e (no_value_text a.style e (told_refused _ _ 53 (sym (ap length_says c.in_default-text_length.is) ∙ c.text_length-2.ensures))))
+
+-- what the two lengths are, and that both texts can be written
+abbrev Told-1 : goal.Then-not-both_fit-2 → Type 0
+Told-1 c =
+    let a = c.args in
+    ((can_stand a.style Name a.name.now ≡ true) × (c.in-Length.n ≡ length (encode a.style a.name.now)))
+    × ((can_stand a.style Value a.value.now ≡ true) × (c.in-Length-text_length.v ≡ length (encode a.style a.value.now)))
+
+told-1 : (c : goal.Then-not-both_fit-2) → Told-1 c
+told-1 c = (
+  told_accepted _ _ _ (sym (ap length_says c.in-Length.is) ∙ c.text_length.ensures),
+  told_accepted _ _ _ (sym (ap length_says c.in-Length-text_length.is) ∙ c.text_length-2.ensures),
+)
+
+pub returns-then-not-both_fit-2 : goal.returns-then-not-both_fit-2
+returns-then-not-both_fit-2 c = let a = c.args in
+    let e = entry_of a.name.now a.value.now in
+    sym
+    (length_no a.style e
+    (no_room a.style e (omega (arith, raw_long a.style e, told-1 c, leb-false, sym c.both_fit-2.ensures ∙ c.if-not-both_fit-2.true))))
+
+pub overflow_add-result : goal.overflow_add-result
+overflow_add-result c = omega (arith, leb-true, sym c.both_fit-2.ensures ∙ c.if-not-both_fit-2.false)
+
+pub overflow_add-result-2 : goal.overflow_add-result-2
+overflow_add-result-2 c = omega (arith, leb-true, sym c.both_fit-2.ensures ∙ c.if-not-both_fit-2.false)
+
+-- what the two lengths are, and that both texts can be written
+abbrev Told-2 : goal.Else-not-both_fit-2 → Type 0
+Told-2 c =
+    let a = c.args in
+    ((can_stand a.style Name a.name.now ≡ true) × (c.in-Length.n ≡ length (encode a.style a.name.now)))
+    × ((can_stand a.style Value a.value.now ≡ true) × (c.in-Length-text_length.v ≡ length (encode a.style a.value.now)))
+
+told-2 : (c : goal.Else-not-both_fit-2) → Told-2 c
+told-2 c = (
+  told_accepted _ _ _ (sym (ap length_says c.in-Length.is) ∙ c.text_length.ensures),
+  told_accepted _ _ _ (sym (ap length_says c.in-Length-text_length.is) ∙ c.text_length-2.ensures),
+)
+
+pub returns : goal.returns
+returns c = let a = c.args in
+    let e = entry_of a.name.now a.value.now in
+    let ((name, n), (value, v)) = told-2 c in
+    let long = raw_long a.style e in
+    let ok =
+    can a.style e (empty_not a.name.now (λ q. c.if-name-eq0.false (ap length q)))
+    name value (omega (arith, long, n, v, leb-true, sym c.both_fit-2.ensures ∙ c.if-not-both_fit-2.false)) in
+    rw (n, v, ← long) (sym (length_yes a.style e ok))

@@ -1,0 +1,11 @@
+-- `octets::put_128` meets its contract: the block is read whole, then written.
+use lib.ListN.{replicate}
+use mathlib.Core.Path.{refl}
+use Rattle.headers.proofs.Copying.{paste_through}
+use Rattle.headers.proofs.octets.put_128.Goals as goal
+
+pub returns : goal.returns
+returns c =
+    let a = c.args in
+    paste_through a.d.now a.s.now (replicate 128 0) _ _ a.at a.i 128 _ refl refl c.requires.0
+    c.put_octets.ensures c.put_octets-2.ensures
