@@ -3,12 +3,12 @@
 use Rattle.std.proofs.Common.{◌≡◌, ℕ, suc, ◌+◌, Bool, true, false, cond, not, ◌&&◌, ◌||◌, eqb, List, [], ◌∷◌, ◌++◌, length, sym, refl, ap, ◌∙◌, subst, ap₂, true≢false, append_assoc, append-nil, arith, eqb-true}
 use mathlib.Core.Option.{Option, none, some}
 use Rattle.headers.specs.Rows.{any, first_of, same, All}
-use Rattle.sessions.specs.Accounts.{Delivery, Event, subscribed, unsubscribed, delivered, acked, nacked, closed, nothing, mode_by, mode_in}
+use Rattle.sessions.specs.Accounts.{Delivery, Event, subscribed, unsubscribed, delivered, acked, nacked, closed, nothing, mode_in}
 use Rattle.sessions.specs.Accounts.{Fate, acknowledged, refused, dropped, still_pending, among, settled_with, fate, Account, made_at}
 use Rattle.sessions.specs.Accounts.{account_of, accounts, is_acknowledged, is_refused, is_dropped, is_still_pending, with_fate, recorded}
 use Rattle.sessions.specs.Accounts.{pending_in}
 use Rattle.sessions.specs.Deliveries.{auto_mode, client_mode, without, settled}
-use Rattle.headers.proofs.Rows.{cond_case, same_eq, same_self, refuted, and_left, and_right, and_no, or_false_left, or_false_right, implied_not, first_none}
+use Rattle.headers.proofs.Rows.{cond_case, same_eq, same_self, and_right, and_no, or_false_left, or_false_right, implied_not, first_none}
 
 -- What an event leaves of the pending deliveries, oldest first.
 abbrev pub named : List ℕ → Delivery → Bool

@@ -2,7 +2,7 @@
 --     Kept, kept-..                                                 a valid session with the sizes of its arrays; each change, call and history keeps that
 --     frame_valid, heart_beat_valid, deliver_valid, valid_after     the same of one call and of a history, said of is-valid
 --     made_valid, made_after                                        and of a session that was made, at first and after a history
-use Rattle.std.proofs.Common.{◌≡◌, ℕ, ◌+◌, ◌<◌, Bool, true, false, cond, not, ◌&&◌, ◌||◌, eqb, ltb, leb, ◌≢◌, List, [], ◌∷◌, ◌++◌, length, get_or, set, replicate, sym, refl, ap, ◌∙◌, subst, ap₂, true≢false, arith, ltb-false, ne_eqb, eqb-true, le-leb, leb-false}
+use Rattle.std.proofs.Common.{◌≡◌, ℕ, ◌<◌, Bool, true, false, cond, not, ◌&&◌, ◌||◌, eqb, ltb, leb, ◌≢◌, List, [], ◌∷◌, ◌++◌, length, get_or, set, replicate, sym, refl, ap, ◌∙◌, subst, ap₂, true≢false, arith, ltb-false, ne_eqb, eqb-true, le-leb, leb-false}
 use mathlib.Core.Option.{Option, none, some}
 use lib.ListN.{get_or-map}
 use borrow.Author.Tests.{not-false}
@@ -18,7 +18,7 @@ use Rattle.sessions.proofs.Tables.{transaction_named}
 use Rattle.sessions.specs.Headers.{IdUse, changed_id, value_of, has, is, opens, mode_named, mode_asked, settles, label_named, is_some}
 use Rattle.sessions.specs.Deliveries.{individual_mode, auto_mode, label_max, Pending, pending, labelled, is_pending, mode_of, goes_with}
 use Rattle.sessions.specs.Deliveries.{deliveries_of, settled_as, with_mode, dropped, record_label, valid_modes, valid_deliveries, no_deliveries}
-use Rattle.sessions.specs.Sessions.{spoken, id_max, fresh_phase, open_phase, in_phase, fresh, ids_of, with_ids, with_deliveries}
+use Rattle.sessions.specs.Sessions.{spoken, id_max, fresh_phase, open_phase, in_phase, ids_of, with_ids, with_deliveries}
 use Rattle.sessions.specs.Sessions.{no_subscriptions, closed, heard, valid_numbers, valid_ids, right_deliveries, is_valid, Sized, SizedDeliveries}
 use Rattle.sessions.specs.Calls.{out_of_phase, lacks_needed, opening, shared_by, client_versions, client_heart_beats, opened_by, uses_of}
 use Rattle.sessions.specs.Calls.{frame_answer, id_effect, effect, frame_session, heart_beat_answer, heart_beat_session, place_named, free_place}

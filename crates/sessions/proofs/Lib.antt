@@ -26,6 +26,5 @@ pub mod Versions
 pub mod Told
 pub mod Histories
 pub mod Closing
-pub mod InPlace
 pub mod Apart
 pub mod Examples

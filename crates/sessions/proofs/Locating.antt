@@ -3,16 +3,14 @@
 --     present_has, noted_has            whether it is there
 --     read_located                      what is read of the first value, by whether one is located
 --     located_there, value_there        a header that is there is located, and its value is there
-use Rattle.std.proofs.Common.{◌≡◌, ℕ, ◌-◌, Bool, true, false, cond, List, sym, refl, ap, ◌∙◌, subst, arith}
+use Rattle.std.proofs.Common.{◌≡◌, ℕ, Bool, true, false, cond, List, sym, refl, ap, ◌∙◌, subst, arith}
 use mathlib.Core.Option.{Option, none, some}
 use Rattle.headers.specs.Block.{entries, listed}
-use Rattle.headers.specs.contracts.block.Found as found
 use Rattle.sessions.specs.Headers.{value_of, is_some, has}
 use Rattle.sessions.specs.Notes.{value_at, located, Locates, AllNoted}
 use Rattle.sessions.specs.declared.command.Header.{Header}
 use Rattle.sessions.specs.declared.notes.Located.{Located}
 use Rattle.sessions.specs.declared.notes.Notes.{Notes}
-use Rattle.sessions.specs.contracts.command.Header as header
 
 -- a test of what may be there
 present_some : {A : Type 0} (p : Bool) (v : A) → is_some (cond p (some v) none) ≡ p

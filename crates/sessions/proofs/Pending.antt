@@ -1,6 +1,6 @@
 -- Pending deliveries as a list and laid out. Assumes nothing.
 --     pending_with                 deliveries laid out are those that the record holds
-use Rattle.std.proofs.Common.{◌≡◌, ℕ, zero, suc, ◌+◌, ◌-◌, ◌*◌, ◌<◌, ◌≤◌, Bool, true, false, not, ◌&&◌, ◌||◌, eqb, leb, List, [], ◌∷◌, ◌++◌, map, length, get_or, take, drop, set, replicate, sym, refl, ap, ◌∙◌, ap₂, true≢false, arith, length-append, length-take-le, get_or-set_other, take_at, drop_at, ne_eqb, le-leb, leb-true}
+use Rattle.std.proofs.Common.{◌≡◌, ℕ, zero, suc, ◌-◌, ◌*◌, ◌<◌, ◌≤◌, Bool, true, false, not, ◌&&◌, ◌||◌, eqb, leb, List, [], ◌∷◌, ◌++◌, map, length, get_or, take, drop, set, replicate, sym, refl, ap, ◌∙◌, ap₂, true≢false, arith, length-append, length-take-le, get_or-set_other, take_at, drop_at, ne_eqb, le-leb, leb-true}
 use mathlib.Core.Option.{some}
 use lib.ListN.{length-map, length-replicate}
 use borrow.Author.Tests.{not-true, eqb-false}

@@ -6,7 +6,7 @@ use Rattle.headers.specs.Rows.{every}
 use Rattle.headers.specs.Block.{Entry, entries, listed}
 use Rattle.headers.specs.Answers.{Answer, accepted, refused, Check, settle}
 use Rattle.headers.proofs.Rows.{and_left, and_right, or_false_left}
-use Rattle.frames.specs.Grammar.{number, ACK, NACK, CONNECT, DISCONNECT, STOMP, UNSUBSCRIBE}
+use Rattle.frames.specs.Grammar.{number, CONNECT, DISCONNECT, STOMP, UNSUBSCRIBE}
 use Rattle.sessions.specs.Values.{heart_beat_max}
 use Rattle.sessions.specs.Opening.{may_offer}
 use Rattle.sessions.specs.Headers.{has, is, opens, needed_by, IdUse, changed_id}

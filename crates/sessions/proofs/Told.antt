@@ -11,10 +11,9 @@ use Rattle.headers.specs.Rows.{any, empty, same, All, first_of}
 use Rattle.headers.proofs.Rows.{and_left, and_right, or_false_left, or_false_right, same_eq, same_self, empty_not, not_empty, empty_eqb}
 use Rattle.headers.specs.Block.{Entry, entries, listed}
 use Rattle.frames.specs.declared.version.Version.{Version}
-use Rattle.frames.specs.declared.version.Version.TheVariants.{V11, V12}
 use Rattle.frames.specs.Grammar.{ACK, CONNECT, DISCONNECT, NACK, STOMP, SUBSCRIBE, UNSUBSCRIBE}
 use Rattle.sessions.specs.Values.{HeartBeats}
-use Rattle.sessions.specs.Headers.{changed_id, value_of, has, is, is_some, opens, needed, mode_asked, label_named}
+use Rattle.sessions.specs.Headers.{changed_id, is, opens, mode_asked}
 use Rattle.sessions.specs.Stores.{ids, live, distinct, used, use_checks}
 use Rattle.sessions.specs.Deliveries.{auto_mode, client_mode, Pending, pending, labelled, mode_of, goes_with, deliveries_of}
 use Rattle.sessions.specs.Deliveries.{without, settled, settled_as, settle_label, with_mode, dropped, record_label}
@@ -40,11 +39,10 @@ use Rattle.stores.proofs.Searching.{found_at}
 use Rattle.sessions.proofs.Stores.{ids_laid, used_short, use_short, use_some, use_new}
 use Rattle.sessions.specs.declared.store.Use.{Use}
 use Rattle.sessions.specs.declared.store.Use.TheVariants.{Enter, Free}
-use Rattle.sessions.specs.declared.command.Header.TheVariants.{Id, Subscription, MessageId}
 use Rattle.sessions.specs.Calls.{left_by as session_left, made, opened_by, opening, shared_by, client_versions, client_heart_beats, uses_of}
 use Rattle.sessions.specs.Calls.{id_effect, effect, free_place, place_named, settle_named, mode_or_auto, modes_effect, delivery_effect, named_effect}
 use Rattle.sessions.specs.Calls.{frame_answer, frame_session, heart_beat_answer, heart_beat_session, deliver_checks, deliver_answer, recorded_by}
-use Rattle.sessions.specs.Calls.{lacks_any, recording, deliver_session}
+use Rattle.sessions.specs.Calls.{recording, deliver_session}
 use Rattle.sessions.proofs.Accounts.{named, settled_for, settled_by, entered, left_by, Distinct, Agrees, same_turn, survivors, step_pending}
 use Rattle.sessions.proofs.Accounts.{none_later, all_accounted}
 use Rattle.sessions.proofs.Pending.{Apart, Elsewhere, Proper, Holds, good, holds_none, holds_dropped, free_elsewhere, all_with, any_map}

@@ -1,5 +1,5 @@
 -- Ids used: what a session becomes where an id is refused, kept, entered or freed, over the kind of id. Assumes nothing.
-use Rattle.std.proofs.Common.{◌≡◌, ℕ, ◌-◌, ◌<◌, ◌≤◌, true, ◌&&◌, ltb, leb, List, [], length, take, set, ◌∙◌, ap₂, le_refl, arith, length-take, ltb-false, leb-true}
+use Rattle.std.proofs.Common.{◌≡◌, ℕ, ◌<◌, ◌≤◌, true, ◌&&◌, ltb, leb, List, [], length, take, set, ◌∙◌, ap₂, le_refl, arith, length-take, ltb-false, leb-true}
 use Rattle.headers.specs.Rows.{empty}
 use Rattle.headers.specs.Answers.{accepted, settle}
 use Rattle.headers.proofs.Rows.{and_left, and_right, or_false_right}

@@ -1,13 +1,12 @@
 -- The protocol version of a session, call after call: it is the one that the history tells. Assumes nothing.
 --     spoken_next    the version after a call
 --     events_next    the events of a history, call by call
-use Rattle.std.proofs.Common.{◌≡◌, ℕ, Bool, true, false, cond, not, ◌&&◌, ◌||◌, eqb, List, [], ◌∷◌, sym, refl, ap, ◌∙◌, ap₂, true≢false}
+use Rattle.std.proofs.Common.{◌≡◌, ℕ, Bool, true, false, cond, not, ◌&&◌, ◌||◌, eqb, List, ◌∷◌, sym, refl, ap, ◌∙◌, ap₂, true≢false}
 use mathlib.Core.Option.{Option, none, some}
 use Rattle.headers.specs.Block.{Entry, entries, listed}
 use Rattle.headers.specs.Answers.{Answer, accepted, refused}
 use Rattle.headers.proofs.Rows.{cond_case}
 use Rattle.frames.specs.Grammar.{DISCONNECT}
-use Rattle.frames.specs.declared.version.Version.{Version}
 use Rattle.sessions.specs.Values.{HeartBeats}
 use Rattle.sessions.specs.Opening.{chosen}
 use Rattle.sessions.specs.Headers.{is, is_some, opens, IdUse, changed_id}
@@ -17,7 +16,6 @@ use Rattle.sessions.specs.Calls.{left_by, opened_by, opening, shared_by, client_
 use Rattle.sessions.specs.Calls.{frame_answer, frame_session, heart_beat_answer, heart_beat_session, deliver_answer, deliver_session, recorded_by}
 use Rattle.sessions.specs.Calls.{recording}
 use Rattle.sessions.specs.Histories.{Call, frame, heart_beat, deliver, answer_to, next, trace, chosen_of, version_by, event_of, told, events}
-use Rattle.sessions.specs.Accounts.{Event}
 use Rattle.sessions.specs.declared.command.Kind.{Kind}
 use Rattle.sessions.specs.declared.command.Kind.TheVariants.{Subscriptions, Transactions}
 use Rattle.sessions.specs.declared.parts.Agreed.{Agreed}

@@ -1,6 +1,6 @@
 -- What a session keeps for deliveries (document 02, C-15): the pending deliveries as a list, oldest first, and the ack modes of its
 -- subscriptions; what is left of them when some are settled or dropped; what makes them valid. Assumes nothing.
-use Rattle.std.specs.Prelude.{◌≡◌, ℕ, ◌-◌, ◌*◌, ◌≤◌, Bool, true, cond, not, ◌&&◌, ◌||◌, leb, List, [], ◌∷◌, ◌++◌, map, length, take, drop, set, replicate, ◌==◌, nat_eq, nat_le, slice_index, slice_index_or, slice_set}
+use Rattle.std.specs.Prelude.{◌≡◌, ℕ, ◌-◌, ◌*◌, ◌≤◌, Bool, true, cond, not, ◌&&◌, ◌||◌, leb, List, [], ◌∷◌, ◌++◌, map, length, take, drop, replicate, ◌==◌, nat_eq, nat_le, slice_index, slice_index_or, slice_set}
 use Rattle.std.proofs.Math.Option.{Option, none, some}
 use Rattle.headers.specs.Rows.{every, any, first_of, same}
 use Rattle.stores.specs.Places.{is_zero}

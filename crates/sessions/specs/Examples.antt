@@ -1,6 +1,6 @@
 -- Short lives of sessions as a table, and what a row claims: document 01's session examples, and rows that together have every command,
 -- header, version, limit and number of a session. That all hold is proofs/Examples.antt. Assumes nothing.
-use Rattle.std.specs.Prelude.{◌≡◌, ℕ, zero, suc, ◌+◌, Bool, true, false, List, [], ◌∷◌, ◌++◌, map, length, replicate}
+use Rattle.std.specs.Prelude.{◌≡◌, ℕ, zero, suc, Bool, true, false, List, [], ◌∷◌, ◌++◌, map, length, replicate}
 use Rattle.std.proofs.Math.Option.{some}
 use Prim.Native.String.{String}
 use Rattle.headers.specs.Rows.{octets_of}

@@ -1,7 +1,7 @@
 -- Ids in a flat store (document 01, "One client's session"): places of w octets one after another, with a length for each. The first
 -- octets of a place, as many as its length says, are its id; a place of length 0 is free. Over any width and any number of places;
 -- nothing here knows of a session. Assumes nothing.
-use Rattle.std.specs.Prelude.{ℕ, ◌-◌, Bool, true, false, not, ◌&&◌, ◌||◌, List, [], ◌∷◌, ◌++◌, map, length, take, drop, nat_le, nat_lt}
+use Rattle.std.specs.Prelude.{ℕ, Bool, true, false, not, ◌&&◌, ◌||◌, List, [], ◌∷◌, ◌++◌, map, length, take, drop, nat_le, nat_lt}
 use Rattle.headers.specs.Rows.{empty, every, any, same}
 use Rattle.headers.specs.Answers.{Check}
 use Rattle.stores.specs.Searches.{replaced}

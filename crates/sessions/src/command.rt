@@ -18,7 +18,7 @@ pub(crate) fn is_unknown(command: u32) -> bool
 }
 
 // The headers that a session looks at.
-#[derive(Drop)]
+#[derive(Clone, Copy)]
 pub(crate) enum Header {
     AcceptVersion,
     HeartBeat,
@@ -33,14 +33,14 @@ pub(crate) enum Header {
 }
 
 // The kinds of ids.
-#[derive(Drop)]
+#[derive(Clone, Copy)]
 pub(crate) enum Kind {
     Subscriptions,
     Transactions,
 }
 
 // An id that a command names: in which header, of which kind, and what becomes of it.
-#[derive(Drop)]
+#[derive(Clone, Copy)]
 pub(crate) struct Naming {
     pub header: Header,
     pub kind: Kind,
@@ -48,7 +48,7 @@ pub(crate) struct Naming {
 }
 
 // The ids that a command names: at most two, of which only the first is entered or freed. Where fewer are named, the use is Nothing.
-#[derive(Drop)]
+#[derive(Clone, Copy)]
 pub(crate) struct Namings {
     pub first: Naming,
     pub second: Naming,

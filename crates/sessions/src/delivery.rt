@@ -15,7 +15,7 @@ use crate::session::Session;
 use frames::version::Version;
 use stores::{Range, Search};
 
-#[derive(Drop)]
+#[derive(Clone, Copy)]
 pub struct Deliveries {
     pub labels: [u8; Deliveries::MAX * Session::ID],
     pub lens: [u8; Deliveries::MAX],

@@ -1,4 +1,6 @@
 // Sessions: versions, heart-beats, the clock, and one client's session.
+#![tactic(auto)]
+
 mod store; // ids in a flat store
 pub mod delivery; // pending deliveries
 mod value; // header values: accept-version, heart-beat and ack

@@ -8,7 +8,7 @@ use crate::command::Header;
 use headers::EntryAt;
 
 // A value from start to end, if there is one.
-#[derive(Drop)]
+#[derive(Clone, Copy)]
 pub(crate) struct Located {
     pub start: usize,
     pub end: usize,
@@ -17,7 +17,7 @@ pub(crate) struct Located {
 
 // Where the first value of each header that a session knows is in a block, and how many entries have its name. Headers go by
 // their numbers.
-#[derive(Drop)]
+#[derive(Clone, Copy)]
 pub(crate) struct Notes {
     pub starts: [usize; Notes::HEADERS],
     pub ends: [usize; Notes::HEADERS],

@@ -12,7 +12,7 @@ use crate::value::HEART_BEAT_MAX;
 
 // What the server offers: it can send heart-beats every so many milliseconds, and wants to hear one every so many; and flags for the
 // versions 1.0, 1.1 and 1.2.
-#[derive(Drop)]
+#[derive(Clone, Copy)]
 pub struct Offers {
     pub sends: u32,
     pub wants: u32,
@@ -21,7 +21,7 @@ pub struct Offers {
 
 // What both sides agreed on at the opening: the intervals of heart-beats from client to server and from server to client, and the
 // versions that both have.
-#[derive(Drop)]
+#[derive(Clone, Copy)]
 pub struct Agreed {
     pub inbound: u32,
     pub outbound: u32,
@@ -30,7 +30,7 @@ pub struct Agreed {
 
 // The subscriptions that are live: their ids in places of 32 octets, with a length and an ack mode for each. A place of length 0 is
 // free, and has mode auto.
-#[derive(Drop)]
+#[derive(Clone, Copy)]
 pub struct SubscriptionStore {
     pub ids: [u8; Session::SUBSCRIPTIONS * Session::ID],
     pub lens: [u8; Session::SUBSCRIPTIONS],
@@ -38,7 +38,7 @@ pub struct SubscriptionStore {
 }
 
 // The ids of the transactions that are open, in the same way but for the mode.
-#[derive(Drop)]
+#[derive(Clone, Copy)]
 pub struct TransactionStore {
     pub ids: [u8; Session::TRANSACTIONS * Session::ID],
     pub lens: [u8; Session::TRANSACTIONS],

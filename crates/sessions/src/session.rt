@@ -28,7 +28,7 @@ use frames::version::Version;
 use stores::Search;
 
 // The record of a session, made of its parts. The phase is 0 fresh, 1 open, 2 closed.
-#[derive(Drop)]
+#[derive(Clone, Copy)]
 pub struct Session {
     pub offers: Offers,
     pub agreed: Agreed,
@@ -40,7 +40,7 @@ pub struct Session {
 }
 
 // What an accepted answer says: whether a receipt is owed, and how many later entries follow the first destination, id and transaction.
-#[derive(Drop)]
+#[derive(Clone, Copy)]
 pub struct Acceptance {
     pub receipt: bool,
     pub later_destinations: usize,
@@ -49,35 +49,35 @@ pub struct Acceptance {
 }
 
 // The answer to a frame or a heart-beat: accepted, or refused with a number.
-#[derive(Drop)]
+#[derive(Clone, Copy)]
 pub enum SessionAnswer {
     Accepted(Acceptance),
     Refused(u32),
 }
 
 // A session after a call, and the answer.
-#[derive(Drop)]
+#[derive(Clone, Copy)]
 pub struct Outcome {
     pub session: Session,
     pub answer: SessionAnswer,
 }
 
 // The answer to recording a delivery: recorded, or refused with a number.
-#[derive(Drop)]
+#[derive(Clone, Copy)]
 pub enum DeliveryAnswer {
     Recorded,
     Refused(u32),
 }
 
 // A session after a delivery was recorded or refused, and the answer.
-#[derive(Drop)]
+#[derive(Clone, Copy)]
 pub struct Recording {
     pub session: Session,
     pub answer: DeliveryAnswer,
 }
 
 // Whether a session holds the pending delivery asked for; of an invalid record (38) nobody can say.
-#[derive(Drop)]
+#[derive(Clone, Copy)]
 pub enum PendingAnswer {
     Held,
     Absent,
@@ -86,7 +86,7 @@ pub enum PendingAnswer {
 
 // A pending delivery: the id of its subscription with its length, the ack mode of that, and its label with its length. All is 0 where
 // none is held.
-#[derive(Drop)]
+#[derive(Clone, Copy)]
 pub struct PendingAt {
     pub answer: PendingAnswer,
     pub subscription: [u8; Session::ID],
@@ -97,21 +97,21 @@ pub struct PendingAt {
 }
 
 // The answer to making a session: made, or refused (34).
-#[derive(Drop)]
+#[derive(Clone, Copy)]
 pub enum MakingAnswer {
     Made,
     Refused,
 }
 
 // A session that was made, or a closed one.
-#[derive(Drop)]
+#[derive(Clone, Copy)]
 pub struct Making {
     pub session: Session,
     pub answer: MakingAnswer,
 }
 
 // Whether the peer is timed out; of an invalid record (38) nobody can say.
-#[derive(Drop)]
+#[derive(Clone, Copy)]
 pub enum TimedOut {
     Yes,
     No,

@@ -18,7 +18,7 @@ use crate::store::Settled;
 use frames::version::Version;
 
 // A place of a store, and the part of the block that is put there: an id, or nothing where the place is freed.
-#[derive(Drop)]
+#[derive(Clone, Copy)]
 pub(crate) struct Placing {
     pub place: usize,
     pub start: usize,
@@ -26,7 +26,7 @@ pub(crate) struct Placing {
 }
 
 // What is put, and in which store.
-#[derive(Drop)]
+#[derive(Clone, Copy)]
 pub(crate) enum Put {
     Nothing,
     Subscription(Placing),
@@ -35,7 +35,7 @@ pub(crate) enum Put {
 
 // What becomes of modes and deliveries: nothing; the subscription in a place gets a mode; or it has none any more, and its deliveries are
 // dropped; or the delivery with a number is settled.
-#[derive(Drop)]
+#[derive(Clone, Copy)]
 pub(crate) enum Further {
     Nothing,
     Mode(usize, u8),
@@ -44,7 +44,7 @@ pub(crate) enum Further {
 }
 
 // That, or the number that the frame is refused with.
-#[derive(Drop)]
+#[derive(Clone, Copy)]
 pub(crate) enum Looked {
     Refused(u32),
     Does(Further),
@@ -52,7 +52,7 @@ pub(crate) enum Looked {
 
 // What becomes of the session: it is closed; or it is heard from, and closed by a DISCONNECT, opened, as it was, or changed by what is
 // put and what becomes of modes and deliveries.
-#[derive(Drop)]
+#[derive(Clone, Copy)]
 pub(crate) enum Change {
     Close,
     Disconnect,
@@ -63,7 +63,7 @@ pub(crate) enum Change {
 
 // What became of the ids that a frame names: the first of them, which alone may be entered or freed, as the store settled it; and the
 // lowest number of those that are refused, or 0.
-#[derive(Drop)]
+#[derive(Clone, Copy)]
 pub(crate) struct Named {
     pub first: Naming,
     pub settled: Settled,
@@ -71,7 +71,7 @@ pub(crate) struct Named {
 }
 
 // The answer to a frame, and what becomes of the session; where it is opened, with what both sides agreed on.
-#[derive(Drop)]
+#[derive(Clone, Copy)]
 pub(crate) struct Step {
     pub answer: SessionAnswer,
     pub change: Change,

@@ -11,7 +11,7 @@ use crate::refusals;
 use stores::Search;
 
 // What a call makes of an id: nothing; it needs it live; it enters it; it frees it.
-#[derive(Drop)]
+#[derive(Clone, Copy)]
 pub(crate) enum Use {
     Nothing,
     Need,
@@ -20,7 +20,7 @@ pub(crate) enum Use {
 }
 
 // What becomes of that: refused with a number; nothing to store; or the place that gets the id, or is emptied.
-#[derive(Drop)]
+#[derive(Clone, Copy)]
 pub(crate) enum Settled {
     Refused(u32),
     Kept,

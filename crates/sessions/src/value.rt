@@ -13,14 +13,14 @@ use frames::version::Version;
 use headers::DecimalRead;
 
 // The versions of an accept-version value, as flags for 1.0, 1.1 and 1.2, and whether it is well formed.
-#[derive(Drop)]
+#[derive(Clone, Copy)]
 pub(crate) struct VersionsRead {
     pub flags: [bool; 3],
     pub valid: bool,
 }
 
 // The two numbers of a heart-beat value, and whether it is well formed.
-#[derive(Drop)]
+#[derive(Clone, Copy)]
 pub(crate) struct HeartBeatsRead {
     pub sends: u32,
     pub wants: u32,
@@ -28,7 +28,7 @@ pub(crate) struct HeartBeatsRead {
 }
 
 // An ack value: a mode, or none that is known.
-#[derive(Drop)]
+#[derive(Clone, Copy)]
 pub(crate) enum ModeRead {
     Mode(u8),
     Unknown,

@@ -1,0 +1,63 @@
+-- `session::Session::drop_deliveries` meets its contract, by the place of the id. Assumes nothing.
+use Rattle.std.proofs.Common.{◌≡◌, true, ◌&&◌, eqb, sym, ap, ◌∙◌, rules, eqb-true}
+use mathlib.Core.Option.{some}
+use Rattle.headers.specs.Rows.{same}
+use Rattle.headers.proofs.Rows.{and_left, and_right}
+use Rattle.stores.specs.Places.{is_zero}
+use Rattle.sessions.specs.Sessions.{is_valid}
+use Rattle.sessions.specs.Deliveries.{auto_mode, with_mode, dropped}
+use Rattle.sessions.specs.Calls.{place_named}
+use Rattle.sessions.proofs.Kept.{Kept, kept_of}
+use Rattle.sessions.proofs.Delivering.{laid_of, place_inside, says_at, says_nowhere, dropped_idle, modes_idle}
+use Rattle.sessions.proofs.Deciding.{does_nothing, does_drop}
+use Rattle.sessions.proofs.session.Session.drop_deliveries.Goals as goal
+
+-- a valid session, with the sizes of its arrays
+kept-1 : (c : goal.Then-count-is_zero) → is_valid c.args.self ≡ true → Kept c.args.self
+kept-1 c v =
+    let subs = c.well_formed.0.1.1.1.1.0 in
+    let txs = c.well_formed.0.1.1.1.1.1.0 in
+    let ds = c.well_formed.0.1.1.1.1.1.1.0 in
+    kept_of c.args.self
+    (record {
+      subscriptions = record { ids_long = search (rules, subs); lens_long = search (rules, subs); modes_long = search (rules, subs) };
+      transactions = record { ids_long = search (rules, txs); lens_long = search (rules, txs) };
+    })
+    (record { labels_long = search (rules, ds); lens_long = search (rules, ds); places_long = search (rules, ds) }) v
+
+pub returns-then-count-is_zero : goal.returns-then-count-is_zero
+returns-then-count-is_zero c =
+    let a = c.args in
+    let held = kept-1 c c.requires in
+    let d = a.self.deliveries in
+    let ms = a.self.subscriptions.modes in
+    let o = place_named a.self (some a.id.now) in
+    let idle : eqb d.count 0 && is_zero ms ≡ true = ap (eqb d.count 0 &&◌) (sym c.is_zero.ensures) ∙ c.if-count-is_zero.true in
+    does_nothing a.self _ _ (sym (modes_idle ms o (and_right (eqb d.count 0) (is_zero ms) idle)))
+    (sym (dropped_idle d held.holds.sized (laid_of a.self held) o (eqb-true d.count 0 (and_left (eqb d.count 0) (is_zero ms) idle))))
+
+-- a valid session, with the sizes of its arrays
+kept-2 : (c : goal.In-At) → is_valid c.args.self ≡ true → Kept c.args.self
+kept-2 c v =
+    let subs = c.well_formed.0.1.1.1.1.0 in
+    let txs = c.well_formed.0.1.1.1.1.1.0 in
+    let ds = c.well_formed.0.1.1.1.1.1.1.0 in
+    kept_of c.args.self
+    (record {
+      subscriptions = record { ids_long = search (rules, subs); lens_long = search (rules, subs); modes_long = search (rules, subs) };
+      transactions = record { ids_long = search (rules, txs); lens_long = search (rules, txs) };
+    })
+    (record { labels_long = search (rules, ds); lens_long = search (rules, ds); places_long = search (rules, ds) }) v
+
+pub returns-in-At : goal.returns-in-At
+returns-in-At c =
+    let a = c.args in
+    let found = says_at _ _ _ c.find_subscription.ensures c.in-At.is in
+    does_drop a.self (place_named a.self (some a.id.now)) _ found
+    (place_inside a.self (kept-2 c c.requires) (λ x. same x a.id.now) _ found)
+
+pub returns-in-Nowhere : goal.returns-in-Nowhere
+returns-in-Nowhere c =
+    let a = c.args in
+    let missed = says_nowhere _ _ c.find_subscription.ensures c.in-Nowhere.is in
+    does_nothing a.self _ _ (ap (λ o. with_mode o auto_mode a.self.subscriptions.modes) missed) (ap (λ o. dropped o a.self.deliveries) missed)

@@ -1,0 +1,96 @@
+-- `session::Session::settle_label` meets its contract: settled, or 60. Assumes nothing.
+use Rattle.std.proofs.Common.{◌≡◌, true, sym, ◌∙◌, rules}
+use Rattle.sessions.specs.Sessions.{is_valid}
+use Rattle.sessions.proofs.Kept.{Kept, kept_of}
+use Rattle.sessions.proofs.Delivering.{laid_of, says_at, says_nowhere, label_found}
+use Rattle.sessions.proofs.Deciding.{label_settles, label_other, label_fails}
+use Rattle.sessions.proofs.session.Session.settle_label.Goals as goal
+
+-- a valid session, with the sizes of its arrays
+kept-1 : (c : goal.After-deliveries-1) → is_valid c.args.self ≡ true → Kept c.args.self
+kept-1 c v =
+    let subs = c.well_formed.0.1.1.1.1.0 in
+    let txs = c.well_formed.0.1.1.1.1.1.0 in
+    let ds = c.well_formed.0.1.1.1.1.1.1.0 in
+    kept_of c.args.self
+    (record {
+      subscriptions = record { ids_long = search (rules, subs); lens_long = search (rules, subs); modes_long = search (rules, subs) };
+      transactions = record { ids_long = search (rules, txs); lens_long = search (rules, txs) };
+    })
+    (record { labels_long = search (rules, ds); lens_long = search (rules, ds); places_long = search (rules, ds) }) v
+
+pub find-requires : goal.find-requires
+find-requires c = laid_of c.args.self (kept-1 c c.requires)
+
+-- a valid session, with the sizes of its arrays
+kept-2 : (c : goal.In-At) → is_valid c.args.self ≡ true → Kept c.args.self
+kept-2 c v =
+    let subs = c.well_formed.0.1.1.1.1.0 in
+    let txs = c.well_formed.0.1.1.1.1.1.0 in
+    let ds = c.well_formed.0.1.1.1.1.1.1.0 in
+    kept_of c.args.self
+    (record {
+      subscriptions = record { ids_long = search (rules, subs); lens_long = search (rules, subs); modes_long = search (rules, subs) };
+      transactions = record { ids_long = search (rules, txs); lens_long = search (rules, txs) };
+    })
+    (record { labels_long = search (rules, ds); lens_long = search (rules, ds); places_long = search (rules, ds) }) v
+
+pub may_name-requires : goal.may_name-requires
+may_name-requires c =
+    let valid = kept-2 c c.requires in (
+      laid_of c.args.self valid,
+      (label_found c.args.self valid (λ p. true) c.args.label.now _ (says_at _ _ _ c.find.ensures c.in-At.is)).0,
+    )
+
+-- a valid session, with the sizes of its arrays
+kept-3 : (c : goal.Then-not-may_name) → is_valid c.args.self ≡ true → Kept c.args.self
+kept-3 c v =
+    let subs = c.well_formed.0.1.1.1.1.0 in
+    let txs = c.well_formed.0.1.1.1.1.1.0 in
+    let ds = c.well_formed.0.1.1.1.1.1.1.0 in
+    kept_of c.args.self
+    (record {
+      subscriptions = record { ids_long = search (rules, subs); lens_long = search (rules, subs); modes_long = search (rules, subs) };
+      transactions = record { ids_long = search (rules, txs); lens_long = search (rules, txs) };
+    })
+    (record { labels_long = search (rules, ds); lens_long = search (rules, ds); places_long = search (rules, ds) }) v
+
+pub returns-then-not-may_name : goal.returns-then-not-may_name
+returns-then-not-may_name c =
+    label_other c.args.self (kept-3 c c.requires) _ c.args.label.now _ (says_at _ _ _ c.find.ensures c.in-At.is)
+    (sym c.may_name.ensures ∙ c.if-not-may_name.true)
+
+-- a valid session, with the sizes of its arrays
+kept-4 : (c : goal.Else-not-may_name) → is_valid c.args.self ≡ true → Kept c.args.self
+kept-4 c v =
+    let subs = c.well_formed.0.1.1.1.1.0 in
+    let txs = c.well_formed.0.1.1.1.1.1.0 in
+    let ds = c.well_formed.0.1.1.1.1.1.1.0 in
+    kept_of c.args.self
+    (record {
+      subscriptions = record { ids_long = search (rules, subs); lens_long = search (rules, subs); modes_long = search (rules, subs) };
+      transactions = record { ids_long = search (rules, txs); lens_long = search (rules, txs) };
+    })
+    (record { labels_long = search (rules, ds); lens_long = search (rules, ds); places_long = search (rules, ds) }) v
+
+pub returns-else-not-may_name : goal.returns-else-not-may_name
+returns-else-not-may_name c =
+    label_settles c.args.self (kept-4 c c.requires) _ c.args.label.now _ (says_at _ _ _ c.find.ensures c.in-At.is)
+    (sym c.may_name.ensures ∙ c.if-not-may_name.false)
+
+-- a valid session, with the sizes of its arrays
+kept-5 : (c : goal.In-Nowhere) → is_valid c.args.self ≡ true → Kept c.args.self
+kept-5 c v =
+    let subs = c.well_formed.0.1.1.1.1.0 in
+    let txs = c.well_formed.0.1.1.1.1.1.0 in
+    let ds = c.well_formed.0.1.1.1.1.1.1.0 in
+    kept_of c.args.self
+    (record {
+      subscriptions = record { ids_long = search (rules, subs); lens_long = search (rules, subs); modes_long = search (rules, subs) };
+      transactions = record { ids_long = search (rules, txs); lens_long = search (rules, txs) };
+    })
+    (record { labels_long = search (rules, ds); lens_long = search (rules, ds); places_long = search (rules, ds) }) v
+
+pub returns-in-Nowhere : goal.returns-in-Nowhere
+returns-in-Nowhere c =
+    label_fails c.args.self (kept-5 c c.requires) _ c.args.label.now (says_nowhere _ _ c.find.ensures c.in-Nowhere.is)

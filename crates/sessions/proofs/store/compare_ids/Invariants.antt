@@ -1,0 +1,11 @@
+use Rattle.std.proofs.Common.{◌≡◌, ◌-◌, true, drop}
+use Rattle.sessions.specs.Stores.{ids, clean, distinct}
+use Rattle.stores.proofs.Walking.{Before}
+use Rattle.sessions.proofs.store.compare_ids.Given as goal
+
+abbrev pub invariant-loop-k : goal.invariant-loop-k
+invariant-loop-k l = Before l.width l.count l.k l.at × (clean l.width (drop l.at l.store) (drop l.k l.lens) ≡ true) ×
+    (distinct (ids l.width l.store l.lens) ≡ distinct (ids l.width (drop l.at l.store) (drop l.k l.lens)))
+
+abbrev pub decreases-loop-k : goal.decreases-loop-k
+decreases-loop-k l = l.count - l.k
