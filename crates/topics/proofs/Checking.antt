@@ -20,7 +20,7 @@ use Rattle.headers.specs.Numbers.{evaluate}
 use Rattle.headers.proofs.Rows.{and_left, and_right, and_no}
 use Rattle.topics.specs.Topics.{words, well_formed, matches, yes_or_no, match_answer, match_says}
 use Rattle.topics.specs.Lists.{Entry, Pair, before, is_some, listed, messages_in, subscriptions_in, pair_front, pair_format, pairs_in}
-use Rattle.topics.specs.Plans.{Verdict, accepted, refusal, numbered, distinct, texts_formed, is_valid, with_message, with_subscription, how_many, pair_answer, is_left_out, left_out_answer, bad_or, checked, pairs_max, plan_of, plan_answer}
+use Rattle.topics.specs.Plans.{Verdict, refusal, numbered, distinct, texts_formed, is_valid, with_message, with_subscription, how_many, pair_answer, is_left_out, left_out_answer, bad_or, checked, pairs_max, plan_of, plan_answer}
 use Rattle.topics.specs.Places.{pair_says}
 use Rattle.topics.proofs.Lists.{some_before, listed_before, place_step, place_end, records_end, records_step, records_none, records_grow, whole_fits}
 use Rattle.topics.proofs.Formats.{pair_local}

@@ -1,4 +1,6 @@
 // Names and patterns of ports, and plans for handing out queued messages.
+#![tactic(auto)]
+
 pub mod word; // words between points
 pub mod pattern; // whether a pattern matches a name
 mod list; // lists of records

@@ -23,7 +23,7 @@ pub(crate) const SUBSCRIPTION: usize = 4;
 pub(crate) const PAIR: usize = 8;
 
 // A message or a subscription: its number, where its text is, its room, and where the next record begins.
-#[derive(Drop)]
+#[derive(Clone, Copy)]
 pub(crate) struct Record {
     pub number: usize,
     pub from: usize,
@@ -33,7 +33,7 @@ pub(crate) struct Record {
 }
 
 // What is at a place of a list: a whole record, nothing more, or no record.
-#[derive(Drop)]
+#[derive(Clone, Copy)]
 pub(crate) enum RecordAt {
     Record(Record),
     End,
@@ -42,7 +42,7 @@ pub(crate) enum RecordAt {
 
 // What reading a list finds: that it is no list of records with well-formed texts; that it is, with numbers in ascending order; or that
 // it is, with numbers in another order.
-#[derive(Drop)]
+#[derive(Clone, Copy)]
 enum Reading {
     Malformed,
     Ascending,
@@ -50,7 +50,7 @@ enum Reading {
 }
 
 // What looking a number up finds.
-#[derive(Drop)]
+#[derive(Clone, Copy)]
 pub(crate) enum Lookup {
     At(Record),
     Absent,

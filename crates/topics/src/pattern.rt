@@ -6,7 +6,7 @@ ghost use Rattle.topics.specs.Topics.{Word, words, hash, matches as matching, ma
 ghost use Rattle.topics.specs.Rows.{Located, Next};
 
 // What asking for a match gives: whether the pattern matches, or that the name (80) or the pattern (81) is malformed.
-#[derive(Drop)]
+#[derive(Clone, Copy)]
 pub enum Match {
     Yes,
     No,

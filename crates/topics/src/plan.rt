@@ -11,7 +11,7 @@ use crate::pattern::Match;
 
 // The first bad pair of a plan, from 0, and what is wrong with it: 96 unknown message, 97 message in an earlier pair, 98 subscription
 // not live or not matching, 99 over its room.
-#[derive(Drop)]
+#[derive(Clone, Copy)]
 pub struct Fault {
     pub code: u32,
     pub index: u32,
@@ -19,7 +19,7 @@ pub struct Fault {
 
 // What checking a plan gives: accepted, more than 64 whole pairs (101), a malformed list (102), its first bad pair, or the number of
 // the first message left out (100).
-#[derive(Drop)]
+#[derive(Clone, Copy)]
 pub enum PlanAnswer {
     Accepted,
     TooManyPairs,
