@@ -62,7 +62,7 @@ turn-2 c =
 pub overflow_add-used : goal.overflow_add-used
 overflow_add-used c =
     let h = c.loop-i in
-    omega (arith, ((turn-2 c).writes _ c.in-Length.is).fewer, h.invariant, c.requires.1, c.well_formed)
+    omega (arith, ((turn-2 c).writes _ c.in-Length.is).fewer, h.invariant, c.requires.1)
 
 pub loop-i-preserved : goal.loop-i-preserved
 loop-i-preserved c =

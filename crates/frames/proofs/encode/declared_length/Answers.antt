@@ -10,7 +10,7 @@ use Rattle.frames.proofs.encode.declared_length.Goals as goal
 
 known-1 : (c : goal.After-struct_known-1) (r : Found) → c.find.result ≡ r → Told c.args.block.now (declared_of r)
 known-1 c r e =
-    told_of c.args.block.now (octets_known c.args.block.now (λ i. omega (arith, c.shared_slice_known-1.given i))) r
+    told_of c.args.block.now (octets_known c.args.block.now (λ i. omega (arith, c.type_inv.block i))) r
     (ap found_says (sym e) ∙ c.find.ensures)
 
 pub overflow_add-result : goal.overflow_add-result
@@ -21,7 +21,7 @@ returns-in-Value c = known-1 c (Found.Value c.in-Value.p) c.in-Value.is
 
 known-2 : (c : goal.In-Absent) (r : Found) → c.find.result ≡ r → Told c.args.block.now (declared_of r)
 known-2 c r e =
-    told_of c.args.block.now (octets_known c.args.block.now (λ i. omega (arith, c.shared_slice_known-1.given i))) r
+    told_of c.args.block.now (octets_known c.args.block.now (λ i. omega (arith, c.type_inv.block i))) r
     (ap found_says (sym e) ∙ c.find.ensures)
 
 pub returns-in-Absent : goal.returns-in-Absent
@@ -29,7 +29,7 @@ returns-in-Absent c = known-2 c Found.Absent c.in-Absent.is
 
 known-3 : (c : goal.In-Malformed) (r : Found) → c.find.result ≡ r → Told c.args.block.now (declared_of r)
 known-3 c r e =
-    told_of c.args.block.now (octets_known c.args.block.now (λ i. omega (arith, c.shared_slice_known-1.given i))) r
+    told_of c.args.block.now (octets_known c.args.block.now (λ i. omega (arith, c.type_inv.block i))) r
     (ap found_says (sym e) ∙ c.find.ensures)
 
 pub returns-in-Malformed : goal.returns-in-Malformed

@@ -45,8 +45,8 @@ told-2 c f e = ap encoded_says (sym e) ∙ (encodes-2 c).answered
 -- a length and an index are small
 length-small : (c : goal.In-Length) (n : ℕ) → c.encode.result ≡ Encoded.Length n → n < 65536
 length-small c n e =
-    encode_small ((version_in c.args.options)) (call-2 c) ((length c.args.target.now)) n (octets_known (call-2 c).block (λ i. omega (arith, c.shared_slice_known-1.given i)))
-    (octets_known (call-2 c).body (λ i. omega (arith, c.shared_slice_known-2-1.given i))) (told-2 c (Encoded.Length n) e)
+    encode_small ((version_in c.args.options)) (call-2 c) ((length c.args.target.now)) n (octets_known (call-2 c).block (λ i. omega (arith, c.type_inv.block i)))
+    (octets_known (call-2 c).body (λ i. omega (arith, c.type_inv.body i))) (told-2 c (Encoded.Length n) e)
 
 pub returns-in-Length : goal.returns-in-Length
 returns-in-Length c =

@@ -16,7 +16,7 @@ gives-1 c f n e q =
     let a = c.args in
     let h = ap found_says (sym e) ∙ c.find.ensures in
     let short : length a.block.now < 2 ^ 64 = omega arith in
-    let octets = octets_known a.block.now (λ i. omega (arith, c.shared_slice_known-1.given i)) in (
+    let octets = octets_known a.block.now (λ i. omega (arith, c.type_inv.block i)) in (
       q ∙ ap (λ z. packed_later (later_alone z)) h,
       ap unpacked_later q ∙ later_back a.block.now a.name.now octets short f h ∙ ap later_alone h,
     )
@@ -30,7 +30,7 @@ gives-2 c f n e q =
     let a = c.args in
     let h = ap found_says (sym e) ∙ c.find.ensures in
     let short : length a.block.now < 2 ^ 64 = omega arith in
-    let octets = octets_known a.block.now (λ i. omega (arith, c.shared_slice_known-1.given i)) in (
+    let octets = octets_known a.block.now (λ i. omega (arith, c.type_inv.block i)) in (
       q ∙ ap (λ z. packed_later (later_alone z)) h,
       ap unpacked_later q ∙ later_back a.block.now a.name.now octets short f h ∙ ap later_alone h,
     )
@@ -44,7 +44,7 @@ gives-3 c f n e q =
     let a = c.args in
     let h = ap found_says (sym e) ∙ c.find.ensures in
     let short : length a.block.now < 2 ^ 64 = omega arith in
-    let octets = octets_known a.block.now (λ i. omega (arith, c.shared_slice_known-1.given i)) in (
+    let octets = octets_known a.block.now (λ i. omega (arith, c.type_inv.block i)) in (
       q ∙ ap (λ z. packed_later (later_alone z)) h,
       ap unpacked_later q ∙ later_back a.block.now a.name.now octets short f h ∙ ap later_alone h,
     )

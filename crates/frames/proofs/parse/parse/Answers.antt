@@ -14,5 +14,5 @@ returns c =
     let a = c.args in
     let xs = a.octets.now in
     let begins = c.nothing_read-begin.ensures ∙ ap nothing_read c.has_crlf.ensures in
-    replied a.version xs (λ i. omega (arith, c.shared_slice_known-1.given i)) c.run.result
+    replied a.version xs (λ i. omega (arith, c.type_inv.octets i)) c.run.result
     (c.run.ensures.0 ∙ ap (λ z. scan z xs) begins) _ c.reply.ensures

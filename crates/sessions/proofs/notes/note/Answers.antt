@@ -97,7 +97,7 @@ pub returns-in-End : goal.returns-in-End
 returns-in-End c =
     let block = c.args.block.now in
     walk_ends block c.loop-l.notes c.loop-l.i c.loop-l.invariant
-    (octets_known block (λ i. omega (arith, c.shared_slice_known-1.given i)))
+    (octets_known block (λ i. omega (arith, c.type_inv.block i)))
     (told_end _ _ c.entry_at.ensures c.in-End.is)
 
 pub returns-in-Malformed : goal.returns-in-Malformed

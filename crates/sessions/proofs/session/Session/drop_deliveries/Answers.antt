@@ -15,15 +15,12 @@ use Rattle.sessions.proofs.session.Session.drop_deliveries.Goals as goal
 -- a valid session, with the sizes of its arrays
 kept-1 : (c : goal.Then-count-is_zero) → is_valid c.args.self ≡ true → Kept c.args.self
 kept-1 c v =
-    let subs = c.well_formed.0.1.1.1.1.0 in
-    let txs = c.well_formed.0.1.1.1.1.1.0 in
-    let ds = c.well_formed.0.1.1.1.1.1.1.0 in
     kept_of c.args.self
     (record {
-      subscriptions = record { ids_long = search (rules, subs); lens_long = search (rules, subs); modes_long = search (rules, subs) };
-      transactions = record { ids_long = search (rules, txs); lens_long = search (rules, txs) };
+      subscriptions = record { ids_long = search rules; lens_long = search rules; modes_long = search rules };
+      transactions = record { ids_long = search rules; lens_long = search rules };
     })
-    (record { labels_long = search (rules, ds); lens_long = search (rules, ds); places_long = search (rules, ds) }) v
+    (record { labels_long = search rules; lens_long = search rules; places_long = search rules }) v
 
 pub returns-then-count-is_zero : goal.returns-then-count-is_zero
 returns-then-count-is_zero c =
@@ -39,15 +36,12 @@ returns-then-count-is_zero c =
 -- a valid session, with the sizes of its arrays
 kept-2 : (c : goal.In-At) → is_valid c.args.self ≡ true → Kept c.args.self
 kept-2 c v =
-    let subs = c.well_formed.0.1.1.1.1.0 in
-    let txs = c.well_formed.0.1.1.1.1.1.0 in
-    let ds = c.well_formed.0.1.1.1.1.1.1.0 in
     kept_of c.args.self
     (record {
-      subscriptions = record { ids_long = search (rules, subs); lens_long = search (rules, subs); modes_long = search (rules, subs) };
-      transactions = record { ids_long = search (rules, txs); lens_long = search (rules, txs) };
+      subscriptions = record { ids_long = search rules; lens_long = search rules; modes_long = search rules };
+      transactions = record { ids_long = search rules; lens_long = search rules };
     })
-    (record { labels_long = search (rules, ds); lens_long = search (rules, ds); places_long = search (rules, ds) }) v
+    (record { labels_long = search rules; lens_long = search rules; places_long = search rules }) v
 
 pub returns-in-At : goal.returns-in-At
 returns-in-At c =

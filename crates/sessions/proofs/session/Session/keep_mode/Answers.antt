@@ -12,15 +12,12 @@ use Rattle.sessions.proofs.session.Session.keep_mode.Goals as goal
 -- a valid session, with the sizes of its arrays
 kept-1 : (c : goal.Then-mode-eq-AUTO) → is_valid c.args.self ≡ true → Kept c.args.self
 kept-1 c v =
-    let subs = c.well_formed.0.1.1.1.1.0 in
-    let txs = c.well_formed.0.1.1.1.1.1.0 in
-    let ds = c.well_formed.0.1.1.1.1.1.1.0 in
     kept_of c.args.self
     (record {
-      subscriptions = record { ids_long = search (rules, subs); lens_long = search (rules, subs); modes_long = search (rules, subs) };
-      transactions = record { ids_long = search (rules, txs); lens_long = search (rules, txs) };
+      subscriptions = record { ids_long = search rules; lens_long = search rules; modes_long = search rules };
+      transactions = record { ids_long = search rules; lens_long = search rules };
     })
-    (record { labels_long = search (rules, ds); lens_long = search (rules, ds); places_long = search (rules, ds) }) v
+    (record { labels_long = search rules; lens_long = search rules; places_long = search rules }) v
 
 pub returns-then-mode-eq-AUTO : goal.returns-then-mode-eq-AUTO
 returns-then-mode-eq-AUTO c =
@@ -31,15 +28,12 @@ returns-then-mode-eq-AUTO c =
 -- a valid session, with the sizes of its arrays
 kept-2 : (c : goal.In-At) → is_valid c.args.self ≡ true → Kept c.args.self
 kept-2 c v =
-    let subs = c.well_formed.0.1.1.1.1.0 in
-    let txs = c.well_formed.0.1.1.1.1.1.0 in
-    let ds = c.well_formed.0.1.1.1.1.1.1.0 in
     kept_of c.args.self
     (record {
-      subscriptions = record { ids_long = search (rules, subs); lens_long = search (rules, subs); modes_long = search (rules, subs) };
-      transactions = record { ids_long = search (rules, txs); lens_long = search (rules, txs) };
+      subscriptions = record { ids_long = search rules; lens_long = search rules; modes_long = search rules };
+      transactions = record { ids_long = search rules; lens_long = search rules };
     })
-    (record { labels_long = search (rules, ds); lens_long = search (rules, ds); places_long = search (rules, ds) }) v
+    (record { labels_long = search rules; lens_long = search rules; places_long = search rules }) v
 
 pub returns-in-At : goal.returns-in-At
 returns-in-At c =
@@ -51,15 +45,12 @@ returns-in-At c =
 -- a valid session, with the sizes of its arrays
 kept-3 : (c : goal.In-Nowhere) → is_valid c.args.self ≡ true → Kept c.args.self
 kept-3 c v =
-    let subs = c.well_formed.0.1.1.1.1.0 in
-    let txs = c.well_formed.0.1.1.1.1.1.0 in
-    let ds = c.well_formed.0.1.1.1.1.1.1.0 in
     kept_of c.args.self
     (record {
-      subscriptions = record { ids_long = search (rules, subs); lens_long = search (rules, subs); modes_long = search (rules, subs) };
-      transactions = record { ids_long = search (rules, txs); lens_long = search (rules, txs) };
+      subscriptions = record { ids_long = search rules; lens_long = search rules; modes_long = search rules };
+      transactions = record { ids_long = search rules; lens_long = search rules };
     })
-    (record { labels_long = search (rules, ds); lens_long = search (rules, ds); places_long = search (rules, ds) }) v
+    (record { labels_long = search rules; lens_long = search rules; places_long = search rules }) v
 
 pub returns-in-Nowhere : goal.returns-in-Nowhere
 returns-in-Nowhere c =

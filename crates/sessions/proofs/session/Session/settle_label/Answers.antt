@@ -9,15 +9,12 @@ use Rattle.sessions.proofs.session.Session.settle_label.Goals as goal
 -- a valid session, with the sizes of its arrays
 kept-1 : (c : goal.After-deliveries-1) → is_valid c.args.self ≡ true → Kept c.args.self
 kept-1 c v =
-    let subs = c.well_formed.0.1.1.1.1.0 in
-    let txs = c.well_formed.0.1.1.1.1.1.0 in
-    let ds = c.well_formed.0.1.1.1.1.1.1.0 in
     kept_of c.args.self
     (record {
-      subscriptions = record { ids_long = search (rules, subs); lens_long = search (rules, subs); modes_long = search (rules, subs) };
-      transactions = record { ids_long = search (rules, txs); lens_long = search (rules, txs) };
+      subscriptions = record { ids_long = search rules; lens_long = search rules; modes_long = search rules };
+      transactions = record { ids_long = search rules; lens_long = search rules };
     })
-    (record { labels_long = search (rules, ds); lens_long = search (rules, ds); places_long = search (rules, ds) }) v
+    (record { labels_long = search rules; lens_long = search rules; places_long = search rules }) v
 
 pub find-requires : goal.find-requires
 find-requires c = laid_of c.args.self (kept-1 c c.requires)
@@ -25,15 +22,12 @@ find-requires c = laid_of c.args.self (kept-1 c c.requires)
 -- a valid session, with the sizes of its arrays
 kept-2 : (c : goal.In-At) → is_valid c.args.self ≡ true → Kept c.args.self
 kept-2 c v =
-    let subs = c.well_formed.0.1.1.1.1.0 in
-    let txs = c.well_formed.0.1.1.1.1.1.0 in
-    let ds = c.well_formed.0.1.1.1.1.1.1.0 in
     kept_of c.args.self
     (record {
-      subscriptions = record { ids_long = search (rules, subs); lens_long = search (rules, subs); modes_long = search (rules, subs) };
-      transactions = record { ids_long = search (rules, txs); lens_long = search (rules, txs) };
+      subscriptions = record { ids_long = search rules; lens_long = search rules; modes_long = search rules };
+      transactions = record { ids_long = search rules; lens_long = search rules };
     })
-    (record { labels_long = search (rules, ds); lens_long = search (rules, ds); places_long = search (rules, ds) }) v
+    (record { labels_long = search rules; lens_long = search rules; places_long = search rules }) v
 
 pub may_name-requires : goal.may_name-requires
 may_name-requires c =
@@ -45,15 +39,12 @@ may_name-requires c =
 -- a valid session, with the sizes of its arrays
 kept-3 : (c : goal.Then-not-may_name) → is_valid c.args.self ≡ true → Kept c.args.self
 kept-3 c v =
-    let subs = c.well_formed.0.1.1.1.1.0 in
-    let txs = c.well_formed.0.1.1.1.1.1.0 in
-    let ds = c.well_formed.0.1.1.1.1.1.1.0 in
     kept_of c.args.self
     (record {
-      subscriptions = record { ids_long = search (rules, subs); lens_long = search (rules, subs); modes_long = search (rules, subs) };
-      transactions = record { ids_long = search (rules, txs); lens_long = search (rules, txs) };
+      subscriptions = record { ids_long = search rules; lens_long = search rules; modes_long = search rules };
+      transactions = record { ids_long = search rules; lens_long = search rules };
     })
-    (record { labels_long = search (rules, ds); lens_long = search (rules, ds); places_long = search (rules, ds) }) v
+    (record { labels_long = search rules; lens_long = search rules; places_long = search rules }) v
 
 pub returns-then-not-may_name : goal.returns-then-not-may_name
 returns-then-not-may_name c =
@@ -63,15 +54,12 @@ returns-then-not-may_name c =
 -- a valid session, with the sizes of its arrays
 kept-4 : (c : goal.Else-not-may_name) → is_valid c.args.self ≡ true → Kept c.args.self
 kept-4 c v =
-    let subs = c.well_formed.0.1.1.1.1.0 in
-    let txs = c.well_formed.0.1.1.1.1.1.0 in
-    let ds = c.well_formed.0.1.1.1.1.1.1.0 in
     kept_of c.args.self
     (record {
-      subscriptions = record { ids_long = search (rules, subs); lens_long = search (rules, subs); modes_long = search (rules, subs) };
-      transactions = record { ids_long = search (rules, txs); lens_long = search (rules, txs) };
+      subscriptions = record { ids_long = search rules; lens_long = search rules; modes_long = search rules };
+      transactions = record { ids_long = search rules; lens_long = search rules };
     })
-    (record { labels_long = search (rules, ds); lens_long = search (rules, ds); places_long = search (rules, ds) }) v
+    (record { labels_long = search rules; lens_long = search rules; places_long = search rules }) v
 
 pub returns-else-not-may_name : goal.returns-else-not-may_name
 returns-else-not-may_name c =
@@ -81,15 +69,12 @@ returns-else-not-may_name c =
 -- a valid session, with the sizes of its arrays
 kept-5 : (c : goal.In-Nowhere) → is_valid c.args.self ≡ true → Kept c.args.self
 kept-5 c v =
-    let subs = c.well_formed.0.1.1.1.1.0 in
-    let txs = c.well_formed.0.1.1.1.1.1.0 in
-    let ds = c.well_formed.0.1.1.1.1.1.1.0 in
     kept_of c.args.self
     (record {
-      subscriptions = record { ids_long = search (rules, subs); lens_long = search (rules, subs); modes_long = search (rules, subs) };
-      transactions = record { ids_long = search (rules, txs); lens_long = search (rules, txs) };
+      subscriptions = record { ids_long = search rules; lens_long = search rules; modes_long = search rules };
+      transactions = record { ids_long = search rules; lens_long = search rules };
     })
-    (record { labels_long = search (rules, ds); lens_long = search (rules, ds); places_long = search (rules, ds) }) v
+    (record { labels_long = search rules; lens_long = search rules; places_long = search rules }) v
 
 pub returns-in-Nowhere : goal.returns-in-Nowhere
 returns-in-Nowhere c =

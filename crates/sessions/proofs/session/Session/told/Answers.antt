@@ -88,7 +88,7 @@ bounds-modes-place c =
 
 pub slice_bounds-row-end-2 : goal.slice_bounds-row-end-2
 slice_bounds-row-end-2 c =
-    search (rules, c.well_formed.0.1.1.1.1.1.1.0)
+    search rules
 
 -- a valid session, with the sizes of its arrays
 kept-4 : (c : goal.After-labels-2-1) → is_valid c.args.self ≡ true → Kept c.args.self

@@ -30,11 +30,9 @@ returns-in-Refused c =
 -- the sizes of its arrays
 sized : (c : goal.After-accepting) → Sized c.args.self
 sized c =
-    let subs = c.well_formed.0.1.1.1.1.0 in
-    let txs = c.well_formed.0.1.1.1.1.1.0 in
     record {
-      subscriptions = record { ids_long = search (rules, subs); lens_long = search (rules, subs); modes_long = search (rules, subs) };
-      transactions = record { ids_long = search (rules, txs); lens_long = search (rules, txs) };
+      subscriptions = record { ids_long = search rules; lens_long = search rules; modes_long = search rules };
+      transactions = record { ids_long = search rules; lens_long = search rules };
     }
 
 -- the session that the ids leave
