@@ -57,8 +57,7 @@ fn parse_packed(version: Version, octets: &[u8]) -> u64
 }
 
 // The same in the version that the options ask for.
-#[unsafe(no_mangle)]
-pub extern "C" fn stomp_parse_with(options: u32, octets: &[u8]) -> u64
+pub fn stomp_parse_with(options: u32, octets: &[u8]) -> u64
     ensures { (result ≡ packed (parsed (version_in options) octets.now))
         × (unpacked result ≡ parsed (version_in options) octets.now)
         × Exact (version_in options) octets.now (unpacked result) }
@@ -67,8 +66,7 @@ pub extern "C" fn stomp_parse_with(options: u32, octets: &[u8]) -> u64
 }
 
 // The same in version 1.2.
-#[unsafe(no_mangle)]
-pub extern "C" fn stomp_parse(octets: &[u8]) -> u64
+pub fn stomp_parse(octets: &[u8]) -> u64
     ensures { (result ≡ packed (parsed v1_2 octets.now))
         × (unpacked result ≡ parsed v1_2 octets.now)
         × Exact v1_2 octets.now (unpacked result) }
@@ -77,8 +75,7 @@ pub extern "C" fn stomp_parse(octets: &[u8]) -> u64
 }
 
 // What find answers, in one number; it reads back with the block and the name.
-#[unsafe(no_mangle)]
-pub extern "C" fn stomp_find(block: &[u8], name: &[u8]) -> u64
+pub fn stomp_find(block: &[u8], name: &[u8]) -> u64
     ensures { (result ≡ packed_find (find_answer block.now name.now))
         × (unpacked_find block.now name.now result ≡ place_alone (find_answer block.now name.now)) }
 {
@@ -90,8 +87,7 @@ pub extern "C" fn stomp_find(block: &[u8], name: &[u8]) -> u64
 }
 
 // How many later entries of a name follow the first, in one number, which reads back.
-#[unsafe(no_mangle)]
-pub extern "C" fn stomp_later(block: &[u8], name: &[u8]) -> u64
+pub fn stomp_later(block: &[u8], name: &[u8]) -> u64
     ensures { (result ≡ packed_later (later_alone (find_answer block.now name.now)))
         × (unpacked_later result ≡ later_alone (find_answer block.now name.now)) }
 {
@@ -115,8 +111,7 @@ fn decode_packed(version: Version, frame: &[u8], block: &mut [u8]) -> u64
 }
 
 // The same in the version that the options ask for.
-#[unsafe(no_mangle)]
-pub extern "C" fn stomp_decode_with(options: u32, frame: &[u8], block: &mut [u8]) -> u64
+pub fn stomp_decode_with(options: u32, frame: &[u8], block: &mut [u8]) -> u64
     ensures { Decodes (version_in options) frame.now block.old (unpacked_decode result) block.new
         × (result ≡ packed_decode (unpacked_decode result)) }
 {
@@ -124,8 +119,7 @@ pub extern "C" fn stomp_decode_with(options: u32, frame: &[u8], block: &mut [u8]
 }
 
 // The same in version 1.2.
-#[unsafe(no_mangle)]
-pub extern "C" fn stomp_decode(frame: &[u8], block: &mut [u8]) -> u64
+pub fn stomp_decode(frame: &[u8], block: &mut [u8]) -> u64
     ensures { Decodes v1_2 frame.now block.old (unpacked_decode result) block.new
         × (result ≡ packed_decode (unpacked_decode result)) }
 {
@@ -134,8 +128,7 @@ pub extern "C" fn stomp_decode(frame: &[u8], block: &mut [u8]) -> u64
 
 // What encode answers, in one number; it reads back, and the target is as encode leaves it. The lowest bit of the options asks for a
 // length line, the next for version 1.1; the others are not looked at.
-#[unsafe(no_mangle)]
-pub extern "C" fn stomp_encode_with(
+pub fn stomp_encode_with(
     options: u32,
     command: u32,
     block: &[u8],
@@ -167,8 +160,7 @@ pub extern "C" fn stomp_encode_with(
 }
 
 // The same where nothing is asked for.
-#[unsafe(no_mangle)]
-pub extern "C" fn stomp_encode(command: u32, block: &[u8], body: &[u8], target: &mut [u8]) -> u64
+pub fn stomp_encode(command: u32, block: &[u8], body: &[u8], target: &mut [u8]) -> u64
     ensures { Encodes v1_2 (record { command = command; block = block.now; body = body.now; counted = false })
         target.old (unpacked_encode result) target.new
         × (result ≡ packed_encode (unpacked_encode result)) }

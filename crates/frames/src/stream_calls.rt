@@ -153,8 +153,7 @@ fn pack_taken(t: Taken) -> u64
 }
 
 // What feed answers, in one number, with the record in 16 octets: all 0 for a new stream, and handed back as they were left.
-#[unsafe(no_mangle)]
-pub extern "C" fn stomp_feed(state: &mut [u8], buffer: &mut [u8], piece: &[u8]) -> u64
+pub fn stomp_feed(state: &mut [u8], buffer: &mut [u8], piece: &[u8]) -> u64
     ensures { (result ≡ packed_feed (feed_answer (read_record state.old) buffer.old piece.now))
         × (state.new ≡ record_left
         (feed_answer (read_record state.old) buffer.old piece.now)
@@ -177,8 +176,7 @@ pub extern "C" fn stomp_feed(state: &mut [u8], buffer: &mut [u8], piece: &[u8]) 
 }
 
 // The version of the options is told to the stream parser whose record the octets are: 1 where it was taken, 0 where it was not.
-#[unsafe(no_mangle)]
-pub extern "C" fn stomp_feed_tell(state: &mut [u8], options: u32) -> u64
+pub fn stomp_feed_tell(state: &mut [u8], options: u32) -> u64
     ensures { (result ≡ mark (is_taken (read_record state.old)))
         × (state.new ≡ told_record (version_in options) state.old) }
 {

@@ -28,24 +28,21 @@ fn pack_asked(a: Asked) -> u64
     }
 }
 
-#[unsafe(no_mangle)]
-pub extern "C" fn stomp_registry_open(reg: &mut [u8], run: &[u8]) -> u64
+pub fn stomp_registry_open(reg: &mut [u8], run: &[u8]) -> u64
     ensures { (result ≡ answer_number (answer_to reg.old (open_run run.now)))
         × (reg.new ≡ next reg.old (open_run run.now)) }
 {
     done_number(crate::registry::open_run(reg, run))
 }
 
-#[unsafe(no_mangle)]
-pub extern "C" fn stomp_registry_close(reg: &mut [u8], run: &[u8]) -> u64
+pub fn stomp_registry_close(reg: &mut [u8], run: &[u8]) -> u64
     ensures { (result ≡ answer_number (answer_to reg.old (close_run run.now)))
         × (reg.new ≡ next reg.old (close_run run.now)) }
 {
     done_number(crate::registry::close_run(reg, run))
 }
 
-#[unsafe(no_mangle)]
-pub extern "C" fn stomp_registry_publish(
+pub fn stomp_registry_publish(
     reg: &mut [u8],
     run: &[u8],
     destination: &[u8],
@@ -58,8 +55,7 @@ pub extern "C" fn stomp_registry_publish(
     done_number(crate::registry::publish(reg, run, destination, text, session))
 }
 
-#[unsafe(no_mangle)]
-pub extern "C" fn stomp_registry_end(reg: &mut [u8], session: u64) -> u64
+pub fn stomp_registry_end(reg: &mut [u8], session: u64) -> u64
     ensures { (result ≡ answer_number (answer_to reg.old (end_session session)))
         × (reg.new ≡ next reg.old (end_session session)) }
 {
@@ -67,8 +63,7 @@ pub extern "C" fn stomp_registry_end(reg: &mut [u8], session: u64) -> u64
 }
 
 // The answer to asking, in one number: where the text is, which reads back.
-#[unsafe(no_mangle)]
-pub extern "C" fn stomp_registry_ask(reg: &[u8], run: &[u8], destination: &[u8]) -> u64
+pub fn stomp_registry_ask(reg: &[u8], run: &[u8], destination: &[u8]) -> u64
     ensures { (result ≡ packed_ask (answer_to reg.now (ask run.now destination.now))
         (text_start reg.now run.now destination.now))
         × (asked_read reg.now result ≡ answer_to reg.now (ask run.now destination.now)) }

@@ -7,8 +7,7 @@ use crate::pattern::Match;
 use crate::plan::PlanAnswer;
 
 // What matches answers, in one number; it reads back.
-#[unsafe(no_mangle)]
-pub extern "C" fn stomp_match(name: &[u8], pattern: &[u8]) -> u64
+pub fn stomp_match(name: &[u8], pattern: &[u8]) -> u64
     ensures { (result ≡ packed_match (match_answer name.now pattern.now))
         × (unpacked_match result ≡ match_answer name.now pattern.now) }
 {
@@ -21,8 +20,7 @@ pub extern "C" fn stomp_match(name: &[u8], pattern: &[u8]) -> u64
 }
 
 // What check_plan answers, in one number; it reads back.
-#[unsafe(no_mangle)]
-pub extern "C" fn stomp_check_plan(messages: &[u8], subscriptions: &[u8], plan: &[u8]) -> u64
+pub fn stomp_check_plan(messages: &[u8], subscriptions: &[u8], plan: &[u8]) -> u64
     ensures { (result ≡ packed_plan (plan_answer messages.now subscriptions.now plan.now))
         × (unpacked_plan result ≡ plan_answer messages.now subscriptions.now plan.now) }
 {
