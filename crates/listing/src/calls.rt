@@ -1,5 +1,8 @@
-// Calls that programs read from standard input: numbers of four octets, high first, and rows of octets.
-ghost use Rattle.std.specs.Prelude.{◌≡◌, ◌+◌, ◌*◌, ◌≤◌, ◌<◌, min, length, get_or};
+// Calls that programs read: numbers of four octets, high first, and rows of octets.
+ghost use Rattle.std.specs.Prelude.{◌≡◌, ◌+◌, ◌*◌, ◌≤◌, ◌<◌, min, length, get_or, IfOk};
+
+use std::io;
+use std::io::Read;
 
 // An octet as a wider number.
 fn wide(x: u8) -> u32
@@ -36,12 +39,28 @@ pub fn at_most(n: u32) -> usize
     n as usize
 }
 
+// Octets at the front of a buffer, until it is full or there are no more: how many they are.
+pub fn read_full<R: Read>(reader: &mut R, buf: &mut [u8]) -> io::Result<usize>
+    ensures length { length buf.new ≡ length buf.old }
+    ensures bound { IfOk result (λ n. n ≤ length buf.old) }
+{
+    let mut done = 0usize;
+    while done < buf.len() {
+        let n = reader.read(&mut buf[done..])?;
+        if n == 0 {
+            break;
+        }
+        done += n;
+    }
+    Ok(done)
+}
+
 // n octets at the front of a buffer: whether there were as many, and room for them.
-pub fn read_front(buf: &mut [u8], n: usize) -> bool
+pub fn read_front<R: Read>(reader: &mut R, buf: &mut [u8], n: usize) -> io::Result<bool>
     ensures { length buf.new ≡ length buf.old }
 {
     if buf.len() < n {
-        return false;
+        return Ok(false);
     }
-    io::read_full(libc::STDIN_FILENO, &mut buf[0..n]) == n
+    Ok(read_full(reader, &mut buf[0..n])? == n)
 }

@@ -1,4 +1,6 @@
 // For programs: streams, listed, a line for each item, rewritten, or replayed with a session; and the reading of calls.
+#![tactic(auto)]
+
 pub mod line; // one line of a listing
 pub mod stream; // a whole stream, listed
 mod packed; // answers in one number, taken apart

@@ -5,7 +5,7 @@ use frames::exports::COUNTED;
 use frames::version::{OPTION_1_1, Version};
 
 // The number of a refusal, or 0 where len octets were written.
-#[derive(Drop)]
+#[derive(Clone, Copy)]
 pub(crate) struct Written {
     pub len: usize,
     pub code: u32,

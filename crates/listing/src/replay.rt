@@ -1,7 +1,7 @@
 // The replay of a client's stream: its items drive one session, and each gets a line with the session's answer. The stream goes through
 // the stream parser, which is told the protocol version that the opening frame chose. Where the stream is the log of both sides, a MESSAGE
 // is one that the server sent: it is recorded as a delivery.
-ghost use Rattle.std.specs.Prelude.{◌≡◌, ◌+◌, ◌≤◌, ◌<◌, length};
+ghost use Rattle.std.specs.Prelude.{◌≡◌, ◌+◌, ◌≤◌, ◌<◌, length, IfOk};
 ghost use Rattle.listing.specs.Streams.{Room};
 
 use crate::line::{put_number, put_word};
@@ -14,10 +14,12 @@ use sessions::commands::{CONNECT, MESSAGE, STOMP};
 use sessions::session::{
     Acceptance, DeliveryAnswer, MakingAnswer, Outcome, Session, SessionAnswer,
 };
+use std::io;
+use std::io::{Read, Write};
 
 // How far a stream is replayed, the stream parser and the session by then, the version that items are read by, and whether the stream is
 // a log of both sides.
-#[derive(Drop)]
+#[derive(Clone, Copy)]
 struct Replaying {
     progress: Progress,
     parser: StreamParser,
@@ -58,7 +60,7 @@ impl Replaying {
 }
 
 // What the stream parser gives for the octets that were read: its reply, how many of them it took, and the stream parser that is left.
-#[derive(Drop)]
+#[derive(Clone, Copy)]
 struct Reading {
     reply: Parsed,
     octets: usize,
@@ -66,21 +68,21 @@ struct Reading {
 }
 
 // What an item came to, and whether it was a delivery that is recorded.
-#[derive(Drop)]
+#[derive(Clone, Copy)]
 struct Taken {
     outcome: Outcome,
     delivered: bool,
 }
 
 // A part of a header block.
-#[derive(Drop)]
+#[derive(Clone, Copy)]
 struct Part {
     start: usize,
     end: usize,
 }
 
-// How a replay ended: the last line is written; no session was made (34); or reading or writing failed.
-#[derive(Drop)]
+// How a replay ended: the last line is written; no session was made (34); or counting failed.
+#[derive(Clone, Copy)]
 pub enum Replayed {
     Whole,
     Unmade,
@@ -366,24 +368,28 @@ fn replay_item(
     after_item(at, item, outcome, k)
 }
 
-// No item more: octets are read, or the last line is laid out where there are none or the item was refused.
-fn read_or_end(
-    fd: i32,
+// No item more: octets are read, or the last line is laid out where there are none or the item was refused. The lines laid out are written
+// before octets are read, so that a reading that fails leaves none unwritten.
+fn read_or_end<R: Read, W: Write>(
+    reader: &mut R,
+    writer: &mut W,
     buf: &mut [u8],
     out: &mut [u8],
     p: Progress,
     reply: Parsed,
     nothing_left: bool,
-) -> Progress
+) -> io::Result<Progress>
     requires { Room (length buf.old) (length out.old) p }
-    ensures { Room (length buf.old) (length out.old) result
-        × (length buf.new ≡ length buf.old) × (length out.new ≡ length out.old) }
+    ensures room { IfOk result (λ q. Room (length buf.old) (length out.old) q) }
+    ensures buf { length buf.new ≡ length buf.old }
+    ensures out { length out.new ≡ length out.old }
 {
     if crate::stream::is_incomplete(reply) & !p.ended {
-        return crate::stream::refill(fd, buf, p);
+        let written = crate::stream::flush(writer, out, p)?;
+        return crate::stream::refill(reader, buf, written);
     }
     let k = crate::stream::lay(out, p.used, p.start, reply, nothing_left);
-    crate::stream::count(p, 0, k, true)
+    Ok(crate::stream::count(p, 0, k, true))
 }
 
 // The reply that the call of the stream parser is refused.
@@ -422,29 +428,41 @@ fn read(parser: StreamParser, buffer: &mut [u8], buf: &[u8], lo: usize, hi: usiz
 }
 
 // No item is found in what was read.
-fn no_item(fd: i32, buf: &mut [u8], out: &mut [u8], at: Replaying, reply: Parsed) -> Replaying
+fn no_item<R: Read, W: Write>(
+    reader: &mut R,
+    writer: &mut W,
+    buf: &mut [u8],
+    out: &mut [u8],
+    at: Replaying,
+    reply: Parsed,
+) -> io::Result<Replaying>
     requires { Room (length buf.old) (length out.old) at.progress }
-    ensures { Room (length buf.old) (length out.old) result.progress
-        × (length buf.new ≡ length buf.old) × (length out.new ≡ length out.old) }
+    ensures room { IfOk result (λ q. Room (length buf.old) (length out.old) q.progress) }
+    ensures buf { length buf.new ≡ length buf.old }
+    ensures out { length out.new ≡ length out.old }
 {
     let p = at.progress;
     let nothing_left = at.holds_nothing();
-    at.with(read_or_end(fd, buf, out, p, reply, nothing_left))
+    let progress = read_or_end(reader, writer, buf, out, p, reply, nothing_left)?;
+    Ok(at.with(progress))
 }
 
 // One item, or one reading.
-fn step(
-    fd: i32,
+fn step<R: Read, W: Write>(
+    reader: &mut R,
+    writer: &mut W,
     buf: &mut [u8],
     buffer: &mut [u8],
     block: &mut [u8],
     out: &mut [u8],
     at: Replaying,
-) -> Replaying
+) -> io::Result<Replaying>
     requires { Room (length buf.old) (length out.old) at.progress × (at.progress.used + 246 ≤ length out.old) }
-    ensures { Room (length buf.old) (length out.old) result.progress
-        × (length buf.new ≡ length buf.old) × (length buffer.new ≡ length buffer.old)
-        × (length block.new ≡ length block.old) × (length out.new ≡ length out.old) }
+    ensures room { IfOk result (λ q. Room (length buf.old) (length out.old) q.progress) }
+    ensures buf { length buf.new ≡ length buf.old }
+    ensures buffer { length buffer.new ≡ length buffer.old }
+    ensures block { length block.new ≡ length block.old }
+    ensures out { length out.new ≡ length out.old }
 {
     let p = at.progress;
     let parser = at.parser;
@@ -452,31 +470,35 @@ fn step(
     let next = at.fed(reading);
     let reply = reading.reply;
     let Parsed::Complete(item) = reply else {
-        return no_item(fd, buf, out, next, reply);
+        return no_item(reader, writer, buf, out, next, reply);
     };
-    replay_item(buffer, block, out, next, item)
+    Ok(replay_item(buffer, block, out, next, item))
 }
 
 // One item, or one reading, or one writing.
-fn turn(
-    fd: i32,
+fn turn<R: Read, W: Write>(
+    reader: &mut R,
+    writer: &mut W,
     buf: &mut [u8],
     buffer: &mut [u8],
     block: &mut [u8],
     out: &mut [u8],
     at: Replaying,
-) -> Replaying
+) -> io::Result<Replaying>
     requires { Room (length buf.old) (length out.old) at.progress }
-    ensures { Room (length buf.old) (length out.old) result.progress
-        × (length buf.new ≡ length buf.old) × (length buffer.new ≡ length buffer.old)
-        × (length block.new ≡ length block.old) × (length out.new ≡ length out.old) }
+    ensures room { IfOk result (λ q. Room (length buf.old) (length out.old) q.progress) }
+    ensures buf { length buf.new ≡ length buf.old }
+    ensures buffer { length buffer.new ≡ length buffer.old }
+    ensures block { length block.new ≡ length block.old }
+    ensures out { length out.new ≡ length out.old }
 {
     let p = at.progress;
     let used = p.used;
     if out.len() - used < 246 {
-        return at.with(crate::stream::flush(out, p));
+        let written = crate::stream::flush(writer, out, p)?;
+        return Ok(at.with(written));
     }
-    step(fd, buf, buffer, block, out, at)
+    step(reader, writer, buf, buffer, block, out, at)
 }
 
 // Before the first octet of a stream.
@@ -492,50 +514,60 @@ fn nothing_replayed(session: Session, log: bool) -> Replaying
     }
 }
 
-// Replays the octets of fd with a session, with four buffers: whether the last line is written.
-fn replay_in(
-    fd: i32,
+// Replays the octets of a reader with a session, with four buffers: whether the last line is written.
+fn replay_in<R: Read, W: Write>(
+    reader: &mut R,
+    writer: &mut W,
     buf: &mut [u8],
     buffer: &mut [u8],
     block: &mut [u8],
     out: &mut [u8],
     session: Session,
     log: bool,
-) -> bool {
+) -> io::Result<bool> {
     let mut at = nothing_replayed(session, log);
-    let mut turns = u64::MAX;
-    while turns > 0 && !(at.progress.failed | at.progress.done) {
-        at = turn(fd, buf, buffer, block, out, at);
-        turns -= 1;
+    for _ in 0..u64::MAX {
+        if at.progress.failed | at.progress.done {
+            break;
+        }
+        at = turn(reader, writer, buf, buffer, block, out, at)?;
     }
     let p = at.progress;
-    let q = crate::stream::flush(out, p);
-    q.done & !q.failed
+    let q = crate::stream::flush(writer, out, p)?;
+    Ok(q.done & !q.failed)
 }
 
-// Replays the octets of fd with a session of these offers and versions 1.1 and 1.2, at time 0: a line on standard output for each item,
-// and the last one as a listing has it. In a log of both sides a MESSAGE is a delivery.
-pub fn replay(fd: i32, sends: u32, wants: u32, log: bool) -> Replayed {
+// Replays the octets of a reader with a session of these offers and versions 1.1 and 1.2, at time 0: a line on a writer for each item, and
+// the last one as a listing has it. In a log of both sides a MESSAGE is a delivery. A reading or a writing that fails is the answer: where
+// it is a reading, the lines of all items read before are written.
+pub fn replay<R: Read, W: Write>(
+    reader: &mut R,
+    writer: &mut W,
+    sends: u32,
+    wants: u32,
+    log: bool,
+) -> io::Result<Replayed> {
     let made = Session::new(sends, wants, [false, true, true]);
     let answer = made.answer;
     let MakingAnswer::Made = answer else {
-        return Replayed::Unmade;
+        return Ok(Replayed::Unmade);
     };
     let session = made.session;
-    let mut octets = io::large_buffer();
+    let mut octets = [0u8; 65536];
     let mut buffer = [0u8; frames::limits::FRAME];
-    let mut block = io::large_buffer();
-    let mut lines = io::large_buffer();
+    let mut block = [0u8; 65536];
+    let mut lines = [0u8; 65536];
     if replay_in(
-        fd,
+        reader,
+        writer,
         &mut octets,
         &mut buffer,
         &mut block,
         &mut lines,
         session,
         log,
-    ) {
-        return Replayed::Whole;
+    )? {
+        return Ok(Replayed::Whole);
     }
-    Replayed::Failed
+    Ok(Replayed::Failed)
 }

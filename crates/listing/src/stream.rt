@@ -1,15 +1,18 @@
 // The listing of a stream: its octets pass through one buffer, and the lines of its items through another.
-ghost use Rattle.std.specs.Prelude.{◌≡◌, ◌+◌, ◌-◌, ◌≤◌, ◌<◌, min, length, take, drop};
+ghost use Rattle.std.specs.Prelude.{◌≡◌, ◌+◌, ◌-◌, ◌≤◌, ◌<◌, min, length, take, drop, IfOk};
 ghost use Rattle.frames.specs.Parsing.{parsed};
 ghost use Rattle.frames.specs.Replies.{used_of};
 ghost use Rattle.frames.specs.Answers.{parsed_says};
 ghost use Rattle.listing.specs.Streams.{Room, moved};
 
+use crate::calls::read_full;
 use frames::parse::Parsed;
 use frames::version::Version;
+use std::io;
+use std::io::{Read, Write};
 
 // How far a stream is listed.
-#[derive(Drop)]
+#[derive(Clone, Copy)]
 pub(crate) struct Progress {
     // The octets read and not yet listed, in the one buffer.
     pub lo: usize,
@@ -20,7 +23,7 @@ pub(crate) struct Progress {
     pub start: u64,
     // The stream has no more octets.
     pub ended: bool,
-    // Reading, writing or counting failed.
+    // Counting failed.
     pub failed: bool,
     // The last line is laid out.
     pub done: bool,
@@ -40,66 +43,59 @@ fn shift(buf: &mut [u8], lo: usize, hi: usize) -> usize
     n
 }
 
-// How much of a buffer is filled, and whether that is for want of more or for a failure.
-#[derive(Drop)]
+// How much of a buffer is filled, and whether that is for want of more.
+#[derive(Clone, Copy)]
 struct Filled {
     hi: usize,
     ended: bool,
-    failed: bool,
 }
 
-// Octets of fd after the first ones of buf, until buf is full or fd has no more.
-fn fill(fd: i32, buf: &mut [u8], from: usize) -> Filled
+// Octets of a reader after the first ones of buf, until buf is full or there are no more.
+fn fill<R: Read>(reader: &mut R, buf: &mut [u8], from: usize) -> io::Result<Filled>
     requires { from ≤ length buf.old }
-    ensures { (result.hi ≤ length buf.old) × (length buf.new ≡ length buf.old) }
+    ensures bound { IfOk result (λ f. f.hi ≤ length buf.old) }
+    ensures length { length buf.new ≡ length buf.old }
 {
-    let mut hi = from;
-    while hi < buf.len() {
-        let part = &mut buf[hi..];
-        let got = libc::read(fd, part);
-        let n = io::count(got, part);
-        if n == 0 {
-            return Filled {
-                hi,
-                ended: true,
-                failed: got < 0,
-            };
-        }
-        hi += n;
-    }
-    Filled {
-        hi,
-        ended: false,
-        failed: false,
-    }
+    let room = buf.len() - from;
+    let n = read_full(reader, &mut buf[from..])?;
+    Ok(Filled {
+        hi: from + n,
+        ended: n < room,
+    })
 }
 
 // More octets to list.
-pub(crate) fn refill(fd: i32, buf: &mut [u8], mut p: Progress) -> Progress
+pub(crate) fn refill<R: Read>(
+    reader: &mut R,
+    buf: &mut [u8],
+    mut p: Progress,
+) -> io::Result<Progress>
     requires { (p.lo ≤ p.hi) × (p.hi ≤ length buf.old) }
-    ensures { (result.lo ≡ 0) × (result.hi ≤ length buf.old) × (result.used ≡ p.used)
-        × (length buf.new ≡ length buf.old) }
+    ensures lo { IfOk result (λ q. q.lo ≡ 0) }
+    ensures hi { IfOk result (λ q. q.hi ≤ length buf.old) }
+    ensures used { IfOk result (λ q. q.used ≡ p.used) }
+    ensures length { length buf.new ≡ length buf.old }
 {
     let n = shift(buf, p.lo, p.hi);
-    let f = fill(fd, buf, n);
+    let f = fill(reader, buf, n)?;
     p.lo = 0;
     p.hi = f.hi;
     p.ended = f.ended;
-    p.failed = f.failed;
+    p.failed = false;
     p.done = false;
-    p
+    Ok(p)
 }
 
 // The lines laid out are written.
-pub(crate) fn flush(out: &[u8], mut p: Progress) -> Progress
+pub(crate) fn flush<W: Write>(writer: &mut W, out: &[u8], mut p: Progress) -> io::Result<Progress>
     requires { p.used ≤ length out.now }
-    ensures { (result.lo ≡ p.lo) × (result.hi ≡ p.hi) × (result.used ≡ 0) }
+    ensures lo { IfOk result (λ q. q.lo ≡ p.lo) }
+    ensures hi { IfOk result (λ q. q.hi ≡ p.hi) }
+    ensures used { IfOk result (λ q. q.used ≡ 0) }
 {
-    let used = p.used;
-    let written = io::write_all(1, &out[0..used]);
+    writer.write_all(&out[0..p.used])?;
     p.used = 0;
-    p.failed = p.failed | !written;
-    p
+    Ok(p)
 }
 
 // The lesser of two numbers.
@@ -173,38 +169,49 @@ pub(crate) fn lay(
     crate::line::put_line(&mut out[used..], start, reply, nothing_left)
 }
 
-// More octets, or the line of a reply, whose item has n octets, or none where it is the last line.
-pub(crate) fn tell(
-    fd: i32,
+// More octets, or the line of a reply, whose item has n octets, or none where it is the last line. The lines laid out are written before
+// octets are read, so that a reading that fails leaves none unwritten.
+pub(crate) fn tell<R: Read, W: Write>(
+    reader: &mut R,
+    writer: &mut W,
     buf: &mut [u8],
     out: &mut [u8],
     p: Progress,
     reply: Parsed,
     n: usize,
-) -> Progress
+) -> io::Result<Progress>
     requires { Room (length buf.old) (length out.old) p × (p.lo + n ≤ p.hi) }
-    ensures { Room (length buf.old) (length out.old) result
-        × (length buf.new ≡ length buf.old) × (length out.new ≡ length out.old) }
+    ensures room { IfOk result (λ q. Room (length buf.old) (length out.old) q) }
+    ensures buf { length buf.new ≡ length buf.old }
+    ensures out { length out.new ≡ length out.old }
 {
     if is_incomplete(reply) & !p.ended {
-        return refill(fd, buf, p);
+        let written = flush(writer, out, p)?;
+        return refill(reader, buf, written);
     }
     let k = lay(out, p.used, p.start, reply, p.lo == p.hi);
-    advance(p, n, k, n == 0)
+    Ok(advance(p, n, k, n == 0))
 }
 
 // One line, or one reading, or one writing.
-fn turn(fd: i32, buf: &mut [u8], out: &mut [u8], p: Progress) -> Progress
+fn turn<R: Read, W: Write>(
+    reader: &mut R,
+    writer: &mut W,
+    buf: &mut [u8],
+    out: &mut [u8],
+    p: Progress,
+) -> io::Result<Progress>
     requires { Room (length buf.old) (length out.old) p }
-    ensures { Room (length buf.old) (length out.old) result
-        × (length buf.new ≡ length buf.old) × (length out.new ≡ length out.old) }
+    ensures room { IfOk result (λ q. Room (length buf.old) (length out.old) q) }
+    ensures buf { length buf.new ≡ length buf.old }
+    ensures out { length out.new ≡ length out.old }
 {
     let used = p.used;
     if out.len() - used < 160 {
-        return flush(out, p);
+        return flush(writer, out, p);
     }
     let reply = reply_to(Version::V12, buf, p.lo, p.hi);
-    tell(fd, buf, out, p, reply, used_of(reply))
+    tell(reader, writer, buf, out, p, reply, used_of(reply))
 }
 
 // Before the first octet.
@@ -222,21 +229,28 @@ pub(crate) fn nothing_listed() -> Progress
     }
 }
 
-// Lists the octets of fd on standard output, with two buffers: whether the last line is written.
-fn list_in(fd: i32, buf: &mut [u8], out: &mut [u8]) -> bool {
+// Lists the octets of a reader on a writer, with two buffers: whether the last line is written.
+fn list_in<R: Read, W: Write>(
+    reader: &mut R,
+    writer: &mut W,
+    buf: &mut [u8],
+    out: &mut [u8],
+) -> io::Result<bool> {
     let mut p = nothing_listed();
-    let mut turns = u64::MAX;
-    while turns > 0 && !(p.failed | p.done) {
-        p = turn(fd, buf, out, p);
-        turns -= 1;
+    for _ in 0..u64::MAX {
+        if p.failed | p.done {
+            break;
+        }
+        p = turn(reader, writer, buf, out, p)?;
     }
-    let q = flush(out, p);
-    q.done & !q.failed
+    let q = flush(writer, out, p)?;
+    Ok(q.done & !q.failed)
 }
 
-// Lists the octets of fd on standard output, to their end, a line for each item: whether the last line is written.
-pub fn list(fd: i32) -> bool {
-    let mut octets = io::large_buffer();
-    let mut lines = io::large_buffer();
-    list_in(fd, &mut octets, &mut lines)
+// Lists the octets of a reader on a writer, to their end, a line for each item: whether the last line is written. A reading or a writing
+// that fails is the answer: where it is a reading, the lines of all items read before are written.
+pub fn list<R: Read, W: Write>(reader: &mut R, writer: &mut W) -> io::Result<bool> {
+    let mut octets = [0u8; 65536];
+    let mut lines = [0u8; 65536];
+    list_in(reader, writer, &mut octets, &mut lines)
 }
