@@ -4,30 +4,33 @@
 // given; 4 tell: options, which say the protocol version. For each piece a line with the answer, as stomp_feed gives it, and the sum of
 // the buffer's 65,536 octets, both in decimal; then the record, the buffer's front, and a line end. The front is the item found, or what
 // was taken of the item. For each version told a line with the answer, as stomp_feed_tell gives it, then the record and a line end.
+#![tactic(auto)]
+
 ghost use Rattle.std.specs.Prelude.{◌≡◌, ◌≤◌, ◌<◌, length};
 
-use libc::{STDERR_FILENO, STDIN_FILENO, STDOUT_FILENO};
-use listing::calls::{at_most, number_at, read_front};
+use listing::calls::{at_most, number_at, read_front, read_full};
+use std::io;
+use std::io::{Read, Write};
 
 // How many octets of the buffer the calls are given, and whether calls may follow.
-#[derive(Drop)]
+#[derive(Clone, Copy)]
 struct Next {
     given: usize,
     more: bool,
 }
 
 // A number, and whether it was whole.
-#[derive(Drop)]
+#[derive(Clone, Copy)]
 struct Number {
     value: u32,
     whole: bool,
 }
 
-fn read_number() -> Number {
+fn read_number<R: Read>(input: &mut R) -> io::Result<Number> {
     let mut octets = [0u8; 4];
-    let whole = read_front(&mut octets, 4);
+    let whole = read_front(input, &mut octets, 4)?;
     let value = number_at(&octets, 0);
-    Number { value, whole }
+    Ok(Number { value, whole })
 }
 
 fn least(a: usize, b: usize) -> usize
@@ -47,11 +50,7 @@ fn wide(x: u8) -> u64
 fn fill(d: &mut [u8], x: u8)
     ensures { length d.new ≡ length d.old }
 {
-    let mut i = 0usize;
-    while i < d.len() {
-        d[i] = x;
-        i += 1;
-    }
+    d.fill(x);
 }
 
 // The sum of the octets, at most 65,536 of them.
@@ -91,124 +90,165 @@ fn front(answer: u64, held: u64) -> u64 {
 }
 
 // So many octets at the buffer's front, at most all.
-fn write_front(buffer: &[u8], n: u64) {
+fn write_front<W: Write>(output: &mut W, buffer: &[u8], n: u64) -> io::Result<()> {
     let most = buffer.len() as u64;
     if most < n {
-        io::write_all(STDOUT_FILENO, buffer);
-        return;
+        return output.write_all(buffer);
     }
     let m = n as usize;
-    io::write_all(STDOUT_FILENO, &buffer[0..m]);
+    output.write_all(&buffer[0..m])
 }
 
 // What a piece gives.
-fn show(answer: u64, state: &[u8], buffer: &[u8]) {
-    io::print_decimal(STDOUT_FILENO, answer);
-    io::write_all(STDOUT_FILENO, b" ");
-    io::print_decimal(STDOUT_FILENO, sum(buffer));
-    io::write_all(STDOUT_FILENO, b"\n");
-    io::write_all(STDOUT_FILENO, state);
-    write_front(buffer, front(answer, held(state)));
-    io::write_all(STDOUT_FILENO, b"\n");
+fn show<W: Write>(output: &mut W, answer: u64, state: &[u8], buffer: &[u8]) -> io::Result<()> {
+    let total = sum(buffer);
+    writeln!(output, "{answer} {total}")?;
+    output.write_all(state)?;
+    write_front(output, buffer, front(answer, held(state)))?;
+    output.write_all(b"\n")
 }
 
 // No call more, with a message.
-fn stopped(given: usize, why: &[u8]) -> Next {
-    io::write_all(STDERR_FILENO, b"feed_calls: ");
-    io::write_all(STDERR_FILENO, why);
-    io::write_all(STDERR_FILENO, b"\n");
-    Next { given, more: false }
+fn stopped(rt: &impl Eprint, given: usize, why: &str) -> io::Result<Next> {
+    eprintln!(rt; "feed_calls: {why}")?;
+    Ok(Next { given, more: false })
 }
 
-fn cut(given: usize) -> Next {
-    stopped(given, b"a call is cut")
+fn cut(rt: &impl Eprint, given: usize) -> io::Result<Next> {
+    stopped(rt, given, "a call is cut")
 }
 
 // How many octets the calls are given from now on.
-fn room(given: usize) -> Next {
-    let number = read_number();
+fn room<R: Read>(rt: &impl Eprint, input: &mut R, given: usize) -> io::Result<Next> {
+    let number = read_number(input)?;
     if !number.whole {
-        return cut(given);
+        return cut(rt, given);
     }
-    Next {
+    Ok(Next {
         given: at_most(number.value),
         more: true,
-    }
+    })
 }
 
-fn fresh(given: usize, state: &mut [u8], buffer: &mut [u8]) -> Next {
+fn fresh<R: Read>(
+    rt: &impl Eprint,
+    input: &mut R,
+    given: usize,
+    state: &mut [u8],
+    buffer: &mut [u8],
+) -> io::Result<Next> {
     fill(state, 0);
     fill(buffer, 170);
-    room(given)
+    room(rt, input, given)
 }
 
-fn feed(given: usize, state: &mut [u8], buffer: &mut [u8], space: &mut [u8]) -> Next {
-    let number = read_number();
+fn feed<R: Read, W: Write>(
+    rt: &impl Eprint,
+    input: &mut R,
+    output: &mut W,
+    given: usize,
+    state: &mut [u8],
+    buffer: &mut [u8],
+    space: &mut [u8],
+) -> io::Result<Next> {
+    let number = read_number(input)?;
     let n = least(at_most(number.value), space.len());
     let g = least(given, buffer.len());
-    let whole = read_front(space, n);
+    let whole = read_front(input, space, n)?;
     if !(number.whole & whole) {
-        return cut(given);
+        return cut(rt, given);
     }
     let answer = frames::stream_calls::stomp_feed(state, &mut buffer[0..g], &space[0..n]);
-    show(answer, state, buffer);
-    Next { given, more: true }
+    show(output, answer, state, buffer)?;
+    Ok(Next { given, more: true })
 }
 
-fn set(given: usize, state: &mut [u8]) -> Next {
-    if !read_front(state, 16) {
-        return cut(given);
+fn set<R: Read>(
+    rt: &impl Eprint,
+    input: &mut R,
+    given: usize,
+    state: &mut [u8],
+) -> io::Result<Next> {
+    if !read_front(input, state, 16)? {
+        return cut(rt, given);
     }
-    Next { given, more: true }
+    Ok(Next { given, more: true })
 }
 
 // The version of the options is told: whether it was taken, and the record.
-fn tell(given: usize, state: &mut [u8]) -> Next {
-    let number = read_number();
+fn tell<R: Read, W: Write>(
+    rt: &impl Eprint,
+    input: &mut R,
+    output: &mut W,
+    given: usize,
+    state: &mut [u8],
+) -> io::Result<Next> {
+    let number = read_number(input)?;
     if !number.whole {
-        return cut(given);
+        return cut(rt, given);
     }
     let answer = frames::stream_calls::stomp_feed_tell(state, number.value);
-    io::print_decimal(STDOUT_FILENO, answer);
-    io::write_all(STDOUT_FILENO, b"\n");
-    io::write_all(STDOUT_FILENO, state);
-    io::write_all(STDOUT_FILENO, b"\n");
-    Next { given, more: true }
+    writeln!(output, "{answer}")?;
+    output.write_all(state)?;
+    output.write_all(b"\n")?;
+    Ok(Next { given, more: true })
 }
 
 // One call; nothing more where the input ends.
-fn call(given: usize, state: &mut [u8], buffer: &mut [u8], space: &mut [u8]) -> Next {
+fn call<R: Read, W: Write>(
+    rt: &impl Eprint,
+    input: &mut R,
+    output: &mut W,
+    given: usize,
+    state: &mut [u8],
+    buffer: &mut [u8],
+    space: &mut [u8],
+) -> io::Result<Next> {
     let mut kind = [0u8; 1];
-    if io::read_full(STDIN_FILENO, &mut kind) < 1 {
-        return Next { given, more: false };
+    if read_full(input, &mut kind)? < 1 {
+        return Ok(Next { given, more: false });
     }
     match kind[0] {
-        0 => fresh(given, state, buffer),
-        1 => feed(given, state, buffer, space),
-        2 => set(given, state),
-        3 => room(given),
-        4 => tell(given, state),
-        _ => stopped(given, b"a call has an unknown kind"),
+        0 => fresh(rt, input, given, state, buffer),
+        1 => feed(rt, input, output, given, state, buffer, space),
+        2 => set(rt, input, given, state),
+        3 => room(rt, input, given),
+        4 => tell(rt, input, output, given, state),
+        _ => stopped(rt, given, "a call has an unknown kind"),
     }
 }
 
 // All calls, with a record and a buffer, and space for the pieces.
-fn run(state: &mut [u8], buffer: &mut [u8], space: &mut [u8]) {
+fn run<R: Read, W: Write>(
+    rt: &impl Eprint,
+    input: &mut R,
+    output: &mut W,
+    state: &mut [u8],
+    buffer: &mut [u8],
+    space: &mut [u8],
+) -> io::Result<()> {
     fill(buffer, 170);
-    let mut next = Next {
-        given: buffer.len(),
-        more: true,
-    };
-    let mut calls = u64::MAX;
-    while calls > 0 && next.more {
-        next = call(next.given, state, buffer, space);
-        calls -= 1;
+    let mut given = buffer.len();
+    for _ in 0..u64::MAX {
+        let next = call(rt, input, output, given, state, buffer, space)?;
+        if !next.more {
+            break;
+        }
+        given = next.given;
     }
+    Ok(())
 }
 
-fn main() {
+fn main(rt: HostRuntime) -> io::Result<()> {
     let mut state = [0u8; 16];
-    let mut buffer = io::large_buffer();
-    let mut space = io::large_buffer();
-    run(&mut state, &mut buffer, &mut space);
+    let mut buffer = [0u8; 65536];
+    let mut space = [0u8; 65536];
+    run(
+        &rt,
+        &mut rt.stdin(),
+        &mut rt.stdout(),
+        &mut state,
+        &mut buffer,
+        &mut space,
+    )
 }

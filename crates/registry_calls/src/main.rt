@@ -4,17 +4,20 @@
 // record, of whatever length. What a kind does not ask for is not looked at. Before the first call the record is an empty registry's. For
 // each call the answer in decimal, as the call for C gives it, to set 0 or 89, and either ` same` and a line end, where the record is as
 // it was before the call, or set, or ` changed`, a line end, the record and a line end.
+#![tactic(auto)]
+
 ghost use Rattle.std.specs.Prelude.{◌≡◌, ◌≤◌, ◌<◌, length};
 
-use libc::{STDERR_FILENO, STDIN_FILENO, STDOUT_FILENO};
-use listing::calls::{at_most, number_at, read_front};
+use listing::calls::{at_most, number_at, read_front, read_full};
 use registry::exports::{
     stomp_registry_ask, stomp_registry_close, stomp_registry_end, stomp_registry_open,
     stomp_registry_publish,
 };
+use std::io;
+use std::io::{Read, Write};
 
 // How many octets the record has, and whether calls may follow.
-#[derive(Drop)]
+#[derive(Clone, Copy)]
 struct Next {
     size: usize,
     more: bool,
@@ -63,36 +66,33 @@ fn answer(
 }
 
 // What a call gives, and the record where it is another one than before.
-fn tell(answer: u64, before: &[u8], after: &[u8]) {
-    io::print_decimal(STDOUT_FILENO, answer);
+fn tell<W: Write>(output: &mut W, answer: u64, before: &[u8], after: &[u8]) -> io::Result<()> {
     if headers::equal(before, after) {
-        io::write_all(STDOUT_FILENO, b" same\n");
-        return;
+        return writeln!(output, "{answer} same");
     }
-    io::write_all(STDOUT_FILENO, b" changed\n");
-    io::write_all(STDOUT_FILENO, after);
-    io::write_all(STDOUT_FILENO, b"\n");
+    writeln!(output, "{answer} changed")?;
+    output.write_all(after)?;
+    output.write_all(b"\n")
 }
 
 // No call more, with a message.
-fn stopped(size: usize, why: &[u8]) -> Next {
-    io::write_all(STDERR_FILENO, b"registry_calls: ");
-    io::write_all(STDERR_FILENO, why);
-    io::write_all(STDERR_FILENO, b"\n");
-    Next { size, more: false }
+fn stopped(rt: &impl Eprint, size: usize, why: &str) -> io::Result<Next> {
+    eprintln!(rt; "registry_calls: {why}")?;
+    Ok(Next { size, more: false })
 }
 
 // Makes a call on the record, which has this size, and tells what it gives.
-fn make(
+fn make<W: Write>(
+    output: &mut W,
     reg: &mut [u8],
     size: usize,
     head: &[u8; 21],
     run: &[u8],
     destination: &[u8],
     text: &[u8],
-) -> Next {
+) -> io::Result<Next> {
     let n = least(size, reg.len());
-    let mut before = io::large_buffer();
+    let mut before = [0u8; 65536];
     let m = least(n, before.len());
     headers::copy(&mut before, 0, &reg[0..m]);
     let number = answer(
@@ -103,11 +103,11 @@ fn make(
         text,
         session_of(head),
     );
-    tell(number, &before[0..m], &reg[0..m]);
-    Next {
+    tell(output, number, &before[0..m], &reg[0..m])?;
+    Ok(Next {
         size: m,
         more: true,
-    }
+    })
 }
 
 // Sets the record where that is the call: how many octets it has then, else as many as before.
@@ -120,56 +120,82 @@ fn set(reg: &mut [u8], size: usize, kind: u8, octets: &[u8]) -> usize {
 }
 
 // Reads a call's texts and makes it.
-fn call_of(reg: &mut [u8], size: usize, head: &[u8; 21]) -> Next {
+fn call_of<R: Read, W: Write>(
+    rt: &impl Eprint,
+    input: &mut R,
+    output: &mut W,
+    reg: &mut [u8],
+    size: usize,
+    head: &[u8; 21],
+) -> io::Result<Next> {
     let r = at_most(number_at(head, 9));
     let d = at_most(number_at(head, 13));
     let t = at_most(number_at(head, 17));
-    let mut run = io::large_buffer();
-    let mut destination = io::large_buffer();
-    let mut text = io::large_buffer();
-    if !read_front(&mut run, r) {
-        return stopped(size, b"a call is cut");
+    let mut run = [0u8; 65536];
+    let mut destination = [0u8; 65536];
+    let mut text = [0u8; 65536];
+    if !read_front(input, &mut run, r)? {
+        return stopped(rt, size, "a call is cut");
     }
-    if !read_front(&mut destination, d) {
-        return stopped(size, b"a call is cut");
+    if !read_front(input, &mut destination, d)? {
+        return stopped(rt, size, "a call is cut");
     }
-    if !read_front(&mut text, t) {
-        return stopped(size, b"a call is cut");
+    if !read_front(input, &mut text, t)? {
+        return stopped(rt, size, "a call is cut");
     }
     let n = set(reg, size, head[0], &run[0..r]);
-    make(reg, n, head, &run[0..r], &destination[0..d], &text[0..t])
+    make(
+        output,
+        reg,
+        n,
+        head,
+        &run[0..r],
+        &destination[0..d],
+        &text[0..t],
+    )
 }
 
 // One call; nothing more where the input ends.
-fn call(reg: &mut [u8], size: usize) -> Next {
+fn call<R: Read, W: Write>(
+    rt: &impl Eprint,
+    input: &mut R,
+    output: &mut W,
+    reg: &mut [u8],
+    size: usize,
+) -> io::Result<Next> {
     let mut head = [0u8; 21];
-    let n = io::read_full(STDIN_FILENO, &mut head);
+    let n = read_full(input, &mut head)?;
     if n == 0 {
-        return Next { size, more: false };
+        return Ok(Next { size, more: false });
     }
     if n < 21 {
-        return stopped(size, b"a call is cut");
+        return stopped(rt, size, "a call is cut");
     }
     if 5 < head[0] {
-        return stopped(size, b"a call has an unknown kind");
+        return stopped(rt, size, "a call has an unknown kind");
     }
-    call_of(reg, size, &head)
+    call_of(rt, input, output, reg, size, &head)
 }
 
 // All calls, on an empty registry's record at the front of a buffer.
-fn run(reg: &mut [u8]) {
-    let mut next = Next {
-        size: 3524,
-        more: true,
-    };
-    let mut calls = u64::MAX;
-    while calls > 0 && next.more {
-        next = call(reg, next.size);
-        calls -= 1;
+fn run<R: Read, W: Write>(
+    rt: &impl Eprint,
+    input: &mut R,
+    output: &mut W,
+    reg: &mut [u8],
+) -> io::Result<()> {
+    let mut size = 3524;
+    for _ in 0..u64::MAX {
+        let next = call(rt, input, output, reg, size)?;
+        if !next.more {
+            break;
+        }
+        size = next.size;
     }
+    Ok(())
 }
 
-fn main() {
-    let mut reg = io::large_buffer();
-    run(&mut reg);
+fn main(rt: HostRuntime) -> io::Result<()> {
+    let mut reg = [0u8; 65536];
+    run(&rt, &mut rt.stdin(), &mut rt.stdout(), &mut reg)
 }

@@ -3,25 +3,28 @@
 // SUBSCRIBE of one id in turn, with ids of 6 octets; 2 and 3 the same with ids of 32 octets that differ in the last two alone; 4 and 5
 // SEND with 64 pending deliveries in client mode, four of each subscription, with ids and labels of 6 octets, and of 32. For each case a
 // line: how many calls were accepted, and the session's last-heard; or that other deliveries are pending than the case has.
+#![tactic(auto)]
+
 ghost use Rattle.std.specs.Prelude.{◌≤◌};
 
 use frames::decode::Decoded;
 use frames::version::Version;
 use headers::DecimalRead;
-use libc::STDOUT_FILENO;
 use sessions::commands;
 use sessions::delivery::Deliveries;
 use sessions::session::{Session, SessionAnswer};
+use std::env::Env;
+use std::io;
 
 // A header block, at the front of its octets.
-#[derive(Drop)]
+#[derive(Clone, Copy)]
 struct Block {
     octets: [u8; 256],
     len: usize,
 }
 
 // A session, and how many calls on it were accepted.
-#[derive(Drop)]
+#[derive(Clone, Copy)]
 struct Tally {
     session: Session,
     accepted: u64,
@@ -314,41 +317,36 @@ fn run(case: u32, calls: u32) -> Tally {
 }
 
 // A case, with its line.
-fn show(case: u32, calls: u32) {
+fn show(rt: &impl Print, case: u32, calls: u32) -> io::Result<()> {
     let t = run(case, calls);
-    let session = t.session;
-    let deliveries = session.deliveries;
-    if deliveries.count != pending_in(case) {
-        io::write_all(STDOUT_FILENO, b"other deliveries are pending\n");
-        return;
+    if t.session.deliveries.count != pending_in(case) {
+        return println!(rt; "other deliveries are pending");
     }
-    io::print_decimal(STDOUT_FILENO, t.accepted);
-    io::write_all(STDOUT_FILENO, b" ");
-    io::print_decimal(STDOUT_FILENO, session.last_heard as u64);
-    io::write_all(STDOUT_FILENO, b"\n");
+    let accepted = t.accepted;
+    let last_heard = t.session.last_heard;
+    println!(rt; "{accepted} {last_heard}")
 }
 
 // Argument i as a number, or another.
-fn number_arg(i: usize, other: u32) -> u32 {
-    let mut text = io::buffer();
-    let n = os::arg(i, &mut text);
+fn number_arg(rt: &impl Env, i: usize, other: u32) -> u32 {
+    let mut text = [0u8; 4096];
+    let Ok(n) = rt.arg(i, &mut text) else {
+        return other;
+    };
     let DecimalRead::Number(x) = headers::read_decimal(&text[..n], u32::MAX) else {
         return other;
     };
     x
 }
 
-fn main() {
-    let calls = number_arg(1, 16);
-    let case = number_arg(2, 6);
+fn main(rt: HostRuntime) -> io::Result<()> {
+    let calls = number_arg(&rt, 1, 16);
+    let case = number_arg(&rt, 2, 6);
     if case < 6 {
-        show(case, calls);
-        return;
+        return show(&rt, case, calls);
     }
-    show(0, calls);
-    show(1, calls);
-    show(2, calls);
-    show(3, calls);
-    show(4, calls);
-    show(5, calls);
+    for each in 0..6 {
+        show(&rt, each, calls)?;
+    }
+    Ok(())
 }

@@ -10,7 +10,7 @@ use sessions::in_place::{
 use sessions::session::{Outcome, Recording, Session, TimedOut};
 
 // The session after it was asked whether the peer is timed out, and the answer.
-#[derive(Drop)]
+#[derive(Clone, Copy)]
 pub struct TimedOutcome {
     pub session: Session,
     pub answer: TimedOut,
