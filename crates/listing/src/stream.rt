@@ -81,8 +81,6 @@ pub(crate) fn refill<R: Read>(
     p.lo = 0;
     p.hi = f.hi;
     p.ended = f.ended;
-    p.failed = false;
-    p.done = false;
     Ok(p)
 }
 
