@@ -57,10 +57,8 @@ fn fill(d: &mut [u8], x: u8)
 fn sum(d: &[u8]) -> u64 {
     let n = least(d.len(), 65536);
     let mut total = 0u64;
-    let mut i = 0usize;
-    while i < n {
-        total += wide(d[i]);
-        i += 1;
+    for x in &d[..n] {
+        total += wide(*x);
     }
     total
 }

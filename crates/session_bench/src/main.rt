@@ -162,10 +162,8 @@ fn enter(t: Tally, command: u32, block: Block, count: u8) -> Tally
     requires { block.len ≤ 256 }
 {
     let mut t = t;
-    let mut n = 0u8;
-    while n < count {
+    for n in 0..count {
         t = call_with(t, command, numbered(block, n));
-        n += 1;
     }
     t
 }
@@ -233,10 +231,8 @@ const DELIVERIES: u8 = Deliveries::MAX as u8;
 // As many deliveries as can be pending, each of the next subscription.
 fn deliver_all(session: Session, long: bool) -> Session {
     let mut session = session;
-    let mut n = 0u8;
-    while n < DELIVERIES {
+    for n in 0..DELIVERIES {
         session = deliver(session, long, n);
-        n += 1;
     }
     session
 }
@@ -248,10 +244,8 @@ fn either(first: u32, second: u32, turn: u32) -> u32 {
 // Two commands in turn, so many calls.
 fn repeat(t: Tally, first: u32, second: u32, block: &[u8], calls: u32) -> Tally {
     let mut t = t;
-    let mut i = 0u32;
-    while i < calls {
+    for i in 0..calls {
         t = call(t, either(first, second, i), block, i);
-        i += 1;
     }
     t
 }

@@ -1,2 +1,0 @@
--- The laws that the walks of in_place's functions have in common.
-pub mod Lending
