@@ -1,6 +1,6 @@
 -- Decoding, line by line: the places of a line's parts, what is left to decode behind it, and what decode replies. Assumes nothing.
 --     on_drop, stop_place, on_behind, line_cut     the places that the code computes
---     back-..                                      one search for the end of a text and for a backslash in it
+--     back_..                                      one search for the end of a text and for a backslash in it
 --     Parted, entries_left, left_all, left_none    the entries of the lines that are left to decode
 --     Adds, adds                                   what the next line adds to the measure
 --     Written, Asked, asked                        its record, written into the part of the block that is left

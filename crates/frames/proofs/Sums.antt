@@ -2,7 +2,7 @@
 --     Summing                                    what holds while entries are left
 --     sum_start, sum_line, sum_none              at the first, and from one entry to the next
 --     sum_end, sum_full                          at the end, and where 33 are counted
---     sums-..                                    what the sums say of the lines
+--     sums_..                                    what the sums say of the lines
 --     sums_plain                                 where they say that no octet is escaped
 use mathlib.Core.Path.{◌≡◌, refl, sym, ◌∙◌, ap, ap₂}
 use mathlib.Core.Bool.{Bool, true, false, cond, ◌&&◌, not}

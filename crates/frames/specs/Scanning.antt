@@ -26,7 +26,7 @@ use Rattle.frames.specs.declared.state.Scan.{Scan}
 --      7 in a value                        8 inside a character of it
 --      9 in the first content-length      10 after the 13 of a line's end     11 after the 13 of the empty line
 --     12 in a body without a length       13 in a body with one
---     14 a heart_beat is read             15 a frame is read                  16 refused
+--     14 a heart-beat is read             15 a frame is read                  16 refused
 
 -- what a command's number makes of header text where 13 begins a line end if w, and its longest body
 abbrev pub style_of : Bool → ℕ → Style

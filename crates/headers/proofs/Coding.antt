@@ -6,7 +6,7 @@
 --     encode_long, encode_twice      encoded text is never shorter, and at most twice as long
 --     encode_append, encode_part     two texts are encoded one after the other
 --     decode_front, decode_stretch   octets without a backslash are decoded as themselves
---     kept-..                        the same where so many octets are known to have none
+--     kept_..                        the same where so many octets are known to have none
 --     decode_off, encode_off         without escapes text is itself
 --     encode_same                    so is text that is as long encoded
 --     encode_bare, encode_tail       so are octets that no escape concerns, also at the end of a text

@@ -1,8 +1,8 @@
 -- Octets copied by blocks. Assumes nothing.
 --     paste_block     a block more, over octets that are copied already
 --     paste_through   a block that is read whole before it is written
---     Upto, upto-..   a copy by blocks, from the first to the last
---     copied-..       what a copy leaves
+--     Upto, upto_..   a copy by blocks, from the first to the last
+--     copied_..       what a copy leaves
 --     partly_copy, partly_copied   a copy as the next of some parts, and as the first
 --     partly_over     a copy as the last of them, over octets that are written already
 use Prim.Native.Nat.{ℕ, ◌+◌, ◌-◌, ◌≤◌, ◌<◌}

@@ -1,9 +1,9 @@
 -- Answers settled by checks in order: laws. Assumes nothing.
 --     all_pass, all_accepted  accepted exactly where every check passes
 --     refusal, acceptance     what a buffer call owes at its end, from the answer alone
---     kept-..                 a record of which octets are taken as they are
---     written-..               a record that is written says the lengths of its entry
---     decoded-.., length-.., encoded-.., line-.., decimal-..   which answer the checks of a call settle on
+--     kept_..                 a record of which octets are taken as they are
+--     written_..               a record that is written says the lengths of its entry
+--     decoded_.., length_.., encoded_.., line_.., decimal_..   which answer the checks of a call settle on
 use mathlib.Core.Path.{◌≡◌, refl, sym, ap, ap₂, ◌∙◌}
 use mathlib.Core.Bool.{Bool, true, false, cond, ◌&&◌, ◌||◌, not}
 use mathlib.Core.Option.{some}

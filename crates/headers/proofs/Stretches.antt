@@ -1,8 +1,8 @@
 -- The front of a row that passes a test, found octet by octet or a block at a time; stretches without a backslash. Assumes nothing.
---     span-..        how far a test holds from the front
---     block-..       the same in a block of a row
+--     span_..        how far a test holds from the front
+--     block_..       the same in a block of a row
 --     FirstStop      the first octet of a block that fails
---     stretch-..     the stretch at the front of a row: there is exactly one
+--     stretch_..     the stretch at the front of a row: there is exactly one
 use mathlib.Core.Path.{◌≡◌, refl, sym, ◌∙◌, ap}
 use mathlib.Core.Bool.{Bool, true, false, cond, ◌&&◌, ◌||◌, and_assoc, and-true}
 use mathlib.Core.List.{List, [], ◌∷◌, ◌++◌, append-nil}

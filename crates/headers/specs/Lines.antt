@@ -41,6 +41,6 @@ can_stand s f xs = every (writable s f) xs && is_utf8 xs
 abbrev pub can_write : Style → Entry → Bool
 can_write s e = not (empty e.name) && (can_stand s Name e.name && (can_stand s Value e.value && leb (length (raw_line s e)) line_max))
 
--- the header name `content_length`
+-- the header name `content-length`
 abbrev pub content_length : List ℕ
 content_length = octets_of "content-length"

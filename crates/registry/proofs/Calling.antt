@@ -1,7 +1,7 @@
 -- The calls on a record, by the code's parts. Assumes nothing.
 --     invalid, refused_with, accepted_with    the end of any call
 --     search_label, search_place, row_run     searches among the rows of a valid record
---     open-.., close-.., publish-.., ask-.., end-..    each call
+--     open_.., close_.., publish_.., ask_.., end_..    each call
 use mathlib.Core.Path.{◌≡◌, refl, sym, ap, ap₂, subst, ◌∙◌}
 use mathlib.Core.Bool.{Bool, true, false, cond, ◌||◌, not, true≢false}
 use mathlib.Core.Option.{Option, none, some}

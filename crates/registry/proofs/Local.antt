@@ -2,7 +2,7 @@
 --     run_by, found_step          the run of a label after a call
 --     answer_local                the answer to a call that concerns the run
 --     port_step, open_step        the port under a destination, and whether the run is open
---     alone, alone-..             a run by itself under the calls that concern it
+--     alone, alone_..             a run by itself under the calls that concern it
 use mathlib.Core.Path.{◌≡◌, refl, sym, ◌∙◌, ap}
 use mathlib.Core.Bool.{Bool, true, false, cond, ◌&&◌, not, true≢false}
 use mathlib.Core.Option.{Option, none, some}

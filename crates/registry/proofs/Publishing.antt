@@ -1,5 +1,5 @@
 -- A port looked for, published and read in the slots of a run, by the code's parts. Assumes nothing.
---     slots-..                                octets that are the slots of a good run
+--     slots_..                                octets that are the slots of a good run
 --     slot_held, slot_free                    the slot that a port takes
 --     published_refused, published_accepted   the slots after publishing
 --     no_port, port_at                        the port under a destination

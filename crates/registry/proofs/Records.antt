@@ -1,5 +1,5 @@
 -- The record of a good registry shows that registry, and is valid. Assumes nothing.
---     field-.., port-.., run-..       texts, ports and runs laid out and read back
+--     field_.., port_.., run_..       texts, ports and runs laid out and read back
 --     shown, record_valid             a whole registry
 --     answer_as, next_as              a call of its record
 --     octets_as                       the octets of one run in it

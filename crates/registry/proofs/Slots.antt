@@ -2,7 +2,7 @@
 --     has_found, found_none, found_name       whether a thing is found, and its name
 --     ..-here, found_other                    what is found after a replacement
 --     found_map, found_keep                   and after a change of every slot
---     distinct-.., length-.., every-..        what replacements and changes keep
+--     distinct_.., length_.., every_..        what replacements and changes keep
 use mathlib.Core.Path.{◌≡◌, refl, sym, ◌∙◌, ap, ap₂}
 use mathlib.Core.Bool.{Bool, true, false, cond, ◌&&◌, ◌||◌, not, true≢false}
 use mathlib.Core.Option.{Option, none, some}

@@ -1,5 +1,5 @@
 -- The test of a record by the code's parts is exact. Assumes nothing.
---     field-.., port-.., run-..       texts, ports and runs, each way
+--     field_.., port_.., run_..       texts, ports and runs, each way
 --     distinct_as                     rows begin with distinct texts exactly where they show things of distinct names
 --     registry_valid                  the whole
 use mathlib.Core.Path.{◌≡◌, refl, sym, ap, ap₂, ◌∙◌}

@@ -2,7 +2,7 @@
 --     left_case                             what holds of the session before, closed, and after an accepted call holds of what a call leaves
 --     frame_passed, changed_settles         what an accepted frame passed, and the id that it enters or frees
 --     deliver_passed                        what a delivery that was recorded passed
---     subscribe-.., unsubscribe-..          the same of a SUBSCRIBE and an UNSUBSCRIBE
+--     subscribe_.., unsubscribe_..          the same of a SUBSCRIBE and an UNSUBSCRIBE
 use Rattle.std.proofs.Common.{◌≡◌, ℕ, Bool, true, false, cond, not, ◌&&◌, ◌||◌, eqb, leb, List, [], ◌∷◌, ◌++◌, sym, refl, ap, ◌∙◌, arith}
 use mathlib.Core.Option.{some}
 use Rattle.headers.specs.Rows.{All, any, empty, first_of}

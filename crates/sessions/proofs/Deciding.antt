@@ -1,9 +1,9 @@
 -- What a frame does to a session, as the code decides it, from its parts. Assumes nothing.
---     lent-..                         what a store that is lent makes of an id
---     put-..                          what is put of an id
---     does-.., label-..               what becomes of modes and deliveries
---     looks-..                        the same by the command
---     decides-.., uses-..             steps
+--     lent_..                         what a store that is lent makes of an id
+--     put_..                          what is put of an id
+--     does_.., label_..               what becomes of modes and deliveries
+--     looks_..                        the same by the command
+--     decides_.., uses_..             steps
 use Rattle.std.proofs.Common.{◌≡◌, ℕ, ◌+◌, ◌-◌, ◌<◌, ◌≤◌, Bool, true, false, List, [], length, get_or, sym, refl, ap, ◌∙◌, subst, ap₂}
 use mathlib.Core.Option.{Option, none, some}
 use Rattle.headers.specs.Rows.{same}

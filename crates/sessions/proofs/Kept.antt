@@ -1,6 +1,6 @@
 -- A session stays a valid record: made, and after each call and each history of calls. Assumes nothing.
---     Kept, kept-..                                                 a valid session with the sizes of its arrays; each change, call and history keeps that
---     frame_valid, heart_beat_valid, deliver_valid, valid_after     the same of one call and of a history, said of is-valid
+--     Kept, kept_..                                                 a valid session with the sizes of its arrays; each change, call and history keeps that
+--     frame_valid, heart_beat_valid, deliver_valid, valid_after     the same of one call and of a history, said of is_valid
 --     made_valid, made_after                                        and of a session that was made, at first and after a history
 use Rattle.std.proofs.Common.{◌≡◌, ℕ, ◌<◌, Bool, true, false, cond, not, ◌&&◌, ◌||◌, eqb, ltb, leb, ◌≢◌, List, [], ◌∷◌, ◌++◌, length, get_or, set, replicate, sym, refl, ap, ◌∙◌, subst, ap₂, true≢false, arith, ltb-false, ne_eqb, eqb-true, le-leb, leb-false}
 use mathlib.Core.Option.{Option, none, some}

@@ -1,6 +1,6 @@
 -- What becomes of a use of an id, from the outcome of the searches. Assumes nothing.
 --     first_free      the first free place, by the lengths
---     settles-..      what is settled in each case
+--     settles_..      what is settled in each case
 use Rattle.std.proofs.Common.{◌≡◌, ℕ, suc, ◌-◌, ◌<◌, ◌≤◌, false, cond, eqb, List, [], ◌∷◌, length, drop, set, sym, refl, ap, ◌∙◌, arith, le-ltb, lt-ltb, ne_eqb}
 use mathlib.Core.Option.{some}
 use lib.Seq.{take-length}

@@ -4,7 +4,7 @@
 --     put_laid                              an id put in a place
 --     valid_fits, valid_clean, valid_distinct   what a valid store is
 --     used_length, used_short, used_distinct, used_live   the ids after a use of one
---     zeros-.., none_live                   a store of zeros has no id
+--     zeros_.., none_live                   a store of zeros has no id
 use Rattle.std.proofs.Common.{◌≡◌, ℕ, zero, suc, ◌+◌, ◌-◌, ◌*◌, ◌<◌, ◌≤◌, Bool, true, false, cond, not, ◌&&◌, ◌||◌, eqb, ltb, leb, ◌≢◌, List, [], ◌∷◌, ◌++◌, length, get_or, take, drop, set, replicate, sym, refl, ap, ◌∙◌, ap₂, true≢false, append_assoc, suc-mul, zero-add, zero-mul, arith, length-append, length-drop, take-append-drop, length-take-le, drop-drop, take_at, take-add, drop_at, ltb-false, le-leb, leb-true}
 use native.Mathlib.Nat.{sub-zero}
 use lib.ListN.{length-replicate, length-map, replicate-append-replicate}

@@ -1,9 +1,9 @@
 -- Ids told apart by the keys of their places. Assumes nothing.
 --     live_keyed                          the key of an id's place is among those of the places that hold it
---     again-..                            whether an id is among others, by the tests in turn
+--     again_..                            whether an id is among others, by the tests in turn
 --     all_keys, front_keys                the keys of a store, as they are put
 --     apart_distinct                      where no two keys are alike, the ids are distinct
---     Turn's here-.., rest-..             a turn of a walk: what it knows of the place's key and of those after it
+--     Turn's here_.., rest_..             a turn of a walk: what it knows of the place's key and of those after it
 use Rattle.std.proofs.Common.{◌≡◌, ℕ, zero, suc, ◌+◌, ◌-◌, ◌*◌, ◌<◌, ◌≤◌, Bool, true, false, not, ◌&&◌, ◌||◌, eqb, List, [], ◌∷◌, ◌++◌, length, get_or, take, drop, replicate, sym, refl, ap, ◌∙◌, subst, ap₂, true≢false, suc-mul, zero-mul, add-one, arith, length-drop, drop-drop, take_at, eq-eqb}
 use native.Mathlib.Nat.{sub-zero}
 use lib.ListN.{get_or-append}

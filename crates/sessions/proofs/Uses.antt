@@ -4,7 +4,7 @@
 --     uses_answer                 what the checks over all ids answer, by that number
 --     settled_two                 the number of two ids that may be named, by what the store made of each
 --     named_uses, second_stays    the ids that a frame names, by the two that the code has
---     settled-..                  the session that is left, by what the store made of the first
+--     settled_..                  the session that is left, by what the store made of the first
 use Rattle.std.proofs.Common.{◌≡◌, ℕ, ◌+◌, ◌-◌, ◌<◌, ◌≤◌, Bool, true, false, cond, ◌||◌, eqb, ltb, List, [], ◌∷◌, length, take, drop, sym, refl, ap, ◌∙◌, subst, ap₂, arith, length-drop, length-take-le, take-take, eq-eqb, ne_eqb, eqb-true}
 use mathlib.Core.Option.{Option, none, some}
 use borrow.Author.Tests.{eqb-false}

@@ -1,9 +1,9 @@
 -- Rows that stay, moved together: a walk over the rows of a store, of which the first are passed. Assumes nothing.
 --     kept-whole, kept_end       before the first row and after the last
 --     kept_turn                  one row on
---     Stands, stands-..          a loop that moves them
+--     Stands, stands_..          a loop that moves them
 --     no_rows, divided           the size of a store, by dividing
---     kept-in-..                 what is put, by whether the sizes fit
+--     kept_in_..                 what is put, by whether the sizes fit
 use mathlib.Core.Path.{◌≡◌, refl, sym, ap, ap₂, subst, ◌∙◌}
 use mathlib.Core.Bool.{Bool, true, false, cond, ◌&&◌}
 use mathlib.Core.List.{List, [], ◌∷◌, ◌++◌}

@@ -1,7 +1,7 @@
 -- Keys of places, one place on. Assumes nothing.
 --     keys_long, keys_turn        the keys of a store
---     Keyed, keyed-..             a loop that puts them
---     with-keys-..                what is put, by whether the sizes fit
+--     Keyed, keyed_..             a loop that puts them
+--     with_keys_..                what is put, by whether the sizes fit
 use mathlib.Core.Path.{◌≡◌, refl, ap, ap₂, sym, ◌∙◌}
 use mathlib.Core.Bool.{false, cond, ◌&&◌}
 use mathlib.Core.List.{List, [], ◌∷◌, ◌++◌}

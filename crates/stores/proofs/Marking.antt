@@ -1,7 +1,7 @@
 -- Keys told apart by marks. Assumes nothing.
 --     not_among              a key whose slot is not marked is not among marked ones
---     clash-..               whether a place clashes with a later one, by the tests in turn
---     Marking, marking-..    a loop over the places, from the last to the first
+--     clash_..               whether a place clashes with a later one, by the tests in turn
+--     Marking, marking_..    a loop over the places, from the last to the first
 use mathlib.Core.Path.{◌≡◌, refl, sym, ap, ap₂, ◌∙◌}
 use mathlib.Core.Bool.{Bool, true, false, ◌&&◌, ◌||◌, not, true≢false}
 use mathlib.Core.List.{List, [], ◌∷◌}

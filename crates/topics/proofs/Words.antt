@@ -2,12 +2,12 @@
 --     same_one                                           a word of one octet
 --     steps, steps_long                                  one word on
 --     ended, taken_in, taken_word, taken_rest            the words from word j on
---     count_long, counted_none, -more, -empty, -full     the number of words, counted one by one
+--     count_long, counted_none, _more, _empty, _full     the number of words, counted one by one
 --     no_words, noted_none, noted_more, noted_all        where the words begin, noted one by one
 --     located_small, located_step, located_word          the word with a number, by where the words begin
 --     malformed, formed, counted_formed                  what a count says
 --     bad_name, bad_pattern, answered                    what asking for a match answers
---     rest_none, rest-hash-.., rest-word-..              whether the words that remain match
+--     rest_none, rest_hash_.., rest_word_..              whether the words that remain match
 use mathlib.Core.Path.{◌≡◌, refl, sym, ◌∙◌, ap, ap₂, subst}
 use mathlib.Core.Logic.{⊎_elim}
 use mathlib.Core.Bool.{Bool, true, false, cond, ◌&&◌, ◌||◌, not}
