@@ -1,5 +1,6 @@
 // The listing of a stream: its octets pass through one buffer, and the lines of its items through another.
-ghost use Rattle.std.specs.Prelude.{◌≡◌, ◌+◌, ◌-◌, ◌≤◌, ◌<◌, min, length, take, drop, IfOk};
+ghost use Rattle.std.specs.Prelude.{◌≡◌, ◌+◌, ◌-◌, ◌≤◌, ◌<◌, min, length, take, drop, IfOk, OnOk};
+ghost use Rattle.std.specs.Io.KnownBytes.{Appends};
 ghost use Rattle.frames.specs.Parsing.{parsed};
 ghost use Rattle.frames.specs.Replies.{used_of};
 ghost use Rattle.frames.specs.Answers.{parsed_says};
@@ -90,6 +91,7 @@ pub(crate) fn flush<W: Write>(writer: &mut W, out: &[u8], mut p: Progress) -> io
     ensures lo { IfOk result (λ q. q.lo ≡ p.lo) }
     ensures hi { IfOk result (λ q. q.hi ≡ p.hi) }
     ensures used { IfOk result (λ q. q.used ≡ 0) }
+    ensures bytes { OnOk result (Appends (W.contents writer.old) (W.contents writer.new) (take p.used out.now)) }
 {
     writer.write_all(&out[0..p.used])?;
     p.used = 0;

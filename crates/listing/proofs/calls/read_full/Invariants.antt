@@ -1,10 +1,11 @@
--- `calls::read_full`: what was read lies in the buffer.
+-- `calls::read_full`: what was read lies in the buffer, and the reader has lost it.
 use Prim.Native.Nat.{◌≤◌, ◌-◌}
-use lib.ListN.{length}
+use lib.ListN.{length, take}
+use Rattle.std.specs.Io.KnownBytes.{Consumes}
 use Rattle.listing.proofs.calls.read_full.Given as goal
 
 abbrev pub invariant-loop-done : goal.invariant-loop-done
-invariant-loop-done g l = l.done ≤ length l.buf
+invariant-loop-done g l = (l.done ≤ length l.buf) × Consumes (g.R.Read.remaining l.initial.reader) (g.R.Read.remaining l.reader) (take l.done l.buf)
 
 abbrev pub decreases-loop-done : goal.decreases-loop-done
 decreases-loop-done g l = length l.initial.buf - l.done
