@@ -1,9 +1,8 @@
 /* Mouhtali: frames of STOMP 1.1 and 1.2, parsed, also piece by piece, decoded, searched and encoded; patterns
  * of names, matched; plans for handing out queued messages, checked; ports kept under the label of a run.
  *
- * stomp_match and stomp_check_plan are in libtopics.a, which `rt staticlib topics` writes, the calls
- * stomp_registry_.. are in libregistry.a, which `rt staticlib registry` writes, the other functions are in
- * libframes.a, which `rt staticlib frames` writes, all for x86-64. For C99, C11 and C++.
+ * stomp_match and stomp_check_plan are in libtopics.a, the calls stomp_registry_.. in libregistry.a, and
+ * the other functions in libframes.a, all for x86-64: tools/archives builds them. For C99, C11 and C++.
  * docs/MANUAL.md has the rules of the format, what sets the versions apart, and what to do about each number.
  * A call that is not told a version is of 1.2.
  *

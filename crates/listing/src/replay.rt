@@ -538,8 +538,8 @@ fn replay_in<R: Read, W: Write>(
 }
 
 // Replays the octets of a reader with a session of these offers and versions 1.1 and 1.2, at time 0: a line on a writer for each item, and
-// the last one as a listing has it. In a log of both sides a MESSAGE is a delivery. A reading or a writing that fails is the answer: where
-// it is a reading, the lines of all items read before are written.
+// the last one as a listing has it. In a log of both sides a MESSAGE is a delivery. A reading or a writing that fails is the answer. The
+// lines laid out before a reading are written before it, so that one that fails loses none of them.
 pub fn replay<R: Read, W: Write>(
     reader: &mut R,
     writer: &mut W,

@@ -248,7 +248,7 @@ fn list_in<R: Read, W: Write>(
 }
 
 // Lists the octets of a reader on a writer, to their end, a line for each item: whether the last line is written. A reading or a writing
-// that fails is the answer: where it is a reading, the lines of all items read before are written.
+// that fails is the answer. The lines laid out before a reading are written before it, so that one that fails loses none of them.
 pub fn list<R: Read, W: Write>(reader: &mut R, writer: &mut W) -> io::Result<bool> {
     let mut octets = [0u8; 65536];
     let mut lines = [0u8; 65536];

@@ -65,27 +65,27 @@ pub text_span-requires-in-loop-j : goal.text_span-requires-in-loop-j
 text_span-requires-in-loop-j c = calm_plain c.style_of-style.result in_value c.value_stops-stops.ensures
 
 -- and so do the characters after it, and the next stretch
-next-part : (c : goal.After-text_span-in-loop-j) → (c.beyond_plain-k.result ≤ c.upto-e.result - c.loop-j.j) × (c.loop-j.j + c.beyond_plain-k.result + c.text_span-in-loop-j.result ≤ c.upto-e.result)
-next-part c =
+next_part : (c : goal.After-text_span-in-loop-j) → (c.beyond_plain-k.result ≤ c.upto-e.result - c.loop-j.j) × (c.loop-j.j + c.beyond_plain-k.result + c.text_span-in-loop-j.result ≤ c.upto-e.result)
+next_part c =
     let k : c.beyond_plain-k.result ≤ c.upto-e.result - c.loop-j.j = omega (arith, c.beyond_plain-k.ensures.0, part_long c.args.s.now c.loop-j.j c.upto-e.result c.loop-j.invariant.1 c.loop-j.invariant.2) in
     (k, span_part _ _ _ _ _ (omega (arith, k, c.loop-j.invariant.1)) (omega (arith, c.loop-j.invariant.2)) c.text_span-in-loop-j.ensures)
 
 pub overflow_add-j-in-loop-j : goal.overflow_add-j-in-loop-j
 overflow_add-j-in-loop-j c =
-    omega (arith, (next-part c).0, (next-part c).1)
+    omega (arith, (next_part c).0, (next_part c).1)
 
 pub loop-j-smaller : goal.loop-j-smaller
 loop-j-smaller c =
-    omega (arith, (next-part c).0, (next-part c).1, c.if-k-eq0.false)
+    omega (arith, (next_part c).0, (next_part c).1, c.if-k-eq0.false)
 
 pub loop-j-preserved : goal.loop-j-preserved
 loop-j-preserved c =
     let l = c.loop-j.invariant in (
       omega (arith, l.0),
-      (next-part c).1,
+      (next_part c).1,
       l.2,
       text_on c.style_of-style.result in_value c.value_stops-stops.ensures c.args.s.now c.args.i c.loop-j.j c.upto-e.result c.beyond_plain-k.result c.text_span-in-loop-j.result
-          l.0 (next-part c).0 l.3 c.beyond_plain-k.ensures.1 c.text_span-in-loop-j.ensures,
+          l.0 (next_part c).0 l.3 c.beyond_plain-k.ensures.1 c.text_span-in-loop-j.ensures,
     )
 
 pub returns : goal.returns

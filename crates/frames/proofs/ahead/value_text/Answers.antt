@@ -22,53 +22,53 @@ pub returns-then-k-eq0 : goal.returns-then-k-eq0
 returns-then-k-eq0 c = c.loop-j.invariant
 
 -- the characters after the stretch end where it may
-beyond-1 : (c : goal.Else-k-eq0) → c.beyond_plain-k.result ≤ length c.args.s.now - c.loop-j.j
-beyond-1 c =
+beyond_1 : (c : goal.Else-k-eq0) → c.beyond_plain-k.result ≤ length c.args.s.now - c.loop-j.j
+beyond_1 c =
     let s = c.args.s.now in
     let l = c.loop-j in
     omega (arith, c.beyond_plain-k.ensures.0, part_long s l.j (length s) l.invariant.0 (omega arith))
 
 pub overflow_add-f : goal.overflow_add-f
-overflow_add-f c = omega (arith, beyond-1 c, c.loop-j.invariant.0)
+overflow_add-f c = omega (arith, beyond_1 c, c.loop-j.invariant.0)
 
 pub slice_bounds-text_span-count : goal.slice_bounds-text_span-count
-slice_bounds-text_span-count c = omega (arith, beyond-1 c, c.loop-j.invariant.0)
+slice_bounds-text_span-count c = omega (arith, beyond_1 c, c.loop-j.invariant.0)
 
 pub slice_bounds-text_span-start : goal.slice_bounds-text_span-start
-slice_bounds-text_span-start c = omega (arith, beyond-1 c, c.loop-j.invariant.0)
+slice_bounds-text_span-start c = omega (arith, beyond_1 c, c.loop-j.invariant.0)
 
 pub slice_bounds-text_span-end : goal.slice_bounds-text_span-end
-slice_bounds-text_span-end c = omega (arith, beyond-1 c, c.loop-j.invariant.0)
+slice_bounds-text_span-end c = omega (arith, beyond_1 c, c.loop-j.invariant.0)
 
 pub text_span-requires : goal.text_span-requires
 text_span-requires c = calm_plain c.args.style in_value c.value_stops-stops.ensures
 
 -- the characters after the stretch end where it may
-beyond-2 : (c : goal.After-text_span) → c.beyond_plain-k.result ≤ length c.args.s.now - c.loop-j.j
-beyond-2 c =
+beyond_2 : (c : goal.After-text_span) → c.beyond_plain-k.result ≤ length c.args.s.now - c.loop-j.j
+beyond_2 c =
     let s = c.args.s.now in
     let l = c.loop-j in
     omega (arith, c.beyond_plain-k.ensures.0, part_long s l.j (length s) l.invariant.0 (omega arith))
 
 -- and so does the next stretch
-next-part : (c : goal.After-text_span) → c.loop-j.j + c.beyond_plain-k.result + c.text_span.result ≤ length c.args.s.now
-next-part c =
-    span_part _ _ _ _ _ (omega (arith, beyond-2 c, c.loop-j.invariant.0)) (omega arith) c.text_span.ensures
+next_part : (c : goal.After-text_span) → c.loop-j.j + c.beyond_plain-k.result + c.text_span.result ≤ length c.args.s.now
+next_part c =
+    span_part _ _ _ _ _ (omega (arith, beyond_2 c, c.loop-j.invariant.0)) (omega arith) c.text_span.ensures
 
 pub overflow_add-j : goal.overflow_add-j
-overflow_add-j c = omega (arith, next-part c)
+overflow_add-j c = omega (arith, next_part c)
 
 pub loop-j-smaller : goal.loop-j-smaller
-loop-j-smaller c = omega (arith, next-part c, c.if-k-eq0.false)
+loop-j-smaller c = omega (arith, next_part c, c.if-k-eq0.false)
 
 pub loop-j-preserved : goal.loop-j-preserved
 loop-j-preserved c =
     let a = c.args in
     let l = c.loop-j in
     let k = c.beyond_plain-k in (
-      next-part c,
+      next_part c,
       text_more a.style in_value c.value_stops-stops.ensures a.s.now l.j k.result c.text_span.result
-          (beyond-2 c) l.invariant.1 k.ensures.1 c.text_span.ensures,
+          (beyond_2 c) l.invariant.1 k.ensures.1 c.text_span.ensures,
     )
 
 pub returns : goal.returns

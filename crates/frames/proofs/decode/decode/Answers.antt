@@ -39,139 +39,139 @@ returns-then-item-frame c =
     (not_frame s.version _ c.parse.ensures.1
     (ap parsed_says c.in-Complete.is) (λ all. absurd (c.if-item-frame.true all)))
 
-one-1 : (c : goal.After-put_records-arg-1) → let i = c.in-Complete.item in
+one_1 : (c : goal.After-put_records-arg-1) → let i = c.in-Complete.item in
     OneFrame c.args.version c.args.frame.now i.command i.headers i.body i.body_len
-one-1 c =
+one_1 c =
     one_frame c.args.version c.parse.ensures.1
     (ap parsed_says c.in-Complete.is) c.if-item-eq1.false c.if-item-frame.false
 
-cr_is-1 : (c : goal.After-put_records-arg-1) → c.or_10-cr.result ≡ line_cr (crlf c.args.version)
-cr_is-1 c = c.or_10-cr.ensures ∙ ap line_cr c.has_crlf-crlf.ensures
+cr_is_1 : (c : goal.After-put_records-arg-1) → c.or_10-cr.result ≡ line_cr (crlf c.args.version)
+cr_is_1 c = c.or_10-cr.ensures ∙ ap line_cr c.has_crlf-crlf.ensures
 
-style_is-1 : (c : goal.After-put_records-arg-1) → c.style_of-style.result ≡ style_of (crlf c.args.version) c.in-Complete.item.command
-style_is-1 c = c.style_of-style.ensures ∙ ap (λ w. style_of w c.in-Complete.item.command) c.has_crlf-crlf.ensures
+style_is_1 : (c : goal.After-put_records-arg-1) → c.style_of-style.result ≡ style_of (crlf c.args.version) c.in-Complete.item.command
+style_is_1 c = c.style_of-style.ensures ∙ ap (λ w. style_of w c.in-Complete.item.command) c.has_crlf-crlf.ensures
 
-fits-1 : (c : goal.After-put_records-arg-1) → let a = c.args in 16544 ≤ length a.block.now → length (image ((line_entries c.style_of-style.result (front_lines c.or_10-cr.result c.in-Complete.item.headers (drop c.first_line-from.result c.args.frame.now))))) ≤ length a.block.now
-fits-1 c =
-    ample _ (one-1 c) c.or_10-cr.result c.style_of-style.result c.first_line-from.result (cr_is-1 c) (style_is-1 c) c.first_line-from.ensures.1 c.args.block.now
+fits_1 : (c : goal.After-put_records-arg-1) → let a = c.args in 16544 ≤ length a.block.now → length (image ((line_entries c.style_of-style.result (front_lines c.or_10-cr.result c.in-Complete.item.headers (drop c.first_line-from.result c.args.frame.now))))) ≤ length a.block.now
+fits_1 c =
+    ample _ (one_1 c) c.or_10-cr.result c.style_of-style.result c.first_line-from.result (cr_is_1 c) (style_is_1 c) c.first_line-from.ensures.1 c.args.block.now
 
-shorts-1 : (c : goal.After-put_records-arg-1) → All Short ((line_entries c.style_of-style.result (front_lines c.or_10-cr.result c.in-Complete.item.headers (drop c.first_line-from.result c.args.frame.now))))
-shorts-1 c = each_short _ (one-1 c) c.or_10-cr.result c.style_of-style.result c.first_line-from.result (cr_is-1 c) (style_is-1 c) c.first_line-from.ensures.1
+shorts_1 : (c : goal.After-put_records-arg-1) → All Short ((line_entries c.style_of-style.result (front_lines c.or_10-cr.result c.in-Complete.item.headers (drop c.first_line-from.result c.args.frame.now))))
+shorts_1 c = each_short _ (one_1 c) c.or_10-cr.result c.style_of-style.result c.first_line-from.result (cr_is_1 c) (style_is_1 c) c.first_line-from.ensures.1
 
 pub put_records-requires : goal.put_records-requires
-put_records-requires c = (c.first_line-from.ensures.0, fits-1 c c.if-block-ge-BLOCK.true, shorts-1 c)
+put_records-requires c = (c.first_line-from.ensures.0, fits_1 c c.if-block-ge-BLOCK.true, shorts_1 c)
 
-one-2 : (c : goal.After-slice_known-then-block-ge-BLOCK-1) → let i = c.in-Complete.item in
+one_2 : (c : goal.After-slice_known-then-block-ge-BLOCK-1) → let i = c.in-Complete.item in
     OneFrame c.args.version c.args.frame.now i.command i.headers i.body i.body_len
-one-2 c =
+one_2 c =
     one_frame c.args.version c.parse.ensures.1
     (ap parsed_says c.in-Complete.is) c.if-item-eq1.false c.if-item-frame.false
 
-cr_is-2 : (c : goal.After-slice_known-then-block-ge-BLOCK-1) → c.or_10-cr.result ≡ line_cr (crlf c.args.version)
-cr_is-2 c = c.or_10-cr.ensures ∙ ap line_cr c.has_crlf-crlf.ensures
+cr_is_2 : (c : goal.After-slice_known-then-block-ge-BLOCK-1) → c.or_10-cr.result ≡ line_cr (crlf c.args.version)
+cr_is_2 c = c.or_10-cr.ensures ∙ ap line_cr c.has_crlf-crlf.ensures
 
-style_is-2 : (c : goal.After-slice_known-then-block-ge-BLOCK-1) → c.style_of-style.result ≡ style_of (crlf c.args.version) c.in-Complete.item.command
-style_is-2 c = c.style_of-style.ensures ∙ ap (λ w. style_of w c.in-Complete.item.command) c.has_crlf-crlf.ensures
+style_is_2 : (c : goal.After-slice_known-then-block-ge-BLOCK-1) → c.style_of-style.result ≡ style_of (crlf c.args.version) c.in-Complete.item.command
+style_is_2 c = c.style_of-style.ensures ∙ ap (λ w. style_of w c.in-Complete.item.command) c.has_crlf-crlf.ensures
 
 -- what is known of them, whatever is measured
-settles-1 : (c : goal.After-slice_known-then-block-ge-BLOCK-1) (total : ℕ) → total ≡ length (image ((line_entries c.style_of-style.result (front_lines c.or_10-cr.result c.in-Complete.item.headers (drop c.first_line-from.result c.args.frame.now)))))
+settles_1 : (c : goal.After-slice_known-then-block-ge-BLOCK-1) (total : ℕ) → total ≡ length (image ((line_entries c.style_of-style.result (front_lines c.or_10-cr.result c.in-Complete.item.headers (drop c.first_line-from.result c.args.frame.now)))))
     → let a = c.args in Settled a.version a.frame.now a.block.now ((line_entries c.style_of-style.result (front_lines c.or_10-cr.result c.in-Complete.item.headers (drop c.first_line-from.result c.args.frame.now)))) total
-settles-1 c = settled _ (one-2 c) c.or_10-cr.result c.style_of-style.result c.first_line-from.result (cr_is-2 c) (style_is-2 c) c.first_line-from.ensures.1 _
+settles_1 c = settled _ (one_2 c) c.or_10-cr.result c.style_of-style.result c.first_line-from.result (cr_is_2 c) (style_is_2 c) c.first_line-from.ensures.1 _
 
-fits-2 : (c : goal.After-slice_known-then-block-ge-BLOCK-1) → let a = c.args in 16544 ≤ length a.block.now → length (image ((line_entries c.style_of-style.result (front_lines c.or_10-cr.result c.in-Complete.item.headers (drop c.first_line-from.result c.args.frame.now))))) ≤ length a.block.now
-fits-2 c =
-    ample _ (one-2 c) c.or_10-cr.result c.style_of-style.result c.first_line-from.result (cr_is-2 c) (style_is-2 c) c.first_line-from.ensures.1 c.args.block.now
+fits_2 : (c : goal.After-slice_known-then-block-ge-BLOCK-1) → let a = c.args in 16544 ≤ length a.block.now → length (image ((line_entries c.style_of-style.result (front_lines c.or_10-cr.result c.in-Complete.item.headers (drop c.first_line-from.result c.args.frame.now))))) ≤ length a.block.now
+fits_2 c =
+    ample _ (one_2 c) c.or_10-cr.result c.style_of-style.result c.first_line-from.result (cr_is_2 c) (style_is_2 c) c.first_line-from.ensures.1 c.args.block.now
 
 pub returns-then-block-ge-BLOCK : goal.returns-then-block-ge-BLOCK
 returns-then-block-ge-BLOCK c =
-    (settles-1 c c.put_records.result c.put_records.ensures.0).whole (omega (arith, fits-2 c c.if-block-ge-BLOCK.true, c.put_records.ensures.0)) _ c.put_records.ensures.1
+    (settles_1 c c.put_records.result c.put_records.ensures.0).whole (omega (arith, fits_2 c c.if-block-ge-BLOCK.true, c.put_records.ensures.0)) _ c.put_records.ensures.1
 
-one-3 : (c : goal.Else-block-ge-BLOCK) → let i = c.in-Complete.item in
+one_3 : (c : goal.Else-block-ge-BLOCK) → let i = c.in-Complete.item in
     OneFrame c.args.version c.args.frame.now i.command i.headers i.body i.body_len
-one-3 c =
+one_3 c =
     one_frame c.args.version c.parse.ensures.1
     (ap parsed_says c.in-Complete.is) c.if-item-eq1.false c.if-item-frame.false
 
 pub measure-requires : goal.measure-requires
-measure-requires c = (c.first_line-from.ensures.0, few_lines _ (one-3 c))
+measure-requires c = (c.first_line-from.ensures.0, few_lines _ (one_3 c))
 
-one-4 : (c : goal.Then-block-measure) → let i = c.in-Complete.item in
+one_4 : (c : goal.Then-block-measure) → let i = c.in-Complete.item in
     OneFrame c.args.version c.args.frame.now i.command i.headers i.body i.body_len
-one-4 c =
+one_4 c =
     one_frame c.args.version c.parse.ensures.1
     (ap parsed_says c.in-Complete.is) c.if-item-eq1.false c.if-item-frame.false
 
-cr_is-3 : (c : goal.Then-block-measure) → c.or_10-cr.result ≡ line_cr (crlf c.args.version)
-cr_is-3 c = c.or_10-cr.ensures ∙ ap line_cr c.has_crlf-crlf.ensures
+cr_is_3 : (c : goal.Then-block-measure) → c.or_10-cr.result ≡ line_cr (crlf c.args.version)
+cr_is_3 c = c.or_10-cr.ensures ∙ ap line_cr c.has_crlf-crlf.ensures
 
-style_is-3 : (c : goal.Then-block-measure) → c.style_of-style.result ≡ style_of (crlf c.args.version) c.in-Complete.item.command
-style_is-3 c = c.style_of-style.ensures ∙ ap (λ w. style_of w c.in-Complete.item.command) c.has_crlf-crlf.ensures
+style_is_3 : (c : goal.Then-block-measure) → c.style_of-style.result ≡ style_of (crlf c.args.version) c.in-Complete.item.command
+style_is_3 c = c.style_of-style.ensures ∙ ap (λ w. style_of w c.in-Complete.item.command) c.has_crlf-crlf.ensures
 
 -- what is known of them, whatever is measured
-settles-2 : (c : goal.Then-block-measure) (total : ℕ) → total ≡ length (image ((line_entries c.style_of-style.result (front_lines c.or_10-cr.result c.in-Complete.item.headers (drop c.first_line-from.result c.args.frame.now)))))
+settles_2 : (c : goal.Then-block-measure) (total : ℕ) → total ≡ length (image ((line_entries c.style_of-style.result (front_lines c.or_10-cr.result c.in-Complete.item.headers (drop c.first_line-from.result c.args.frame.now)))))
     → let a = c.args in Settled a.version a.frame.now a.block.now ((line_entries c.style_of-style.result (front_lines c.or_10-cr.result c.in-Complete.item.headers (drop c.first_line-from.result c.args.frame.now)))) total
-settles-2 c = settled _ (one-4 c) c.or_10-cr.result c.style_of-style.result c.first_line-from.result (cr_is-3 c) (style_is-3 c) c.first_line-from.ensures.1 _
+settles_2 c = settled _ (one_4 c) c.or_10-cr.result c.style_of-style.result c.first_line-from.result (cr_is_3 c) (style_is_3 c) c.first_line-from.ensures.1 _
 
 -- its entries are measured
-measured-1 : (c : goal.Then-block-measure) → let a = c.args in
+measured_1 : (c : goal.Then-block-measure) → let a = c.args in
     Settled a.version a.frame.now a.block.now ((line_entries c.style_of-style.result (front_lines c.or_10-cr.result c.in-Complete.item.headers (drop c.first_line-from.result c.args.frame.now)))) c.measure.result
-measured-1 c = settles-2 c c.measure.result c.measure.ensures
+measured_1 c = settles_2 c c.measure.result c.measure.ensures
 
 pub returns-then-block-measure : goal.returns-then-block-measure
-returns-then-block-measure c = (measured-1 c).short c.if-block-measure.true
+returns-then-block-measure c = (measured_1 c).short c.if-block-measure.true
 
-one-5 : (c : goal.After-put_records-arg-2-1) → let i = c.in-Complete.item in
+one_5 : (c : goal.After-put_records-arg-2-1) → let i = c.in-Complete.item in
     OneFrame c.args.version c.args.frame.now i.command i.headers i.body i.body_len
-one-5 c =
+one_5 c =
     one_frame c.args.version c.parse.ensures.1
     (ap parsed_says c.in-Complete.is) c.if-item-eq1.false c.if-item-frame.false
 
-cr_is-4 : (c : goal.After-put_records-arg-2-1) → c.or_10-cr.result ≡ line_cr (crlf c.args.version)
-cr_is-4 c = c.or_10-cr.ensures ∙ ap line_cr c.has_crlf-crlf.ensures
+cr_is_4 : (c : goal.After-put_records-arg-2-1) → c.or_10-cr.result ≡ line_cr (crlf c.args.version)
+cr_is_4 c = c.or_10-cr.ensures ∙ ap line_cr c.has_crlf-crlf.ensures
 
-style_is-4 : (c : goal.After-put_records-arg-2-1) → c.style_of-style.result ≡ style_of (crlf c.args.version) c.in-Complete.item.command
-style_is-4 c = c.style_of-style.ensures ∙ ap (λ w. style_of w c.in-Complete.item.command) c.has_crlf-crlf.ensures
+style_is_4 : (c : goal.After-put_records-arg-2-1) → c.style_of-style.result ≡ style_of (crlf c.args.version) c.in-Complete.item.command
+style_is_4 c = c.style_of-style.ensures ∙ ap (λ w. style_of w c.in-Complete.item.command) c.has_crlf-crlf.ensures
 
 -- what is known of them, whatever is measured
-settles-3 : (c : goal.After-put_records-arg-2-1) (total : ℕ) → total ≡ length (image ((line_entries c.style_of-style.result (front_lines c.or_10-cr.result c.in-Complete.item.headers (drop c.first_line-from.result c.args.frame.now)))))
+settles_3 : (c : goal.After-put_records-arg-2-1) (total : ℕ) → total ≡ length (image ((line_entries c.style_of-style.result (front_lines c.or_10-cr.result c.in-Complete.item.headers (drop c.first_line-from.result c.args.frame.now)))))
     → let a = c.args in Settled a.version a.frame.now a.block.now ((line_entries c.style_of-style.result (front_lines c.or_10-cr.result c.in-Complete.item.headers (drop c.first_line-from.result c.args.frame.now)))) total
-settles-3 c = settled _ (one-5 c) c.or_10-cr.result c.style_of-style.result c.first_line-from.result (cr_is-4 c) (style_is-4 c) c.first_line-from.ensures.1 _
+settles_3 c = settled _ (one_5 c) c.or_10-cr.result c.style_of-style.result c.first_line-from.result (cr_is_4 c) (style_is_4 c) c.first_line-from.ensures.1 _
 
 -- its entries are measured
-measured-2 : (c : goal.After-put_records-arg-2-1) → let a = c.args in
+measured_2 : (c : goal.After-put_records-arg-2-1) → let a = c.args in
     Settled a.version a.frame.now a.block.now ((line_entries c.style_of-style.result (front_lines c.or_10-cr.result c.in-Complete.item.headers (drop c.first_line-from.result c.args.frame.now)))) c.measure.result
-measured-2 c = settles-3 c c.measure.result c.measure.ensures
+measured_2 c = settles_3 c c.measure.result c.measure.ensures
 
-shorts-2 : (c : goal.After-put_records-arg-2-1) → All Short ((line_entries c.style_of-style.result (front_lines c.or_10-cr.result c.in-Complete.item.headers (drop c.first_line-from.result c.args.frame.now))))
-shorts-2 c = each_short _ (one-5 c) c.or_10-cr.result c.style_of-style.result c.first_line-from.result (cr_is-4 c) (style_is-4 c) c.first_line-from.ensures.1
+shorts_2 : (c : goal.After-put_records-arg-2-1) → All Short ((line_entries c.style_of-style.result (front_lines c.or_10-cr.result c.in-Complete.item.headers (drop c.first_line-from.result c.args.frame.now))))
+shorts_2 c = each_short _ (one_5 c) c.or_10-cr.result c.style_of-style.result c.first_line-from.result (cr_is_4 c) (style_is_4 c) c.first_line-from.ensures.1
 
 pub put_records-requires-2 : goal.put_records-requires-2
 put_records-requires-2 c =
-    (c.first_line-from.ensures.0, (measured-2 c).room c.if-block-measure.false, shorts-2 c)
+    (c.first_line-from.ensures.0, (measured_2 c).room c.if-block-measure.false, shorts_2 c)
 
-one-6 : (c : goal.After-slice_known-2-1) → let i = c.in-Complete.item in
+one_6 : (c : goal.After-slice_known-2-1) → let i = c.in-Complete.item in
     OneFrame c.args.version c.args.frame.now i.command i.headers i.body i.body_len
-one-6 c =
+one_6 c =
     one_frame c.args.version c.parse.ensures.1
     (ap parsed_says c.in-Complete.is) c.if-item-eq1.false c.if-item-frame.false
 
-cr_is-5 : (c : goal.After-slice_known-2-1) → c.or_10-cr.result ≡ line_cr (crlf c.args.version)
-cr_is-5 c = c.or_10-cr.ensures ∙ ap line_cr c.has_crlf-crlf.ensures
+cr_is_5 : (c : goal.After-slice_known-2-1) → c.or_10-cr.result ≡ line_cr (crlf c.args.version)
+cr_is_5 c = c.or_10-cr.ensures ∙ ap line_cr c.has_crlf-crlf.ensures
 
-style_is-5 : (c : goal.After-slice_known-2-1) → c.style_of-style.result ≡ style_of (crlf c.args.version) c.in-Complete.item.command
-style_is-5 c = c.style_of-style.ensures ∙ ap (λ w. style_of w c.in-Complete.item.command) c.has_crlf-crlf.ensures
+style_is_5 : (c : goal.After-slice_known-2-1) → c.style_of-style.result ≡ style_of (crlf c.args.version) c.in-Complete.item.command
+style_is_5 c = c.style_of-style.ensures ∙ ap (λ w. style_of w c.in-Complete.item.command) c.has_crlf-crlf.ensures
 
 -- what is known of them, whatever is measured
-settles-4 : (c : goal.After-slice_known-2-1) (total : ℕ) → total ≡ length (image ((line_entries c.style_of-style.result (front_lines c.or_10-cr.result c.in-Complete.item.headers (drop c.first_line-from.result c.args.frame.now)))))
+settles_4 : (c : goal.After-slice_known-2-1) (total : ℕ) → total ≡ length (image ((line_entries c.style_of-style.result (front_lines c.or_10-cr.result c.in-Complete.item.headers (drop c.first_line-from.result c.args.frame.now)))))
     → let a = c.args in Settled a.version a.frame.now a.block.now ((line_entries c.style_of-style.result (front_lines c.or_10-cr.result c.in-Complete.item.headers (drop c.first_line-from.result c.args.frame.now)))) total
-settles-4 c = settled _ (one-6 c) c.or_10-cr.result c.style_of-style.result c.first_line-from.result (cr_is-5 c) (style_is-5 c) c.first_line-from.ensures.1 _
+settles_4 c = settled _ (one_6 c) c.or_10-cr.result c.style_of-style.result c.first_line-from.result (cr_is_5 c) (style_is_5 c) c.first_line-from.ensures.1 _
 
 -- its entries are measured
-measured-3 : (c : goal.After-slice_known-2-1) → let a = c.args in
+measured_3 : (c : goal.After-slice_known-2-1) → let a = c.args in
     Settled a.version a.frame.now a.block.now ((line_entries c.style_of-style.result (front_lines c.or_10-cr.result c.in-Complete.item.headers (drop c.first_line-from.result c.args.frame.now)))) c.measure.result
-measured-3 c = settles-4 c c.measure.result c.measure.ensures
+measured_3 c = settles_4 c c.measure.result c.measure.ensures
 
 pub returns : goal.returns
 returns c =
-    let fits = (measured-3 c).room c.if-block-measure.false in
-    (settles-4 c c.put_records-2.result c.put_records-2.ensures.0).whole (omega (arith, fits, c.put_records-2.ensures.0)) _ c.put_records-2.ensures.1
+    let fits = (measured_3 c).room c.if-block-measure.false in
+    (settles_4 c c.put_records-2.result c.put_records-2.ensures.0).whole (omega (arith, fits, c.put_records-2.ensures.0)) _ c.put_records-2.ensures.1

@@ -23,11 +23,11 @@ write_line_record-requires c =
     (subst (λ z. Stretch z k.name) (sym l.ensures.1) l.ensures.4, subst (λ z. Stretch z k.value) (sym l.ensures.2) l.ensures.5)
 
 -- there is room for what is left, so its next record is accepted
-turn-1 : (c : goal.In_default) → let h = c.loop-i in
+turn_1 : (c : goal.In_default) → let h = c.loop-i in
     let a = c.args in
     Asked a.cr a.style a.s.now a.n h.i h.at c.line_at-l.result.next
     h.block c.write_line_record.new.d h.used c.write_line_record.result
-turn-1 c =
+turn_1 c =
     let h = c.loop-i in
     let a = c.args in
     asked a.cr a.style a.s.now a.n h.i h.at c.line_at-l.result c.loop-i-test.true c.line_at-l.ensures
@@ -36,7 +36,7 @@ turn-1 c =
 
 refuted : (c : goal.In_default) → ⊥
 refuted c =
-    let (k, is) = (turn-1 c).accepts in
+    let (k, is) = (turn_1 c).accepts in
     let told = c.in_default.is in
     let z : ◌≡◌ {A = ℕ} 0 1 = cc in
     omega arith
@@ -48,11 +48,11 @@ pub returns-in_default : goal.returns-in_default
 returns-in_default c = absurd (refuted c)
 
 -- there is room for what is left, so its next record is accepted
-turn-2 : (c : goal.In-Length) → let h = c.loop-i in
+turn_2 : (c : goal.In-Length) → let h = c.loop-i in
     let a = c.args in
     Asked a.cr a.style a.s.now a.n h.i h.at c.line_at-l.result.next
     h.block c.write_line_record.new.d h.used c.write_line_record.result
-turn-2 c =
+turn_2 c =
     let h = c.loop-i in
     let a = c.args in
     asked a.cr a.style a.s.now a.n h.i h.at c.line_at-l.result c.loop-i-test.true c.line_at-l.ensures
@@ -62,13 +62,13 @@ turn-2 c =
 pub overflow_add-used : goal.overflow_add-used
 overflow_add-used c =
     let h = c.loop-i in
-    omega (arith, ((turn-2 c).writes _ c.in-Length.is).fewer, h.invariant, c.requires.1)
+    omega (arith, ((turn_2 c).writes _ c.in-Length.is).fewer, h.invariant, c.requires.1)
 
 pub loop-i-preserved : goal.loop-i-preserved
 loop-i-preserved c =
     let h = c.loop-i in
-    let t = (turn-2 c).writes _ c.in-Length.is in
-    (t.same_long ∙ h.invariant.0, c.line_at-l.ensures.0.4, omega (arith, t.fewer, h.invariant.2), (turn-2 c).rest_short, t.further _ h.invariant.4, t.kept _ h.invariant.5)
+    let t = (turn_2 c).writes _ c.in-Length.is in
+    (t.same_long ∙ h.invariant.0, c.line_at-l.ensures.0.4, omega (arith, t.fewer, h.invariant.2), (turn_2 c).rest_short, t.further _ h.invariant.4, t.kept _ h.invariant.5)
 
 pub returns : goal.returns
 returns c =

@@ -24,122 +24,122 @@ use Rattle.frames.proofs.Settled.{known_command, settle_of, says_of, settles, re
 use Rattle.frames.proofs.encode.answer_of.Goals as goal
 use Rattle.frames.proofs.encode.answer_of.Goals.{else-adds, else-declared, then-adds, then-declared+else-not-says_length}
 
-sums-1 : (c : goal.After-struct_known-1) → Sums (style_of (crlf c.args.version) c.args.command) ((listed (entries c.args.block.now))) c.args.sums
-sums-1 c = c.requires.3
+sums_1 : (c : goal.After-struct_known-1) → Sums (style_of (crlf c.args.version) c.args.command) ((listed (entries c.args.block.now))) c.args.sums
+sums_1 c = c.requires.3
 
 pub overflow_add-lines : goal.overflow_add-lines
-overflow_add-lines c = omega (arith, (sums-1 c).few)
+overflow_add-lines c = omega (arith, (sums_1 c).few)
 
-abbrev Added-1 : goal.Then-lines-gt-LINES → Bool → Type 0
-Added-1 c counted = is_block c.args.block.now ≡ true → c.args.adds ≡ adds_length ((listed (entries c.args.block.now))) c.args.body.now counted
+abbrev Added_1 : goal.Then-lines-gt-LINES → Bool → Type 0
+Added_1 c counted = is_block c.args.block.now ≡ true → c.args.adds ≡ adds_length ((listed (entries c.args.block.now))) c.args.body.now counted
 
-abbrev call_of-1 : goal.Then-lines-gt-LINES → Bool → Call
-call_of-1 c counted = record { command = c.args.command; block = c.args.block.now; body = c.args.body.now; counted = counted }
+abbrev call_of_1 : goal.Then-lines-gt-LINES → Bool → Call
+call_of_1 c counted = record { command = c.args.command; block = c.args.block.now; body = c.args.body.now; counted = counted }
 
-answered-1 : (c : goal.Then-lines-gt-LINES) (r : Answer) → (settle_of c.args.version c.args.command ((listed (entries c.args.block.now))) c.args.adds c.args.body.now c.args.room) ≡ r → (counted : Bool) → Added-1 c counted
-    → indexed r (first_unwritable (style_of (crlf c.args.version) c.args.command) ((listed (entries c.args.block.now)))) ≡ says_of c.args.version (call_of-1 c counted) c.args.room
-answered-1 c r e counted added =
+answered_1 : (c : goal.Then-lines-gt-LINES) (r : Answer) → (settle_of c.args.version c.args.command ((listed (entries c.args.block.now))) c.args.adds c.args.body.now c.args.room) ≡ r → (counted : Bool) → Added_1 c counted
+    → indexed r (first_unwritable (style_of (crlf c.args.version) c.args.command) ((listed (entries c.args.block.now)))) ≡ says_of c.args.version (call_of_1 c counted) c.args.room
+answered_1 c r e counted added =
     let es = (listed (entries c.args.block.now)) in
     let (d, n, q) = known_command c.args.command c.requires.2 in
     let i = first_unwritable (style_of (crlf c.args.version) c.args.command) es in
     sym
-    (settles c.args.version (call_of-1 c counted) c.args.room d q es n (entries_listed c.args.block.now c.requires.1)
+    (settles c.args.version (call_of_1 c counted) c.args.room d q es n (entries_listed c.args.block.now c.requires.1)
     ∙ ap (λ t. indexed (settle_of c.args.version c.args.command es t c.args.body.now c.args.room) i) (sym (added c.requires.1))
     ∙ ap (λ a. indexed a i) e)
 
-sums-2 : (c : goal.Then-lines-gt-LINES) → Sums (style_of (crlf c.args.version) c.args.command) ((listed (entries c.args.block.now))) c.args.sums
-sums-2 c = c.requires.3
+sums_2 : (c : goal.Then-lines-gt-LINES) → Sums (style_of (crlf c.args.version) c.args.command) ((listed (entries c.args.block.now))) c.args.sums
+sums_2 c = c.requires.3
 
 -- the added one counted
-lines_at-1 : (c : goal.Then-lines-gt-LINES) → c.if-adds.lines ≡ c.args.sums.count + cond c.args.adds 1 0
-lines_at-1 c =
+lines_at_1 : (c : goal.Then-lines-gt-LINES) → c.if-adds.lines ≡ c.args.sums.count + cond c.args.adds 1 0
+lines_at_1 c =
     let n = c.args.sums.count in
     (elim c.if-adds.branch [ then-adds w ↦ w.lines-is ∙ ap (λ t. n + cond t 1 0) (sym w.if-adds.true) | else-adds w ↦ let z : n ≡ n + 0 = omega arith in w.lines-is ∙ z ∙ ap (λ t. n + cond t 1 0) (sym w.if-adds.false) ])
 
 pub returns-then-lines-gt-LINES : goal.returns-then-lines-gt-LINES
 returns-then-lines-gt-LINES c = (
-  answered-1 c (refused 52) (refuses_52 _ _ _ _ _ _ (sums_many _ _ _ (sums-2 c) (cond c.args.adds 1 0) (omega (arith, lines_at-1 c)))),
+  answered_1 c (refused 52) (refuses_52 _ _ _ _ _ _ (sums_many _ _ _ (sums_2 c) (cond c.args.adds 1 0) (omega (arith, lines_at_1 c)))),
   λ n h. absurd (let z : ◌≡◌ {A = ℕ} 0 1 = cc in omega arith),
 )
 
-sums-3 : (c : goal.Then-sums) → Sums (style_of (crlf c.args.version) c.args.command) ((listed (entries c.args.block.now))) c.args.sums
-sums-3 c = c.requires.3
+sums_3 : (c : goal.Then-sums) → Sums (style_of (crlf c.args.version) c.args.command) ((listed (entries c.args.block.now))) c.args.sums
+sums_3 c = c.requires.3
 
 -- the added one counted
-lines_at-2 : (c : goal.Then-sums) → c.if-adds.lines ≡ c.args.sums.count + cond c.args.adds 1 0
-lines_at-2 c =
+lines_at_2 : (c : goal.Then-sums) → c.if-adds.lines ≡ c.args.sums.count + cond c.args.adds 1 0
+lines_at_2 c =
     let n = c.args.sums.count in
     (elim c.if-adds.branch [ then-adds w ↦ w.lines-is ∙ ap (λ t. n + cond t 1 0) (sym w.if-adds.true) | else-adds w ↦ let z : n ≡ n + 0 = omega arith in w.lines-is ∙ z ∙ ap (λ t. n + cond t 1 0) (sym w.if-adds.false) ])
 
-few-at-1 : (c : goal.Then-sums) → length ((listed (entries c.args.block.now))) + cond c.args.adds 1 0 ≤ 32
-few-at-1 c = sums_few _ _ _ (sums-3 c) (cond c.args.adds 1 0) (omega (arith, lines_at-2 c))
+few_at_1 : (c : goal.Then-sums) → length ((listed (entries c.args.block.now))) + cond c.args.adds 1 0 ≤ 32
+few_at_1 c = sums_few _ _ _ (sums_3 c) (cond c.args.adds 1 0) (omega (arith, lines_at_2 c))
 
-all-few-1 : (c : goal.Then-sums) → length ((listed (entries c.args.block.now))) ≤ 32
-all-few-1 c = omega (arith, few-at-1 c)
+all_few_1 : (c : goal.Then-sums) → length ((listed (entries c.args.block.now))) ≤ 32
+all_few_1 c = omega (arith, few_at_1 c)
 
-abbrev Added-2 : goal.Then-sums → Bool → Type 0
-Added-2 c counted = is_block c.args.block.now ≡ true → c.args.adds ≡ adds_length ((listed (entries c.args.block.now))) c.args.body.now counted
+abbrev Added_2 : goal.Then-sums → Bool → Type 0
+Added_2 c counted = is_block c.args.block.now ≡ true → c.args.adds ≡ adds_length ((listed (entries c.args.block.now))) c.args.body.now counted
 
-abbrev call_of-2 : goal.Then-sums → Bool → Call
-call_of-2 c counted = record { command = c.args.command; block = c.args.block.now; body = c.args.body.now; counted = counted }
+abbrev call_of_2 : goal.Then-sums → Bool → Call
+call_of_2 c counted = record { command = c.args.command; block = c.args.block.now; body = c.args.body.now; counted = counted }
 
-answered-2 : (c : goal.Then-sums) (r : Answer) → (settle_of c.args.version c.args.command ((listed (entries c.args.block.now))) c.args.adds c.args.body.now c.args.room) ≡ r → (counted : Bool) → Added-2 c counted
-    → indexed r (first_unwritable (style_of (crlf c.args.version) c.args.command) ((listed (entries c.args.block.now)))) ≡ says_of c.args.version (call_of-2 c counted) c.args.room
-answered-2 c r e counted added =
+answered_2 : (c : goal.Then-sums) (r : Answer) → (settle_of c.args.version c.args.command ((listed (entries c.args.block.now))) c.args.adds c.args.body.now c.args.room) ≡ r → (counted : Bool) → Added_2 c counted
+    → indexed r (first_unwritable (style_of (crlf c.args.version) c.args.command) ((listed (entries c.args.block.now)))) ≡ says_of c.args.version (call_of_2 c counted) c.args.room
+answered_2 c r e counted added =
     let es = (listed (entries c.args.block.now)) in
     let (d, n, q) = known_command c.args.command c.requires.2 in
     let i = first_unwritable (style_of (crlf c.args.version) c.args.command) es in
     sym
-    (settles c.args.version (call_of-2 c counted) c.args.room d q es n (entries_listed c.args.block.now c.requires.1)
+    (settles c.args.version (call_of_2 c counted) c.args.room d q es n (entries_listed c.args.block.now c.requires.1)
     ∙ ap (λ t. indexed (settle_of c.args.version c.args.command es t c.args.body.now c.args.room) i) (sym (added c.requires.1))
     ∙ ap (λ a. indexed a i) e)
 
 pub returns-then-sums : goal.returns-then-sums
 returns-then-sums c = (
-  λ counted added. ap (refusal 53) ((sums-3 c).writable (all-few-1 c))
-      ∙ answered-2 c (refused 53) (refuses_53 _ _ _ _ _ _ (few-at-1 c) (sums_unwritable _ _ _ (sums-3 c) (all-few-1 c) c.if-sums.true)) counted added,
+  λ counted added. ap (refusal 53) ((sums_3 c).writable (all_few_1 c))
+      ∙ answered_2 c (refused 53) (refuses_53 _ _ _ _ _ _ (few_at_1 c) (sums_unwritable _ _ _ (sums_3 c) (all_few_1 c) c.if-sums.true)) counted added,
   λ n h. absurd (let z : ◌≡◌ {A = ℕ} 0 1 = cc in omega arith),
 )
 
-abbrev Added-3 : goal.Then-most_of-body → Bool → Type 0
-Added-3 c counted = is_block c.args.block.now ≡ true → c.args.adds ≡ adds_length ((listed (entries c.args.block.now))) c.args.body.now counted
+abbrev Added_3 : goal.Then-most_of-body → Bool → Type 0
+Added_3 c counted = is_block c.args.block.now ≡ true → c.args.adds ≡ adds_length ((listed (entries c.args.block.now))) c.args.body.now counted
 
-abbrev call_of-3 : goal.Then-most_of-body → Bool → Call
-call_of-3 c counted = record { command = c.args.command; block = c.args.block.now; body = c.args.body.now; counted = counted }
+abbrev call_of_3 : goal.Then-most_of-body → Bool → Call
+call_of_3 c counted = record { command = c.args.command; block = c.args.block.now; body = c.args.body.now; counted = counted }
 
-answered-3 : (c : goal.Then-most_of-body) (r : Answer) → (settle_of c.args.version c.args.command ((listed (entries c.args.block.now))) c.args.adds c.args.body.now c.args.room) ≡ r → (counted : Bool) → Added-3 c counted
-    → indexed r (first_unwritable (style_of (crlf c.args.version) c.args.command) ((listed (entries c.args.block.now)))) ≡ says_of c.args.version (call_of-3 c counted) c.args.room
-answered-3 c r e counted added =
+answered_3 : (c : goal.Then-most_of-body) (r : Answer) → (settle_of c.args.version c.args.command ((listed (entries c.args.block.now))) c.args.adds c.args.body.now c.args.room) ≡ r → (counted : Bool) → Added_3 c counted
+    → indexed r (first_unwritable (style_of (crlf c.args.version) c.args.command) ((listed (entries c.args.block.now)))) ≡ says_of c.args.version (call_of_3 c counted) c.args.room
+answered_3 c r e counted added =
     let es = (listed (entries c.args.block.now)) in
     let (d, n, q) = known_command c.args.command c.requires.2 in
     let i = first_unwritable (style_of (crlf c.args.version) c.args.command) es in
     sym
-    (settles c.args.version (call_of-3 c counted) c.args.room d q es n (entries_listed c.args.block.now c.requires.1)
+    (settles c.args.version (call_of_3 c counted) c.args.room d q es n (entries_listed c.args.block.now c.requires.1)
     ∙ ap (λ t. indexed (settle_of c.args.version c.args.command es t c.args.body.now c.args.room) i) (sym (added c.requires.1))
     ∙ ap (λ a. indexed a i) e)
 
-sums-4 : (c : goal.Then-most_of-body) → Sums (style_of (crlf c.args.version) c.args.command) ((listed (entries c.args.block.now))) c.args.sums
-sums-4 c = c.requires.3
+sums_4 : (c : goal.Then-most_of-body) → Sums (style_of (crlf c.args.version) c.args.command) ((listed (entries c.args.block.now))) c.args.sums
+sums_4 c = c.requires.3
 
 -- the added one counted
-lines_at-3 : (c : goal.Then-most_of-body) → c.if-adds.lines ≡ c.args.sums.count + cond c.args.adds 1 0
-lines_at-3 c =
+lines_at_3 : (c : goal.Then-most_of-body) → c.if-adds.lines ≡ c.args.sums.count + cond c.args.adds 1 0
+lines_at_3 c =
     let n = c.args.sums.count in
     (elim c.if-adds.branch [ then-adds w ↦ w.lines-is ∙ ap (λ t. n + cond t 1 0) (sym w.if-adds.true) | else-adds w ↦ let z : n ≡ n + 0 = omega arith in w.lines-is ∙ z ∙ ap (λ t. n + cond t 1 0) (sym w.if-adds.false) ])
 
-few-at-2 : (c : goal.Then-most_of-body) → length ((listed (entries c.args.block.now))) + cond c.args.adds 1 0 ≤ 32
-few-at-2 c = sums_few _ _ _ (sums-4 c) (cond c.args.adds 1 0) (omega (arith, lines_at-3 c))
+few_at_2 : (c : goal.Then-most_of-body) → length ((listed (entries c.args.block.now))) + cond c.args.adds 1 0 ≤ 32
+few_at_2 c = sums_few _ _ _ (sums_4 c) (cond c.args.adds 1 0) (omega (arith, lines_at_3 c))
 
-all-few-2 : (c : goal.Then-most_of-body) → length ((listed (entries c.args.block.now))) ≤ 32
-all-few-2 c = omega (arith, few-at-2 c)
+all_few_2 : (c : goal.Then-most_of-body) → length ((listed (entries c.args.block.now))) ≤ 32
+all_few_2 c = omega (arith, few_at_2 c)
 
-each_at-1 : (c : goal.Then-most_of-body) → every (can_write (style_of (crlf c.args.version) c.args.command)) ((listed (entries c.args.block.now))) ≡ true
-each_at-1 c = sums_writable _ _ _ (sums-4 c) (all-few-2 c) c.if-sums.false
+each_at_1 : (c : goal.Then-most_of-body) → every (can_write (style_of (crlf c.args.version) c.args.command)) ((listed (entries c.args.block.now))) ≡ true
+each_at_1 c = sums_writable _ _ _ (sums_4 c) (all_few_2 c) c.if-sums.false
 
 pub returns-then-most_of-body : goal.returns-then-most_of-body
 returns-then-most_of-body c = (
-  answered-3 c (refused 54)
-      (refuses_54 _ _ _ _ _ _ (few-at-2 c) (each_at-1 c) (omega (arith, c.if-most_of-body.true, c.most_of.ensures))),
+  answered_3 c (refused 54)
+      (refuses_54 _ _ _ _ _ _ (few_at_2 c) (each_at_1 c) (omega (arith, c.if-most_of-body.true, c.most_of.ensures))),
   λ n h. absurd (let z : ◌≡◌ {A = ℕ} 0 1 = cc in omega arith),
 )
 
@@ -147,201 +147,201 @@ returns-then-most_of-body c = (
 pub slice_bounds-says_length-count : goal.slice_bounds-says_length-count
 slice_bounds-says_length-count c = omega (arith, c.requires.0.inside)
 
-fits-at-1 : (c : goal.After-says_length-arg-1) → length c.args.body.now ≤ most_of c.args.command
-fits-at-1 c = omega (arith, c.if-most_of-body.false, c.most_of.ensures)
+fits_at_1 : (c : goal.After-says_length-arg-1) → length c.args.body.now ≤ most_of c.args.command
+fits_at_1 c = omega (arith, c.if-most_of-body.false, c.most_of.ensures)
 
-small_at-1 : (c : goal.After-says_length-arg-1) → length c.args.body.now ≤ 32768
-small_at-1 c = omega (arith, fits-at-1 c, most_small c.args.command)
+small_at_1 : (c : goal.After-says_length-arg-1) → length c.args.body.now ≤ 32768
+small_at_1 c = omega (arith, fits_at_1 c, most_small c.args.command)
 
 pub says_length-requires : goal.says_length-requires
-says_length-requires c = small_at-1 c
+says_length-requires c = small_at_1 c
 
-abbrev Added-4 : goal.Then-not-says_length → Bool → Type 0
-Added-4 c counted = is_block c.args.block.now ≡ true → c.args.adds ≡ adds_length ((listed (entries c.args.block.now))) c.args.body.now counted
+abbrev Added_4 : goal.Then-not-says_length → Bool → Type 0
+Added_4 c counted = is_block c.args.block.now ≡ true → c.args.adds ≡ adds_length ((listed (entries c.args.block.now))) c.args.body.now counted
 
-abbrev call_of-4 : goal.Then-not-says_length → Bool → Call
-call_of-4 c counted = record { command = c.args.command; block = c.args.block.now; body = c.args.body.now; counted = counted }
+abbrev call_of_4 : goal.Then-not-says_length → Bool → Call
+call_of_4 c counted = record { command = c.args.command; block = c.args.block.now; body = c.args.body.now; counted = counted }
 
-answered-4 : (c : goal.Then-not-says_length) (r : Answer) → (settle_of c.args.version c.args.command ((listed (entries c.args.block.now))) c.args.adds c.args.body.now c.args.room) ≡ r → (counted : Bool) → Added-4 c counted
-    → indexed r (first_unwritable (style_of (crlf c.args.version) c.args.command) ((listed (entries c.args.block.now)))) ≡ says_of c.args.version (call_of-4 c counted) c.args.room
-answered-4 c r e counted added =
+answered_4 : (c : goal.Then-not-says_length) (r : Answer) → (settle_of c.args.version c.args.command ((listed (entries c.args.block.now))) c.args.adds c.args.body.now c.args.room) ≡ r → (counted : Bool) → Added_4 c counted
+    → indexed r (first_unwritable (style_of (crlf c.args.version) c.args.command) ((listed (entries c.args.block.now)))) ≡ says_of c.args.version (call_of_4 c counted) c.args.room
+answered_4 c r e counted added =
     let es = (listed (entries c.args.block.now)) in
     let (d, n, q) = known_command c.args.command c.requires.2 in
     let i = first_unwritable (style_of (crlf c.args.version) c.args.command) es in
     sym
-    (settles c.args.version (call_of-4 c counted) c.args.room d q es n (entries_listed c.args.block.now c.requires.1)
+    (settles c.args.version (call_of_4 c counted) c.args.room d q es n (entries_listed c.args.block.now c.requires.1)
     ∙ ap (λ t. indexed (settle_of c.args.version c.args.command es t c.args.body.now c.args.room) i) (sym (added c.requires.1))
     ∙ ap (λ a. indexed a i) e)
 
-sums-5 : (c : goal.Then-not-says_length) → Sums (style_of (crlf c.args.version) c.args.command) ((listed (entries c.args.block.now))) c.args.sums
-sums-5 c = c.requires.3
+sums_5 : (c : goal.Then-not-says_length) → Sums (style_of (crlf c.args.version) c.args.command) ((listed (entries c.args.block.now))) c.args.sums
+sums_5 c = c.requires.3
 
 -- the added one counted
-lines_at-4 : (c : goal.Then-not-says_length) → c.if-adds.lines ≡ c.args.sums.count + cond c.args.adds 1 0
-lines_at-4 c =
+lines_at_4 : (c : goal.Then-not-says_length) → c.if-adds.lines ≡ c.args.sums.count + cond c.args.adds 1 0
+lines_at_4 c =
     let n = c.args.sums.count in
     (elim c.if-adds.branch [ then-adds w ↦ w.lines-is ∙ ap (λ t. n + cond t 1 0) (sym w.if-adds.true) | else-adds w ↦ let z : n ≡ n + 0 = omega arith in w.lines-is ∙ z ∙ ap (λ t. n + cond t 1 0) (sym w.if-adds.false) ])
 
-few-at-3 : (c : goal.Then-not-says_length) → length ((listed (entries c.args.block.now))) + cond c.args.adds 1 0 ≤ 32
-few-at-3 c = sums_few _ _ _ (sums-5 c) (cond c.args.adds 1 0) (omega (arith, lines_at-4 c))
+few_at_3 : (c : goal.Then-not-says_length) → length ((listed (entries c.args.block.now))) + cond c.args.adds 1 0 ≤ 32
+few_at_3 c = sums_few _ _ _ (sums_5 c) (cond c.args.adds 1 0) (omega (arith, lines_at_4 c))
 
-all-few-3 : (c : goal.Then-not-says_length) → length ((listed (entries c.args.block.now))) ≤ 32
-all-few-3 c = omega (arith, few-at-3 c)
+all_few_3 : (c : goal.Then-not-says_length) → length ((listed (entries c.args.block.now))) ≤ 32
+all_few_3 c = omega (arith, few_at_3 c)
 
-each_at-2 : (c : goal.Then-not-says_length) → every (can_write (style_of (crlf c.args.version) c.args.command)) ((listed (entries c.args.block.now))) ≡ true
-each_at-2 c = sums_writable _ _ _ (sums-5 c) (all-few-3 c) c.if-sums.false
+each_at_2 : (c : goal.Then-not-says_length) → every (can_write (style_of (crlf c.args.version) c.args.command)) ((listed (entries c.args.block.now))) ≡ true
+each_at_2 c = sums_writable _ _ _ (sums_5 c) (all_few_3 c) c.if-sums.false
 
-fits-at-2 : (c : goal.Then-not-says_length) → length c.args.body.now ≤ most_of c.args.command
-fits-at-2 c = omega (arith, c.if-most_of-body.false, c.most_of.ensures)
+fits_at_2 : (c : goal.Then-not-says_length) → length c.args.body.now ≤ most_of c.args.command
+fits_at_2 c = omega (arith, c.if-most_of-body.false, c.most_of.ensures)
 
 -- what it says of the body, by whether it is there
-said-1 : (c : goal.Then-not-says_length) (p : Bool) → c.args.declared.present ≡ p
+said_1 : (c : goal.Then-not-says_length) (p : Bool) → c.args.declared.present ≡ p
     → says_length (length c.args.body.now) (first_length ((listed (entries c.args.block.now))))
     ≡ says_length (length c.args.body.now) (cond p (some (value_at c.args.block.now c.args.declared)) none)
-said-1 c = says_told c.args.block.now c.args.declared c.requires.0 c.requires.1 (length c.args.body.now)
+said_1 c = says_told c.args.block.now c.args.declared c.requires.0 c.requires.1 (length c.args.body.now)
 
 pub returns-then-not-says_length : goal.returns-then-not-says_length
 returns-then-not-says_length c = (
-  answered-4 c (refused 55)
-      (refuses_55 _ _ _ _ _ _ (few-at-3 c) (each_at-2 c) (fits-at-2 c)
-      (said-1 c true c.if-declared.true ∙ sym c.says_length.ensures ∙ c.if-not-says_length.true)),
+  answered_4 c (refused 55)
+      (refuses_55 _ _ _ _ _ _ (few_at_3 c) (each_at_2 c) (fits_at_2 c)
+      (said_1 c true c.if-declared.true ∙ sym c.says_length.ensures ∙ c.if-not-says_length.true)),
   λ n h. absurd (let z : ◌≡◌ {A = ℕ} 0 1 = cc in omega arith),
 )
 
-sums-6 : (c : goal.Joined-declared) → Sums (style_of (crlf c.args.version) c.args.command) ((listed (entries c.args.block.now))) c.args.sums
-sums-6 c = c.requires.3
+sums_6 : (c : goal.Joined-declared) → Sums (style_of (crlf c.args.version) c.args.command) ((listed (entries c.args.block.now))) c.args.sums
+sums_6 c = c.requires.3
 
-fits-at-3 : (c : goal.Joined-declared) → length c.args.body.now ≤ most_of c.args.command
-fits-at-3 c = omega (arith, c.if-most_of-body.false, c.most_of.ensures)
+fits_at_3 : (c : goal.Joined-declared) → length c.args.body.now ≤ most_of c.args.command
+fits_at_3 c = omega (arith, c.if-most_of-body.false, c.most_of.ensures)
 
-small_at-2 : (c : goal.Joined-declared) → length c.args.body.now ≤ 32768
-small_at-2 c = omega (arith, fits-at-3 c, most_small c.args.command)
+small_at_2 : (c : goal.Joined-declared) → length c.args.body.now ≤ 32768
+small_at_2 c = omega (arith, fits_at_3 c, most_small c.args.command)
 
 -- ## The image's length
 pub image_length-total-requires : goal.image_length-total-requires
 image_length-total-requires c =
     let n = c.args.command in
-    (ltb-false 15 n (or_false_right (eqb n 0) (ltb 15 n) c.requires.2), (sums-6 c).small, small_at-2 c)
+    (ltb-false 15 n (or_false_right (eqb n 0) (ltb 15 n) c.requires.2), (sums_6 c).small, small_at_2 c)
 
-abbrev Added-5 : goal.Then-room-total → Bool → Type 0
-Added-5 c counted = is_block c.args.block.now ≡ true → c.args.adds ≡ adds_length ((listed (entries c.args.block.now))) c.args.body.now counted
+abbrev Added_5 : goal.Then-room-total → Bool → Type 0
+Added_5 c counted = is_block c.args.block.now ≡ true → c.args.adds ≡ adds_length ((listed (entries c.args.block.now))) c.args.body.now counted
 
-abbrev call_of-5 : goal.Then-room-total → Bool → Call
-call_of-5 c counted = record { command = c.args.command; block = c.args.block.now; body = c.args.body.now; counted = counted }
+abbrev call_of_5 : goal.Then-room-total → Bool → Call
+call_of_5 c counted = record { command = c.args.command; block = c.args.block.now; body = c.args.body.now; counted = counted }
 
-answered-5 : (c : goal.Then-room-total) (r : Answer) → (settle_of c.args.version c.args.command ((listed (entries c.args.block.now))) c.args.adds c.args.body.now c.args.room) ≡ r → (counted : Bool) → Added-5 c counted
-    → indexed r (first_unwritable (style_of (crlf c.args.version) c.args.command) ((listed (entries c.args.block.now)))) ≡ says_of c.args.version (call_of-5 c counted) c.args.room
-answered-5 c r e counted added =
+answered_5 : (c : goal.Then-room-total) (r : Answer) → (settle_of c.args.version c.args.command ((listed (entries c.args.block.now))) c.args.adds c.args.body.now c.args.room) ≡ r → (counted : Bool) → Added_5 c counted
+    → indexed r (first_unwritable (style_of (crlf c.args.version) c.args.command) ((listed (entries c.args.block.now)))) ≡ says_of c.args.version (call_of_5 c counted) c.args.room
+answered_5 c r e counted added =
     let es = (listed (entries c.args.block.now)) in
     let (d, n, q) = known_command c.args.command c.requires.2 in
     let i = first_unwritable (style_of (crlf c.args.version) c.args.command) es in
     sym
-    (settles c.args.version (call_of-5 c counted) c.args.room d q es n (entries_listed c.args.block.now c.requires.1)
+    (settles c.args.version (call_of_5 c counted) c.args.room d q es n (entries_listed c.args.block.now c.requires.1)
     ∙ ap (λ t. indexed (settle_of c.args.version c.args.command es t c.args.body.now c.args.room) i) (sym (added c.requires.1))
     ∙ ap (λ a. indexed a i) e)
 
-sums-7 : (c : goal.Then-room-total) → Sums (style_of (crlf c.args.version) c.args.command) ((listed (entries c.args.block.now))) c.args.sums
-sums-7 c = c.requires.3
+sums_7 : (c : goal.Then-room-total) → Sums (style_of (crlf c.args.version) c.args.command) ((listed (entries c.args.block.now))) c.args.sums
+sums_7 c = c.requires.3
 
 -- the added one counted
-lines_at-5 : (c : goal.Then-room-total) → c.if-adds.lines ≡ c.args.sums.count + cond c.args.adds 1 0
-lines_at-5 c =
+lines_at_5 : (c : goal.Then-room-total) → c.if-adds.lines ≡ c.args.sums.count + cond c.args.adds 1 0
+lines_at_5 c =
     let n = c.args.sums.count in
     (elim c.if-adds.branch [ then-adds w ↦ w.lines-is ∙ ap (λ t. n + cond t 1 0) (sym w.if-adds.true) | else-adds w ↦ let z : n ≡ n + 0 = omega arith in w.lines-is ∙ z ∙ ap (λ t. n + cond t 1 0) (sym w.if-adds.false) ])
 
-few-at-4 : (c : goal.Then-room-total) → length ((listed (entries c.args.block.now))) + cond c.args.adds 1 0 ≤ 32
-few-at-4 c = sums_few _ _ _ (sums-7 c) (cond c.args.adds 1 0) (omega (arith, lines_at-5 c))
+few_at_4 : (c : goal.Then-room-total) → length ((listed (entries c.args.block.now))) + cond c.args.adds 1 0 ≤ 32
+few_at_4 c = sums_few _ _ _ (sums_7 c) (cond c.args.adds 1 0) (omega (arith, lines_at_5 c))
 
-all-few-4 : (c : goal.Then-room-total) → length ((listed (entries c.args.block.now))) ≤ 32
-all-few-4 c = omega (arith, few-at-4 c)
+all_few_4 : (c : goal.Then-room-total) → length ((listed (entries c.args.block.now))) ≤ 32
+all_few_4 c = omega (arith, few_at_4 c)
 
-each_at-3 : (c : goal.Then-room-total) → every (can_write (style_of (crlf c.args.version) c.args.command)) ((listed (entries c.args.block.now))) ≡ true
-each_at-3 c = sums_writable _ _ _ (sums-7 c) (all-few-4 c) c.if-sums.false
+each_at_3 : (c : goal.Then-room-total) → every (can_write (style_of (crlf c.args.version) c.args.command)) ((listed (entries c.args.block.now))) ≡ true
+each_at_3 c = sums_writable _ _ _ (sums_7 c) (all_few_4 c) c.if-sums.false
 
-fits-at-4 : (c : goal.Then-room-total) → length c.args.body.now ≤ most_of c.args.command
-fits-at-4 c = omega (arith, c.if-most_of-body.false, c.most_of.ensures)
+fits_at_4 : (c : goal.Then-room-total) → length c.args.body.now ≤ most_of c.args.command
+fits_at_4 c = omega (arith, c.if-most_of-body.false, c.most_of.ensures)
 
 -- what it says of the body, by whether it is there
-said-2 : (c : goal.Then-room-total) (p : Bool) → c.args.declared.present ≡ p
+said_2 : (c : goal.Then-room-total) (p : Bool) → c.args.declared.present ≡ p
     → says_length (length c.args.body.now) (first_length ((listed (entries c.args.block.now))))
     ≡ says_length (length c.args.body.now) (cond p (some (value_at c.args.block.now c.args.declared)) none)
-said-2 c = says_told c.args.block.now c.args.declared c.requires.0 c.requires.1 (length c.args.body.now)
+said_2 c = says_told c.args.block.now c.args.declared c.requires.0 c.requires.1 (length c.args.body.now)
 
-says_at-1 : (c : goal.Then-room-total) → says_length (length c.args.body.now) (first_length ((listed (entries c.args.block.now)))) ≡ true
-says_at-1 c =
-    (elim c.if-declared.branch [ then-declared+else-not-says_length w ↦ said-2 c true w.if-declared.true ∙ sym w.says_length.ensures ∙ w.if-not-says_length.false | else-declared w ↦ said-2 c false w.if-declared.false ])
+says_at_1 : (c : goal.Then-room-total) → says_length (length c.args.body.now) (first_length ((listed (entries c.args.block.now)))) ≡ true
+says_at_1 c =
+    (elim c.if-declared.branch [ then-declared+else-not-says_length w ↦ said_2 c true w.if-declared.true ∙ sym w.says_length.ensures ∙ w.if-not-says_length.false | else-declared w ↦ said_2 c false w.if-declared.false ])
 
-long-at-1 : (c : goal.Then-room-total) → c.image_length-total.result ≡ (total_of (crlf c.args.version) c.args.command ((listed (entries c.args.block.now))) c.args.adds c.args.body.now)
-long-at-1 c =
+long_at_1 : (c : goal.Then-room-total) → c.image_length-total.result ≡ (total_of (crlf c.args.version) c.args.command ((listed (entries c.args.block.now))) c.args.adds c.args.body.now)
+long_at_1 c =
     c.image_length-total.ensures
-    ∙ ap (λ n. lengths_of c.args.command n c.args.adds (length c.args.body.now)) ((sums-7 c).summed (all-few-4 c) c.if-sums.false)
+    ∙ ap (λ n. lengths_of c.args.command n c.args.adds (length c.args.body.now)) ((sums_7 c).summed (all_few_4 c) c.if-sums.false)
 
 pub returns-then-room-total : goal.returns-then-room-total
 returns-then-room-total c = (
-  answered-5 c (refused 56)
-      (refuses_56 _ _ _ _ _ _ (few-at-4 c) (each_at-3 c) (fits-at-4 c) (says_at-1 c)
-      (omega (arith, long-at-1 c, c.if-room-total.true))),
+  answered_5 c (refused 56)
+      (refuses_56 _ _ _ _ _ _ (few_at_4 c) (each_at_3 c) (fits_at_4 c) (says_at_1 c)
+      (omega (arith, long_at_1 c, c.if-room-total.true))),
   λ n h. absurd (let z : ◌≡◌ {A = ℕ} 0 1 = cc in omega arith),
 )
 
-sums-8 : (c : goal.Else-room-total) → Sums (style_of (crlf c.args.version) c.args.command) ((listed (entries c.args.block.now))) c.args.sums
-sums-8 c = c.requires.3
+sums_8 : (c : goal.Else-room-total) → Sums (style_of (crlf c.args.version) c.args.command) ((listed (entries c.args.block.now))) c.args.sums
+sums_8 c = c.requires.3
 
 -- the added one counted
-lines_at-6 : (c : goal.Else-room-total) → c.if-adds.lines ≡ c.args.sums.count + cond c.args.adds 1 0
-lines_at-6 c =
+lines_at_6 : (c : goal.Else-room-total) → c.if-adds.lines ≡ c.args.sums.count + cond c.args.adds 1 0
+lines_at_6 c =
     let n = c.args.sums.count in
     (elim c.if-adds.branch [ then-adds w ↦ w.lines-is ∙ ap (λ t. n + cond t 1 0) (sym w.if-adds.true) | else-adds w ↦ let z : n ≡ n + 0 = omega arith in w.lines-is ∙ z ∙ ap (λ t. n + cond t 1 0) (sym w.if-adds.false) ])
 
-few-at-5 : (c : goal.Else-room-total) → length ((listed (entries c.args.block.now))) + cond c.args.adds 1 0 ≤ 32
-few-at-5 c = sums_few _ _ _ (sums-8 c) (cond c.args.adds 1 0) (omega (arith, lines_at-6 c))
+few_at_5 : (c : goal.Else-room-total) → length ((listed (entries c.args.block.now))) + cond c.args.adds 1 0 ≤ 32
+few_at_5 c = sums_few _ _ _ (sums_8 c) (cond c.args.adds 1 0) (omega (arith, lines_at_6 c))
 
-all-few-5 : (c : goal.Else-room-total) → length ((listed (entries c.args.block.now))) ≤ 32
-all-few-5 c = omega (arith, few-at-5 c)
+all_few_5 : (c : goal.Else-room-total) → length ((listed (entries c.args.block.now))) ≤ 32
+all_few_5 c = omega (arith, few_at_5 c)
 
-long-at-2 : (c : goal.Else-room-total) → c.image_length-total.result ≡ (total_of (crlf c.args.version) c.args.command ((listed (entries c.args.block.now))) c.args.adds c.args.body.now)
-long-at-2 c =
+long_at_2 : (c : goal.Else-room-total) → c.image_length-total.result ≡ (total_of (crlf c.args.version) c.args.command ((listed (entries c.args.block.now))) c.args.adds c.args.body.now)
+long_at_2 c =
     c.image_length-total.ensures
-    ∙ ap (λ n. lengths_of c.args.command n c.args.adds (length c.args.body.now)) ((sums-8 c).summed (all-few-5 c) c.if-sums.false)
+    ∙ ap (λ n. lengths_of c.args.command n c.args.adds (length c.args.body.now)) ((sums_8 c).summed (all_few_5 c) c.if-sums.false)
 
-abbrev Added-6 : goal.Else-room-total → Bool → Type 0
-Added-6 c counted = is_block c.args.block.now ≡ true → c.args.adds ≡ adds_length ((listed (entries c.args.block.now))) c.args.body.now counted
+abbrev Added_6 : goal.Else-room-total → Bool → Type 0
+Added_6 c counted = is_block c.args.block.now ≡ true → c.args.adds ≡ adds_length ((listed (entries c.args.block.now))) c.args.body.now counted
 
-abbrev call_of-6 : goal.Else-room-total → Bool → Call
-call_of-6 c counted = record { command = c.args.command; block = c.args.block.now; body = c.args.body.now; counted = counted }
+abbrev call_of_6 : goal.Else-room-total → Bool → Call
+call_of_6 c counted = record { command = c.args.command; block = c.args.block.now; body = c.args.body.now; counted = counted }
 
-answered-6 : (c : goal.Else-room-total) (r : Answer) → (settle_of c.args.version c.args.command ((listed (entries c.args.block.now))) c.args.adds c.args.body.now c.args.room) ≡ r → (counted : Bool) → Added-6 c counted
-    → indexed r (first_unwritable (style_of (crlf c.args.version) c.args.command) ((listed (entries c.args.block.now)))) ≡ says_of c.args.version (call_of-6 c counted) c.args.room
-answered-6 c r e counted added =
+answered_6 : (c : goal.Else-room-total) (r : Answer) → (settle_of c.args.version c.args.command ((listed (entries c.args.block.now))) c.args.adds c.args.body.now c.args.room) ≡ r → (counted : Bool) → Added_6 c counted
+    → indexed r (first_unwritable (style_of (crlf c.args.version) c.args.command) ((listed (entries c.args.block.now)))) ≡ says_of c.args.version (call_of_6 c counted) c.args.room
+answered_6 c r e counted added =
     let es = (listed (entries c.args.block.now)) in
     let (d, n, q) = known_command c.args.command c.requires.2 in
     let i = first_unwritable (style_of (crlf c.args.version) c.args.command) es in
     sym
-    (settles c.args.version (call_of-6 c counted) c.args.room d q es n (entries_listed c.args.block.now c.requires.1)
+    (settles c.args.version (call_of_6 c counted) c.args.room d q es n (entries_listed c.args.block.now c.requires.1)
     ∙ ap (λ t. indexed (settle_of c.args.version c.args.command es t c.args.body.now c.args.room) i) (sym (added c.requires.1))
     ∙ ap (λ a. indexed a i) e)
 
-each_at-4 : (c : goal.Else-room-total) → every (can_write (style_of (crlf c.args.version) c.args.command)) ((listed (entries c.args.block.now))) ≡ true
-each_at-4 c = sums_writable _ _ _ (sums-8 c) (all-few-5 c) c.if-sums.false
+each_at_4 : (c : goal.Else-room-total) → every (can_write (style_of (crlf c.args.version) c.args.command)) ((listed (entries c.args.block.now))) ≡ true
+each_at_4 c = sums_writable _ _ _ (sums_8 c) (all_few_5 c) c.if-sums.false
 
-fits-at-5 : (c : goal.Else-room-total) → length c.args.body.now ≤ most_of c.args.command
-fits-at-5 c = omega (arith, c.if-most_of-body.false, c.most_of.ensures)
+fits_at_5 : (c : goal.Else-room-total) → length c.args.body.now ≤ most_of c.args.command
+fits_at_5 c = omega (arith, c.if-most_of-body.false, c.most_of.ensures)
 
 -- what it says of the body, by whether it is there
-said-3 : (c : goal.Else-room-total) (p : Bool) → c.args.declared.present ≡ p
+said_3 : (c : goal.Else-room-total) (p : Bool) → c.args.declared.present ≡ p
     → says_length (length c.args.body.now) (first_length ((listed (entries c.args.block.now))))
     ≡ says_length (length c.args.body.now) (cond p (some (value_at c.args.block.now c.args.declared)) none)
-said-3 c = says_told c.args.block.now c.args.declared c.requires.0 c.requires.1 (length c.args.body.now)
+said_3 c = says_told c.args.block.now c.args.declared c.requires.0 c.requires.1 (length c.args.body.now)
 
-says_at-2 : (c : goal.Else-room-total) → says_length (length c.args.body.now) (first_length ((listed (entries c.args.block.now)))) ≡ true
-says_at-2 c =
-    (elim c.if-declared.branch [ then-declared+else-not-says_length w ↦ said-3 c true w.if-declared.true ∙ sym w.says_length.ensures ∙ w.if-not-says_length.false | else-declared w ↦ said-3 c false w.if-declared.false ])
+says_at_2 : (c : goal.Else-room-total) → says_length (length c.args.body.now) (first_length ((listed (entries c.args.block.now)))) ≡ true
+says_at_2 c =
+    (elim c.if-declared.branch [ then-declared+else-not-says_length w ↦ said_3 c true w.if-declared.true ∙ sym w.says_length.ensures ∙ w.if-not-says_length.false | else-declared w ↦ said_3 c false w.if-declared.false ])
 
 pub returns : goal.returns
 returns c = (
-  λ counted added. ap image_length (long-at-2 c)
-      ∙ answered-6 c (accepted ((total_of (crlf c.args.version) c.args.command ((listed (entries c.args.block.now))) c.args.adds c.args.body.now) ∷ []))
-      (accepts _ _ _ _ _ _ (few-at-5 c) (each_at-4 c) (fits-at-5 c) (says_at-2 c)
-      (omega (arith, long-at-2 c, c.if-room-total.false))) counted added,
-  λ n h. (all-few-5 c, c.if-sums.false),
+  λ counted added. ap image_length (long_at_2 c)
+      ∙ answered_6 c (accepted ((total_of (crlf c.args.version) c.args.command ((listed (entries c.args.block.now))) c.args.adds c.args.body.now) ∷ []))
+      (accepts _ _ _ _ _ _ (few_at_5 c) (each_at_4 c) (fits_at_5 c) (says_at_2 c)
+      (omega (arith, long_at_2 c, c.if-room-total.false))) counted added,
+  λ n h. (all_few_5 c, c.if-sums.false),
 )

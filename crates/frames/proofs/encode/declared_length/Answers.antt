@@ -8,29 +8,29 @@ use Rattle.headers.proofs.Rows.{octets_known}
 use Rattle.frames.proofs.Writing.{told_of, declared_of}
 use Rattle.frames.proofs.encode.declared_length.Goals as goal
 
-known-1 : (c : goal.After-struct_known-1) (r : Found) → c.find.result ≡ r → Told c.args.block.now (declared_of r)
-known-1 c r e =
+known_1 : (c : goal.After-struct_known-1) (r : Found) → c.find.result ≡ r → Told c.args.block.now (declared_of r)
+known_1 c r e =
     told_of c.args.block.now (octets_known c.args.block.now (λ i. omega (arith, c.type_inv.block i))) r
     (ap found_says (sym e) ∙ c.find.ensures)
 
 pub overflow_add-result : goal.overflow_add-result
-overflow_add-result c = omega (arith, (known-1 c (Found.Value c.in-Value.p) c.in-Value.is).inside)
+overflow_add-result c = omega (arith, (known_1 c (Found.Value c.in-Value.p) c.in-Value.is).inside)
 
 pub returns-in-Value : goal.returns-in-Value
-returns-in-Value c = known-1 c (Found.Value c.in-Value.p) c.in-Value.is
+returns-in-Value c = known_1 c (Found.Value c.in-Value.p) c.in-Value.is
 
-known-2 : (c : goal.In-Absent) (r : Found) → c.find.result ≡ r → Told c.args.block.now (declared_of r)
-known-2 c r e =
+known_2 : (c : goal.In-Absent) (r : Found) → c.find.result ≡ r → Told c.args.block.now (declared_of r)
+known_2 c r e =
     told_of c.args.block.now (octets_known c.args.block.now (λ i. omega (arith, c.type_inv.block i))) r
     (ap found_says (sym e) ∙ c.find.ensures)
 
 pub returns-in-Absent : goal.returns-in-Absent
-returns-in-Absent c = known-2 c Found.Absent c.in-Absent.is
+returns-in-Absent c = known_2 c Found.Absent c.in-Absent.is
 
-known-3 : (c : goal.In-Malformed) (r : Found) → c.find.result ≡ r → Told c.args.block.now (declared_of r)
-known-3 c r e =
+known_3 : (c : goal.In-Malformed) (r : Found) → c.find.result ≡ r → Told c.args.block.now (declared_of r)
+known_3 c r e =
     told_of c.args.block.now (octets_known c.args.block.now (λ i. omega (arith, c.type_inv.block i))) r
     (ap found_says (sym e) ∙ c.find.ensures)
 
 pub returns-in-Malformed : goal.returns-in-Malformed
-returns-in-Malformed c = known-3 c Found.Malformed c.in-Malformed.is
+returns-in-Malformed c = known_3 c Found.Malformed c.in-Malformed.is

@@ -15,63 +15,63 @@ use Rattle.frames.proofs.Sums.{sums_plain}
 use Rattle.frames.proofs.Settled.{unknown_command, known_command, no_command, no_block}
 use Rattle.frames.proofs.encode.settle.Goals as goal
 
-abbrev call_of-1 : goal.Then-command → Bool → Call
-call_of-1 c counted = record { command = c.args.command; block = c.args.block.now; body = c.args.body.now; counted = counted }
+abbrev call_of_1 : goal.Then-command → Bool → Call
+call_of_1 c counted = record { command = c.args.command; block = c.args.block.now; body = c.args.body.now; counted = counted }
 
 -- ## The command and the block
 pub returns-then-command : goal.returns-then-command
 returns-then-command c = (
-  λ counted added. sym (no_command c.args.version (call_of-1 c counted) c.args.room (unknown_command c.args.command c.if-command.true)),
+  λ counted added. sym (no_command c.args.version (call_of_1 c counted) c.args.room (unknown_command c.args.command c.if-command.true)),
   λ n e h. absurd (let z : ◌≡◌ {A = ℕ} 0 1 = cc in omega arith),
 )
 
-abbrev call_of-2 : goal.Then-not-declared → Bool → Call
-call_of-2 c counted = record { command = c.args.command; block = c.args.block.now; body = c.args.body.now; counted = counted }
+abbrev call_of_2 : goal.Then-not-declared → Bool → Call
+call_of_2 c counted = record { command = c.args.command; block = c.args.block.now; body = c.args.body.now; counted = counted }
 
 pub returns-then-not-declared : goal.returns-then-not-declared
 returns-then-not-declared c =
     let (d, n, q) = known_command c.args.command c.if-command.false in (
-      λ counted added. sym (no_block c.args.version (call_of-2 c counted) c.args.room d q
+      λ counted added. sym (no_block c.args.version (call_of_2 c counted) c.args.room d q
           (entries_not c.args.block.now (sym c.requires.validity ∙ not-true c.args.declared.valid c.if-not-declared.true))),
       λ n e h. absurd (let z : ◌≡◌ {A = ℕ} 0 1 = cc in omega arith),
     )
 
-block-is-1 : (c : goal.After-style_of-style) → is_block c.args.block.now ≡ true
-block-is-1 c = sym c.requires.validity ∙ not-false c.args.declared.valid c.if-not-declared.false
+block_is_1 : (c : goal.After-style_of-style) → is_block c.args.block.now ≡ true
+block_is_1 c = sym c.requires.validity ∙ not-false c.args.declared.valid c.if-not-declared.false
 
 pub sum-s-requires : goal.sum-s-requires
-sum-s-requires c = block-is-1 c
+sum-s-requires c = block_is_1 c
 
-block-is-2 : (c : goal.After-sum-s) → is_block c.args.block.now ≡ true
-block-is-2 c = sym c.requires.validity ∙ not-false c.args.declared.valid c.if-not-declared.false
+block_is_2 : (c : goal.After-sum-s) → is_block c.args.block.now ≡ true
+block_is_2 c = sym c.requires.validity ∙ not-false c.args.declared.valid c.if-not-declared.false
 
-sums-1 : (c : goal.After-sum-s) → let a = c.args in Sums (style_of (crlf a.version) a.command) ((listed (entries c.args.block.now))) c.sum-s.result
-sums-1 c =
+sums_1 : (c : goal.After-sum-s) → let a = c.args in Sums (style_of (crlf a.version) a.command) ((listed (entries c.args.block.now))) c.sum-s.result
+sums_1 c =
     let styled = c.style_of-style.ensures ∙ ap (λ w. style_of w c.args.command) c.has_crlf.ensures in
     subst (λ s. Sums s ((listed (entries c.args.block.now))) c.sum-s.result) styled c.sum-s.ensures
 
 pub answer_of-requires : goal.answer_of-requires
-answer_of-requires c = (c.requires, block-is-2 c, c.if-command.false, sums-1 c)
+answer_of-requires c = (c.requires, block_is_2 c, c.if-command.false, sums_1 c)
 
-sums-2 : (c : goal.After-answer_of) → let a = c.args in Sums (style_of (crlf a.version) a.command) ((listed (entries c.args.block.now))) c.sum-s.result
-sums-2 c =
+sums_2 : (c : goal.After-answer_of) → let a = c.args in Sums (style_of (crlf a.version) a.command) ((listed (entries c.args.block.now))) c.sum-s.result
+sums_2 c =
     let styled = c.style_of-style.ensures ∙ ap (λ w. style_of w c.args.command) c.has_crlf.ensures in
     subst (λ s. Sums s ((listed (entries c.args.block.now))) c.sum-s.result) styled c.sum-s.ensures
 
 pub is_plain-requires : goal.is_plain-requires
-is_plain-requires c = ((sums-2 c).few, (sums-2 c).small)
+is_plain-requires c = ((sums_2 c).few, (sums_2 c).small)
 
-sums-3 : (c : goal.After-is_plain) → let a = c.args in Sums (style_of (crlf a.version) a.command) ((listed (entries c.args.block.now))) c.sum-s.result
-sums-3 c =
+sums_3 : (c : goal.After-is_plain) → let a = c.args in Sums (style_of (crlf a.version) a.command) ((listed (entries c.args.block.now))) c.sum-s.result
+sums_3 c =
     let styled = c.style_of-style.ensures ∙ ap (λ w. style_of w c.args.command) c.has_crlf.ensures in
     subst (λ s. Sums s ((listed (entries c.args.block.now))) c.sum-s.result) styled c.sum-s.ensures
 
-block-is-3 : (c : goal.After-is_plain) → is_block c.args.block.now ≡ true
-block-is-3 c = sym c.requires.validity ∙ not-false c.args.declared.valid c.if-not-declared.false
+block_is_3 : (c : goal.After-is_plain) → is_block c.args.block.now ≡ true
+block_is_3 c = sym c.requires.validity ∙ not-false c.args.declared.valid c.if-not-declared.false
 
 pub returns : goal.returns
 returns c =
     let answer = c.answer_of.ensures in (
       answer.0,
-      λ n e h. let (few, all) = answer.1 n e in sums_plain _ _ _ (sums-3 c) few c.args.block.now (block-is-3 c) refl all (sym c.is_plain.ensures ∙ h),
+      λ n e h. let (few, all) = answer.1 n e in sums_plain _ _ _ (sums_3 c) few c.args.block.now (block_is_3 c) refl all (sym c.is_plain.ensures ∙ h),
     )

@@ -25,23 +25,23 @@ pub returns-in_default : goal.returns-in_default
 returns-in_default c = sum_end _ _ _ _ _ _ c.loop-count.invariant.3 (omega arith)
     (listed_end _ c.entry_at.result c.entry_at.ensures c.loop-count.invariant.2 (λ l e. ⊎_elim (λ w. omega arith) (λ w. omega arith) (rw e at (opened c.in_default.in_default-own.keys2))))
 
-here-1 : (c : goal.In-Entry) → Placed c.args.block.now c.loop-count.at c.in-Entry.l
-here-1 c = told_entry c.args.block.now c.loop-count.at c.entry_at.result c.in-Entry.l c.entry_at.ensures c.in-Entry.is
+here_1 : (c : goal.In-Entry) → Placed c.args.block.now c.loop-count.at c.in-Entry.l
+here_1 c = told_entry c.args.block.now c.loop-count.at c.entry_at.result c.in-Entry.l c.entry_at.ensures c.in-Entry.is
 
 pub overflow_add-from : goal.overflow_add-from
-overflow_add-from c = omega (arith, (here-1 c).inside)
+overflow_add-from c = omega (arith, (here_1 c).inside)
 
-here-2 : (c : goal.After-struct_known-1) → Placed c.args.block.now c.loop-count.at c.in-Entry.l
-here-2 c = told_entry c.args.block.now c.loop-count.at c.entry_at.result c.in-Entry.l c.entry_at.ensures c.in-Entry.is
+here_2 : (c : goal.After-struct_known-1) → Placed c.args.block.now c.loop-count.at c.in-Entry.l
+here_2 c = told_entry c.args.block.now c.loop-count.at c.entry_at.result c.in-Entry.l c.entry_at.ensures c.in-Entry.is
 
 pub overflow_add-at : goal.overflow_add-at
-overflow_add-at c = omega (arith, (here-2 c).inside)
+overflow_add-at c = omega (arith, (here_2 c).inside)
 
-here-3 : (c : goal.After-struct_known-in-loop-count-1) → Placed c.args.block.now c.loop-count.at c.in-Entry.l
-here-3 c = told_entry c.args.block.now c.loop-count.at c.entry_at.result c.in-Entry.l c.entry_at.ensures c.in-Entry.is
+here_3 : (c : goal.After-struct_known-in-loop-count-1) → Placed c.args.block.now c.loop-count.at c.in-Entry.l
+here_3 c = told_entry c.args.block.now c.loop-count.at c.entry_at.result c.in-Entry.l c.entry_at.ensures c.in-Entry.is
 
 pub overflow_add-at-in-loop-count : goal.overflow_add-at-in-loop-count
-overflow_add-at-in-loop-count c = omega (arith, (here-3 c).inside)
+overflow_add-at-in-loop-count c = omega (arith, (here_3 c).inside)
 
 pub slice_bounds-entry_length-count : goal.slice_bounds-entry_length-count
 slice_bounds-entry_length-count c = omega arith
@@ -49,55 +49,55 @@ slice_bounds-entry_length-count c = omega arith
 pub slice_bounds-entry_length-start : goal.slice_bounds-entry_length-start
 slice_bounds-entry_length-start c = omega arith
 
-here-4 : (c : goal.Then-good-count) → Placed c.args.block.now c.loop-count.at c.in-Entry.l
-here-4 c = told_entry c.args.block.now c.loop-count.at c.entry_at.result c.in-Entry.l c.entry_at.ensures c.in-Entry.is
+here_4 : (c : goal.Then-good-count) → Placed c.args.block.now c.loop-count.at c.in-Entry.l
+here_4 c = told_entry c.args.block.now c.loop-count.at c.entry_at.result c.in-Entry.l c.entry_at.ensures c.in-Entry.is
 
 pub slice_bounds-entry_length-end : goal.slice_bounds-entry_length-end
-slice_bounds-entry_length-end c = omega (arith, (here-4 c).inside)
+slice_bounds-entry_length-end c = omega (arith, (here_4 c).inside)
 
 pub overflow_add-good : goal.overflow_add-good
 overflow_add-good c = omega (arith, c.loop-count.invariant.3.within)
 
 -- what is asked of its line
-abbrev Asked-1 : goal.In-Length → LineLength → Type 0
-Asked-1 c r =
+abbrev Asked_1 : goal.In-Length → LineLength → Type 0
+Asked_1 c r =
     length_says r ≡ length_answer c.args.style
     (divided c.in-Entry.l.name (take (place_behind c.loop-count.at c.in-Entry.l - (c.loop-count.at + 6)) (drop (c.loop-count.at + 6) c.args.block.now)))
 
 -- the entries and the sums at that turn
-abbrev Now-1 : goal.In-Length → List Entry → ℕ → ℕ → ℕ → Type 0
-Now-1 c left count good total = Summing c.args.style (listed (entries c.args.block.now)) left count good total
+abbrev Now_1 : goal.In-Length → List Entry → ℕ → ℕ → ℕ → Type 0
+Now_1 c left count good total = Summing c.args.style (listed (entries c.args.block.now)) left count good total
 
-here-5 : (c : goal.In-Length) → Placed c.args.block.now c.loop-count.at c.in-Entry.l
-here-5 c = told_entry c.args.block.now c.loop-count.at c.entry_at.result c.in-Entry.l c.entry_at.ensures c.in-Entry.is
+here_5 : (c : goal.In-Length) → Placed c.args.block.now c.loop-count.at c.in-Entry.l
+here_5 c = told_entry c.args.block.now c.loop-count.at c.entry_at.result c.in-Entry.l c.entry_at.ensures c.in-Entry.is
 
-asked-1 : (c : goal.In-Length) (given r : LineLength) → Asked-1 c given → given ≡ r → length_says r ≡ length_answer c.args.style ((placed c.args.block.now c.loop-count.at c.in-Entry.l))
-asked-1 c given r e k = ap length_says (sym k) ∙ e ∙ ap (length_answer c.args.style) (divided_at c.args.block.now c.loop-count.at c.in-Entry.l (here-5 c))
+asked_1 : (c : goal.In-Length) (given r : LineLength) → Asked_1 c given → given ≡ r → length_says r ≡ length_answer c.args.style ((placed c.args.block.now c.loop-count.at c.in-Entry.l))
+asked_1 c given r e k = ap length_says (sym k) ∙ e ∙ ap (length_answer c.args.style) (divided_at c.args.block.now c.loop-count.at c.in-Entry.l (here_5 c))
 
-before-it-1 : (c : goal.In-Length) → Now-1 c ((placed c.args.block.now c.loop-count.at c.in-Entry.l) ∷ (listed (entries (drop (place_behind c.loop-count.at c.in-Entry.l) c.args.block.now)))) c.loop-count.count c.loop-count.good c.loop-count.total
-before-it-1 c =
-    subst (λ left. Now-1 c left c.loop-count.count c.loop-count.good c.loop-count.total)
-    (listed_next c.args.block.now c.loop-count.at c.in-Entry.l (here-5 c) c.loop-count.invariant.2) c.loop-count.invariant.3
+before_it_1 : (c : goal.In-Length) → Now_1 c ((placed c.args.block.now c.loop-count.at c.in-Entry.l) ∷ (listed (entries (drop (place_behind c.loop-count.at c.in-Entry.l) c.args.block.now)))) c.loop-count.count c.loop-count.good c.loop-count.total
+before_it_1 c =
+    subst (λ left. Now_1 c left c.loop-count.count c.loop-count.good c.loop-count.total)
+    (listed_next c.args.block.now c.loop-count.at c.in-Entry.l (here_5 c) c.loop-count.invariant.2) c.loop-count.invariant.3
 
 -- the sums behind it, where its line is written, and where it is not
-longer-1 : (c : goal.In-Length) (given : LineLength) (k : ℕ) → Asked-1 c given → given ≡ LineLength.Length k → c.loop-count.good ≡ c.loop-count.count
-    → Now-1 c ((listed (entries (drop (place_behind c.loop-count.at c.in-Entry.l) c.args.block.now)))) (c.loop-count.count + 1) (c.loop-count.good + 1) (c.loop-count.total + k + 1)
-longer-1 c given k e q same =
+longer_1 : (c : goal.In-Length) (given : LineLength) (k : ℕ) → Asked_1 c given → given ≡ LineLength.Length k → c.loop-count.good ≡ c.loop-count.count
+    → Now_1 c ((listed (entries (drop (place_behind c.loop-count.at c.in-Entry.l) c.args.block.now)))) (c.loop-count.count + 1) (c.loop-count.good + 1) (c.loop-count.total + k + 1)
+longer_1 c given k e q same =
     let d = (placed c.args.block.now c.loop-count.at c.in-Entry.l) in
-    let (can, long) = length_accepted c.args.style d k (asked-1 c given (LineLength.Length k) e q) in
-    sum_line c.args.style (listed (entries c.args.block.now)) d ((listed (entries (drop (place_behind c.loop-count.at c.in-Entry.l) c.args.block.now)))) _ _ _ (before-it-1 c) k same can long
+    let (can, long) = length_accepted c.args.style d k (asked_1 c given (LineLength.Length k) e q) in
+    sum_line c.args.style (listed (entries c.args.block.now)) d ((listed (entries (drop (place_behind c.loop-count.at c.in-Entry.l) c.args.block.now)))) _ _ _ (before_it_1 c) k same can long
 
 -- the octets stay few
-total-small : (c : goal.In-Length) → c.loop-count.total + c.in-Length.k + 1 ≤ 17442
-total-small c =
+total_small : (c : goal.In-Length) → c.loop-count.total + c.in-Length.k + 1 ≤ 17442
+total_small c =
     let line = c.entry_length in
-    omega (arith, c.loop-count.invariant.3.within, (longer-1 c line.result c.in-Length.k line.ensures c.in-Length.is c.if-good-count.true).small)
+    omega (arith, c.loop-count.invariant.3.within, (longer_1 c line.result c.in-Length.k line.ensures c.in-Length.is c.if-good-count.true).small)
 
 pub overflow_add-total : goal.overflow_add-total
-overflow_add-total c = omega (arith, total-small c)
+overflow_add-total c = omega (arith, total_small c)
 
 pub overflow_add-total-in-Length : goal.overflow_add-total-in-Length
-overflow_add-total-in-Length c = omega (arith, total-small c)
+overflow_add-total-in-Length c = omega (arith, total_small c)
 
 pub overflow_add-count : goal.overflow_add-count
 overflow_add-count c = omega arith
@@ -105,53 +105,53 @@ overflow_add-count c = omega arith
 pub loop-count-smaller : goal.loop-count-smaller
 loop-count-smaller c = omega arith
 
-here-6 : (c : goal.Joined-good-count) → Placed c.args.block.now c.loop-count.at c.in-Entry.l
-here-6 c = told_entry c.args.block.now c.loop-count.at c.entry_at.result c.in-Entry.l c.entry_at.ensures c.in-Entry.is
+here_6 : (c : goal.Joined-good-count) → Placed c.args.block.now c.loop-count.at c.in-Entry.l
+here_6 c = told_entry c.args.block.now c.loop-count.at c.entry_at.result c.in-Entry.l c.entry_at.ensures c.in-Entry.is
 
 -- what follows it is a block
-on-block : (c : goal.Joined-good-count) → is_block (drop (place_behind c.loop-count.at c.in-Entry.l) c.args.block.now) ≡ true
-on-block c = sym (is_block_next c.args.block.now c.loop-count.at c.in-Entry.l (here-6 c)) ∙ c.loop-count.invariant.2
+on_block : (c : goal.Joined-good-count) → is_block (drop (place_behind c.loop-count.at c.in-Entry.l) c.args.block.now) ≡ true
+on_block c = sym (is_block_next c.args.block.now c.loop-count.at c.in-Entry.l (here_6 c)) ∙ c.loop-count.invariant.2
 
 -- what is asked of its line
-abbrev Asked-2 : goal.Joined-good-count → LineLength → Type 0
-Asked-2 c r =
+abbrev Asked_2 : goal.Joined-good-count → LineLength → Type 0
+Asked_2 c r =
     length_says r ≡ length_answer c.args.style
     (divided c.in-Entry.l.name (take (place_behind c.loop-count.at c.in-Entry.l - (c.loop-count.at + 6)) (drop (c.loop-count.at + 6) c.args.block.now)))
 
-asked-2 : (c : goal.Joined-good-count) (given r : LineLength) → Asked-2 c given → given ≡ r → length_says r ≡ length_answer c.args.style ((placed c.args.block.now c.loop-count.at c.in-Entry.l))
-asked-2 c given r e k = ap length_says (sym k) ∙ e ∙ ap (length_answer c.args.style) (divided_at c.args.block.now c.loop-count.at c.in-Entry.l (here-6 c))
+asked_2 : (c : goal.Joined-good-count) (given r : LineLength) → Asked_2 c given → given ≡ r → length_says r ≡ length_answer c.args.style ((placed c.args.block.now c.loop-count.at c.in-Entry.l))
+asked_2 c given r e k = ap length_says (sym k) ∙ e ∙ ap (length_answer c.args.style) (divided_at c.args.block.now c.loop-count.at c.in-Entry.l (here_6 c))
 
 -- the entries and the sums at that turn
-abbrev Now-2 : goal.Joined-good-count → List Entry → ℕ → ℕ → ℕ → Type 0
-Now-2 c left count good total = Summing c.args.style (listed (entries c.args.block.now)) left count good total
+abbrev Now_2 : goal.Joined-good-count → List Entry → ℕ → ℕ → ℕ → Type 0
+Now_2 c left count good total = Summing c.args.style (listed (entries c.args.block.now)) left count good total
 
-before-it-2 : (c : goal.Joined-good-count) → Now-2 c ((placed c.args.block.now c.loop-count.at c.in-Entry.l) ∷ (listed (entries (drop (place_behind c.loop-count.at c.in-Entry.l) c.args.block.now)))) c.loop-count.count c.loop-count.good c.loop-count.total
-before-it-2 c =
-    subst (λ left. Now-2 c left c.loop-count.count c.loop-count.good c.loop-count.total)
-    (listed_next c.args.block.now c.loop-count.at c.in-Entry.l (here-6 c) c.loop-count.invariant.2) c.loop-count.invariant.3
+before_it_2 : (c : goal.Joined-good-count) → Now_2 c ((placed c.args.block.now c.loop-count.at c.in-Entry.l) ∷ (listed (entries (drop (place_behind c.loop-count.at c.in-Entry.l) c.args.block.now)))) c.loop-count.count c.loop-count.good c.loop-count.total
+before_it_2 c =
+    subst (λ left. Now_2 c left c.loop-count.count c.loop-count.good c.loop-count.total)
+    (listed_next c.args.block.now c.loop-count.at c.in-Entry.l (here_6 c) c.loop-count.invariant.2) c.loop-count.invariant.3
 
 -- the sums behind it, where its line is written, and where it is not
-longer-2 : (c : goal.Joined-good-count) (given : LineLength) (k : ℕ) → Asked-2 c given → given ≡ LineLength.Length k → c.loop-count.good ≡ c.loop-count.count
-    → Now-2 c ((listed (entries (drop (place_behind c.loop-count.at c.in-Entry.l) c.args.block.now)))) (c.loop-count.count + 1) (c.loop-count.good + 1) (c.loop-count.total + k + 1)
-longer-2 c given k e q same =
+longer_2 : (c : goal.Joined-good-count) (given : LineLength) (k : ℕ) → Asked_2 c given → given ≡ LineLength.Length k → c.loop-count.good ≡ c.loop-count.count
+    → Now_2 c ((listed (entries (drop (place_behind c.loop-count.at c.in-Entry.l) c.args.block.now)))) (c.loop-count.count + 1) (c.loop-count.good + 1) (c.loop-count.total + k + 1)
+longer_2 c given k e q same =
     let d = (placed c.args.block.now c.loop-count.at c.in-Entry.l) in
-    let (can, long) = length_accepted c.args.style d k (asked-2 c given (LineLength.Length k) e q) in
-    sum_line c.args.style (listed (entries c.args.block.now)) d ((listed (entries (drop (place_behind c.loop-count.at c.in-Entry.l) c.args.block.now)))) _ _ _ (before-it-2 c) k same can long
+    let (can, long) = length_accepted c.args.style d k (asked_2 c given (LineLength.Length k) e q) in
+    sum_line c.args.style (listed (entries c.args.block.now)) d ((listed (entries (drop (place_behind c.loop-count.at c.in-Entry.l) c.args.block.now)))) _ _ _ (before_it_2 c) k same can long
 
 as_long : (c : goal.Joined-good-count) → (c.loop-count.good ≡ c.loop-count.count → can_write c.args.style ((placed c.args.block.now c.loop-count.at c.in-Entry.l)) ≡ false)
-    → Now-2 c ((listed (entries (drop (place_behind c.loop-count.at c.in-Entry.l) c.args.block.now)))) (c.loop-count.count + 1) c.loop-count.good c.loop-count.total
-as_long c = sum_none c.args.style (listed (entries c.args.block.now)) ((placed c.args.block.now c.loop-count.at c.in-Entry.l)) ((listed (entries (drop (place_behind c.loop-count.at c.in-Entry.l) c.args.block.now)))) _ _ _ (before-it-2 c)
+    → Now_2 c ((listed (entries (drop (place_behind c.loop-count.at c.in-Entry.l) c.args.block.now)))) (c.loop-count.count + 1) c.loop-count.good c.loop-count.total
+as_long c = sum_none c.args.style (listed (entries c.args.block.now)) ((placed c.args.block.now c.loop-count.at c.in-Entry.l)) ((listed (entries (drop (place_behind c.loop-count.at c.in-Entry.l) c.args.block.now)))) _ _ _ (before_it_2 c)
 
 pub loop-count-preserved : goal.loop-count-preserved
 loop-count-preserved c =
     let d = (placed c.args.block.now c.loop-count.at c.in-Entry.l) in (
-      (here-6 c).inside,
+      (here_6 c).inside,
       omega arith,
-      on-block c,
+      on_block c,
       elim c.if-good-count.branch [
-        | then-good-count+in-Length w ↦ rw (w.good-is, w.total-is) (longer-2 c w.entry_length.result w.in-Length.k w.entry_length.ensures w.in-Length.is w.if-good-count.true)
+        | then-good-count+in-Length w ↦ rw (w.good-is, w.total-is) (longer_2 c w.entry_length.result w.in-Length.k w.entry_length.ensures w.in-Length.is w.if-good-count.true)
         | then-good-count+in_default-entry_length w ↦
-            rw (w.good-is, w.total-is) (as_long c (λ same. length_refused c.args.style d 53 (asked-2 c w.entry_length.result LineLength.Unwritable w.entry_length.ensures w.in_default-entry_length.is)))
+            rw (w.good-is, w.total-is) (as_long c (λ same. length_refused c.args.style d 53 (asked_2 c w.entry_length.result LineLength.Unwritable w.entry_length.ensures w.in_default-entry_length.is)))
         | else-good-count w ↦ rw (w.good-is, w.total-is) (as_long c (λ same. absurd (w.if-good-count.false same)))
       ],
     )

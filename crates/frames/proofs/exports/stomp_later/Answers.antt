@@ -10,9 +10,9 @@ use Rattle.frames.proofs.Packed.{later_back}
 use Rattle.headers.proofs.Rows.{octets_known}
 use Rattle.frames.proofs.exports.stomp_later.Goals as goal
 
-gives-1 : (c : goal.In-Value) (f : Found) (n : ℕ) → c.find.result ≡ f → n ≡ packed_later (later_alone (found_says f))
+gives_1 : (c : goal.In-Value) (f : Found) (n : ℕ) → c.find.result ≡ f → n ≡ packed_later (later_alone (found_says f))
     → let a = c.args in let r = later_alone (find_answer a.block.now a.name.now) in (n ≡ packed_later r) × (unpacked_later n ≡ r)
-gives-1 c f n e q =
+gives_1 c f n e q =
     let a = c.args in
     let h = ap found_says (sym e) ∙ c.find.ensures in
     let short : length a.block.now < 2 ^ 64 = omega arith in
@@ -22,11 +22,11 @@ gives-1 c f n e q =
     )
 
 pub returns-in-Value : goal.returns-in-Value
-returns-in-Value c = gives-1 c _ _ c.in-Value.is refl
+returns-in-Value c = gives_1 c _ _ c.in-Value.is refl
 
-gives-2 : (c : goal.In-Absent) (f : Found) (n : ℕ) → c.find.result ≡ f → n ≡ packed_later (later_alone (found_says f))
+gives_2 : (c : goal.In-Absent) (f : Found) (n : ℕ) → c.find.result ≡ f → n ≡ packed_later (later_alone (found_says f))
     → let a = c.args in let r = later_alone (find_answer a.block.now a.name.now) in (n ≡ packed_later r) × (unpacked_later n ≡ r)
-gives-2 c f n e q =
+gives_2 c f n e q =
     let a = c.args in
     let h = ap found_says (sym e) ∙ c.find.ensures in
     let short : length a.block.now < 2 ^ 64 = omega arith in
@@ -36,11 +36,11 @@ gives-2 c f n e q =
     )
 
 pub returns-in-Absent : goal.returns-in-Absent
-returns-in-Absent c = gives-2 c _ _ c.in-Absent.is refl
+returns-in-Absent c = gives_2 c _ _ c.in-Absent.is refl
 
-gives-3 : (c : goal.In-Malformed) (f : Found) (n : ℕ) → c.find.result ≡ f → n ≡ packed_later (later_alone (found_says f))
+gives_3 : (c : goal.In-Malformed) (f : Found) (n : ℕ) → c.find.result ≡ f → n ≡ packed_later (later_alone (found_says f))
     → let a = c.args in let r = later_alone (find_answer a.block.now a.name.now) in (n ≡ packed_later r) × (unpacked_later n ≡ r)
-gives-3 c f n e q =
+gives_3 c f n e q =
     let a = c.args in
     let h = ap found_says (sym e) ∙ c.find.ensures in
     let short : length a.block.now < 2 ^ 64 = omega arith in
@@ -50,4 +50,4 @@ gives-3 c f n e q =
     )
 
 pub returns-in-Malformed : goal.returns-in-Malformed
-returns-in-Malformed c = gives-3 c _ _ c.in-Malformed.is refl
+returns-in-Malformed c = gives_3 c _ _ c.in-Malformed.is refl

@@ -13,24 +13,24 @@ pub overflow_add-stop : goal.overflow_add-stop
 overflow_add-stop c = omega (arith, back_inside c.args.cr c.args.colon c.args.s.now c.args.i _ c.requires c.plain_span-known.ensures)
 
 -- what is passed is the stretch of the text
-passed-1 : (c : goal.Then-s-stop) → let a = c.args in
+passed_1 : (c : goal.Then-s-stop) → let a = c.args in
     let xs = drop a.i a.s.now in
     let n = a.i + c.plain_span-known.result in
     (n ≡ a.i + stop_span a.cr a.colon xs) ⊎ (get_or a.s.now n 0 ≡ 92) → Stretch (take (stop_span a.cr a.colon xs) xs) c.plain_span-known.result
-passed-1 c = back_stretch c.args.cr c.args.colon c.args.s.now c.args.i _ c.requires c.plain_span-known.ensures
+passed_1 c = back_stretch c.args.cr c.args.colon c.args.s.now c.args.i _ c.requires c.plain_span-known.ensures
 
 pub returns-then-s-stop : goal.returns-then-s-stop
 returns-then-s-stop c =
     let a = c.args in
     let e = back_past a.cr a.colon a.s.now a.i _ c.requires c.plain_span-known.ensures c.if-s-stop.true in
-    (e, back_inside a.cr a.colon a.s.now a.i _ c.requires c.plain_span-known.ensures, passed-1 c (inl e))
+    (e, back_inside a.cr a.colon a.s.now a.i _ c.requires c.plain_span-known.ensures, passed_1 c (inl e))
 
 -- what is passed is the stretch of the text
-passed-2 : (c : goal.After-stop_at) → let a = c.args in
+passed_2 : (c : goal.After-stop_at) → let a = c.args in
     let xs = drop a.i a.s.now in
     let n = a.i + c.plain_span-known.result in
     (n ≡ a.i + stop_span a.cr a.colon xs) ⊎ (get_or a.s.now n 0 ≡ 92) → Stretch (take (stop_span a.cr a.colon xs) xs) c.plain_span-known.result
-passed-2 c = back_stretch c.args.cr c.args.colon c.args.s.now c.args.i _ c.requires c.plain_span-known.ensures
+passed_2 c = back_stretch c.args.cr c.args.colon c.args.s.now c.args.i _ c.requires c.plain_span-known.ensures
 
 pub returns-then-s-stop-eq92 : goal.returns-then-s-stop-eq92
 returns-then-s-stop-eq92 c =
@@ -38,18 +38,18 @@ returns-then-s-stop-eq92 c =
       c.stop_at.ensures.0
           ∙ back_more a.cr a.colon a.s.now a.i _ c.requires c.plain_span-known.ensures,
       c.stop_at.ensures.1,
-      passed-2 c (inr c.if-s-stop-eq92.true),
+      passed_2 c (inr c.if-s-stop-eq92.true),
     )
 
 -- what is passed is the stretch of the text
-passed-3 : (c : goal.Else-s-stop-eq92) → let a = c.args in
+passed_3 : (c : goal.Else-s-stop-eq92) → let a = c.args in
     let xs = drop a.i a.s.now in
     let n = a.i + c.plain_span-known.result in
     (n ≡ a.i + stop_span a.cr a.colon xs) ⊎ (get_or a.s.now n 0 ≡ 92) → Stretch (take (stop_span a.cr a.colon xs) xs) c.plain_span-known.result
-passed-3 c = back_stretch c.args.cr c.args.colon c.args.s.now c.args.i _ c.requires c.plain_span-known.ensures
+passed_3 c = back_stretch c.args.cr c.args.colon c.args.s.now c.args.i _ c.requires c.plain_span-known.ensures
 
 pub returns : goal.returns
 returns c =
     let a = c.args in
     let e = back_none a.cr a.colon a.s.now a.i _ c.requires c.plain_span-known.ensures c.if-s-stop.false c.if-s-stop-eq92.false in
-    (e, back_inside a.cr a.colon a.s.now a.i _ c.requires c.plain_span-known.ensures, passed-3 c (inl e))
+    (e, back_inside a.cr a.colon a.s.now a.i _ c.requires c.plain_span-known.ensures, passed_3 c (inl e))

@@ -18,11 +18,11 @@ pub text_span-k-requires : goal.text_span-k-requires
 text_span-k-requires c = calm_plain c.args.style in_name c.name_stops.ensures
 
 -- the name ends where it may
-inside-1 : (c : goal.After-text_span-k) → c.args.i + c.text_span-k.result ≤ c.upto-e.result
-inside-1 c = span_part _ _ _ _ _ (omega arith) (omega arith) c.text_span-k.ensures
+inside_1 : (c : goal.After-text_span-k) → c.args.i + c.text_span-k.result ≤ c.upto-e.result
+inside_1 c = span_part _ _ _ _ _ (omega arith) (omega arith) c.text_span-k.ensures
 
 pub overflow_add-colon : goal.overflow_add-colon
-overflow_add-colon c = omega (arith, inside-1 c)
+overflow_add-colon c = omega (arith, inside_1 c)
 
 pub returns-then-k-e : goal.returns-then-k-e
 returns-then-k-e c = λ n. absurd (n refl)
@@ -37,11 +37,11 @@ pub returns-then-s-colon-ne58 : goal.returns-then-s-colon-ne58
 returns-then-s-colon-ne58 c = λ n. absurd (n refl)
 
 -- the name ends where it may
-inside-2 : (c : goal.Else-s-colon-ne58) → c.args.i + c.text_span-k.result ≤ c.upto-e.result
-inside-2 c = span_part _ _ _ _ _ (omega arith) (omega arith) c.text_span-k.ensures
+inside_2 : (c : goal.Else-s-colon-ne58) → c.args.i + c.text_span-k.result ≤ c.upto-e.result
+inside_2 c = span_part _ _ _ _ _ (omega arith) (omega arith) c.text_span-k.ensures
 
 pub overflow_add-result : goal.overflow_add-result
-overflow_add-result c = omega (arith, inside-2 c)
+overflow_add-result c = omega (arith, inside_2 c)
 
 pub returns : goal.returns
 returns c =

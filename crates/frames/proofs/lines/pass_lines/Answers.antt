@@ -32,24 +32,24 @@ returns-then-m-eq0 c =
     subst (Passed a.s.now a.from a.st) (sym c.line_at.ensures) c.loop-i.invariant.2
 
 -- where the value goes on
-begun-on-1 : (c : goal.Else-m-eq0) → let a = c.args in let l = c.loop-i in let m = c.begun-m.result in
+begun_on_1 : (c : goal.Else-m-eq0) → let a = c.args in let l = c.loop-i in let m = c.begun-m.result in
     (l.len ≤ m) × (m ≤ 512) × (l.i + (m - l.len) ≤ length a.s.now)
     × Passed a.s.now a.from a.st (line_at a.st l.lines m (l.i + (m - l.len) - a.from))
-begun-on-1 c =
+begun_on_1 c =
     let l = c.loop-i.invariant in
     then_begun l.0 c.style_of-style.ensures l.1 l.2 c.begun-m.ensures c.if-m-eq0.false
 
 pub overflow_sub-v : goal.overflow_sub-v
-overflow_sub-v c = (begun-on-1 c).0
+overflow_sub-v c = (begun_on_1 c).0
 
 pub overflow_add-v : goal.overflow_add-v
-overflow_add-v c = omega (arith, (begun-on-1 c).2)
+overflow_add-v c = omega (arith, (begun_on_1 c).2)
 
 pub overflow_sub-m : goal.overflow_sub-m
-overflow_sub-m c = (begun-on-1 c).1
+overflow_sub-m c = (begun_on_1 c).1
 
 pub upto-e-requires : goal.upto-e-requires
-upto-e-requires c = (begun-on-1 c).2
+upto-e-requires c = (begun_on_1 c).2
 
 pub slice_bounds-value_text-count : goal.slice_bounds-value_text-count
 slice_bounds-value_text-count c = c.upto-e.ensures.0
@@ -61,20 +61,20 @@ pub slice_bounds-value_text-end : goal.slice_bounds-value_text-end
 slice_bounds-value_text-end c = c.upto-e.ensures.1
 
 -- where the value goes on
-begun-on-2 : (c : goal.After-value_text-k) → let a = c.args in let l = c.loop-i in let m = c.begun-m.result in
+begun_on_2 : (c : goal.After-value_text-k) → let a = c.args in let l = c.loop-i in let m = c.begun-m.result in
     (l.len ≤ m) × (m ≤ 512) × (l.i + (m - l.len) ≤ length a.s.now)
     × Passed a.s.now a.from a.st (line_at a.st l.lines m (l.i + (m - l.len) - a.from))
-begun-on-2 c =
+begun_on_2 c =
     let l = c.loop-i.invariant in
     then_begun l.0 c.style_of-style.ensures l.1 l.2 c.begun-m.ensures c.if-m-eq0.false
 
 -- where the text ends
-value_on-1 : (c : goal.After-value_text-k) → let a = c.args in
+value_on_1 : (c : goal.After-value_text-k) → let a = c.args in
     let m = c.begun-m.result in let end = c.loop-i.i + (m - c.loop-i.len) + c.value_text-k.result in
     (a.from ≤ end) × (end ≤ length a.s.now)
     × Passed a.s.now a.from a.st (line_at a.st c.loop-i.lines (m + c.value_text-k.result) (end - a.from))
-value_on-1 c =
-    let b = begun-on-2 c in
+value_on_1 c =
+    let b = begun_on_2 c in
     let past : c.args.from ≤ c.loop-i.i + (c.begun-m.result - c.loop-i.len) = omega (arith, c.loop-i.invariant.0) in
     let u = c.upto-e in
     let k = c.value_text-k in
@@ -83,23 +83,23 @@ value_on-1 c =
     (omega (arith, past), inside, p)
 
 pub overflow_add-end : goal.overflow_add-end
-overflow_add-end c = omega (arith, (value_on-1 c).1)
+overflow_add-end c = omega (arith, (value_on_1 c).1)
 
 -- where the value goes on
-begun-on-3 : (c : goal.Then-not-is_10_at) → let a = c.args in let l = c.loop-i in let m = c.begun-m.result in
+begun_on_3 : (c : goal.Then-not-is_10_at) → let a = c.args in let l = c.loop-i in let m = c.begun-m.result in
     (l.len ≤ m) × (m ≤ 512) × (l.i + (m - l.len) ≤ length a.s.now)
     × Passed a.s.now a.from a.st (line_at a.st l.lines m (l.i + (m - l.len) - a.from))
-begun-on-3 c =
+begun_on_3 c =
     let l = c.loop-i.invariant in
     then_begun l.0 c.style_of-style.ensures l.1 l.2 c.begun-m.ensures c.if-m-eq0.false
 
 -- where the text ends
-value_on-2 : (c : goal.Then-not-is_10_at) → let a = c.args in
+value_on_2 : (c : goal.Then-not-is_10_at) → let a = c.args in
     let m = c.begun-m.result in let end = c.loop-i.i + (m - c.loop-i.len) + c.value_text-k.result in
     (a.from ≤ end) × (end ≤ length a.s.now)
     × Passed a.s.now a.from a.st (line_at a.st c.loop-i.lines (m + c.value_text-k.result) (end - a.from))
-value_on-2 c =
-    let b = begun-on-3 c in
+value_on_2 c =
+    let b = begun_on_3 c in
     let past : c.args.from ≤ c.loop-i.i + (c.begun-m.result - c.loop-i.len) = omega (arith, c.loop-i.invariant.0) in
     let u = c.upto-e in
     let k = c.value_text-k in
@@ -108,29 +108,29 @@ value_on-2 c =
     (omega (arith, past), inside, p)
 
 pub overflow_add-m : goal.overflow_add-m
-overflow_add-m c = omega (arith, (value_on-2 c).1, (begun-on-3 c).1)
+overflow_add-m c = omega (arith, (value_on_2 c).1, (begun_on_3 c).1)
 
 pub overflow_sub-end : goal.overflow_sub-end
-overflow_sub-end c = (value_on-2 c).0
+overflow_sub-end c = (value_on_2 c).0
 
 pub line_at-requires-then-not-is_10_at : goal.line_at-requires-then-not-is_10_at
-line_at-requires-then-not-is_10_at c = (value_on-2 c).2.kept
+line_at-requires-then-not-is_10_at c = (value_on_2 c).2.kept
 
 -- where the value goes on
-begun-on-4 : (c : goal.After-line_at-then-not-is_10_at) → let a = c.args in let l = c.loop-i in let m = c.begun-m.result in
+begun_on_4 : (c : goal.After-line_at-then-not-is_10_at) → let a = c.args in let l = c.loop-i in let m = c.begun-m.result in
     (l.len ≤ m) × (m ≤ 512) × (l.i + (m - l.len) ≤ length a.s.now)
     × Passed a.s.now a.from a.st (line_at a.st l.lines m (l.i + (m - l.len) - a.from))
-begun-on-4 c =
+begun_on_4 c =
     let l = c.loop-i.invariant in
     then_begun l.0 c.style_of-style.ensures l.1 l.2 c.begun-m.ensures c.if-m-eq0.false
 
 -- where the text ends
-value_on-3 : (c : goal.After-line_at-then-not-is_10_at) → let a = c.args in
+value_on_3 : (c : goal.After-line_at-then-not-is_10_at) → let a = c.args in
     let m = c.begun-m.result in let end = c.loop-i.i + (m - c.loop-i.len) + c.value_text-k.result in
     (a.from ≤ end) × (end ≤ length a.s.now)
     × Passed a.s.now a.from a.st (line_at a.st c.loop-i.lines (m + c.value_text-k.result) (end - a.from))
-value_on-3 c =
-    let b = begun-on-4 c in
+value_on_3 c =
+    let b = begun_on_4 c in
     let past : c.args.from ≤ c.loop-i.i + (c.begun-m.result - c.loop-i.len) = omega (arith, c.loop-i.invariant.0) in
     let u = c.upto-e in
     let k = c.value_text-k in
@@ -141,23 +141,23 @@ value_on-3 c =
 pub returns-then-not-is_10_at : goal.returns-then-not-is_10_at
 returns-then-not-is_10_at c =
     let a = c.args in
-    subst (Passed a.s.now a.from a.st) (sym c.line_at-then-not-is_10_at.ensures) (value_on-3 c).2
+    subst (Passed a.s.now a.from a.st) (sym c.line_at-then-not-is_10_at.ensures) (value_on_3 c).2
 
 -- where the value goes on
-begun-on-5 : (c : goal.Else-not-is_10_at) → let a = c.args in let l = c.loop-i in let m = c.begun-m.result in
+begun_on_5 : (c : goal.Else-not-is_10_at) → let a = c.args in let l = c.loop-i in let m = c.begun-m.result in
     (l.len ≤ m) × (m ≤ 512) × (l.i + (m - l.len) ≤ length a.s.now)
     × Passed a.s.now a.from a.st (line_at a.st l.lines m (l.i + (m - l.len) - a.from))
-begun-on-5 c =
+begun_on_5 c =
     let l = c.loop-i.invariant in
     then_begun l.0 c.style_of-style.ensures l.1 l.2 c.begun-m.ensures c.if-m-eq0.false
 
 -- where the text ends
-value_on-4 : (c : goal.Else-not-is_10_at) → let a = c.args in
+value_on_4 : (c : goal.Else-not-is_10_at) → let a = c.args in
     let m = c.begun-m.result in let end = c.loop-i.i + (m - c.loop-i.len) + c.value_text-k.result in
     (a.from ≤ end) × (end ≤ length a.s.now)
     × Passed a.s.now a.from a.st (line_at a.st c.loop-i.lines (m + c.value_text-k.result) (end - a.from))
-value_on-4 c =
-    let b = begun-on-5 c in
+value_on_4 c =
+    let b = begun_on_5 c in
     let past : c.args.from ≤ c.loop-i.i + (c.begun-m.result - c.loop-i.len) = omega (arith, c.loop-i.invariant.0) in
     let u = c.upto-e in
     let k = c.value_text-k in
@@ -166,13 +166,13 @@ value_on-4 c =
     (omega (arith, past), inside, p)
 
 pub overflow_add-lines : goal.overflow_add-lines
-overflow_add-lines c = omega (arith, (value_on-4 c).2.kept.few)
+overflow_add-lines c = omega (arith, (value_on_4 c).2.kept.few)
 
 -- octet 10 ends the line
 end_on : (c : goal.Else-not-is_10_at) → let a = c.args in let end = c.loop-i.i + (c.begun-m.result - c.loop-i.len) + c.value_text-k.result in
     (end < length a.s.now) × Passed a.s.now a.from a.st (line_at a.st (c.loop-i.lines + 1) 0 (end + 1 - a.from))
 end_on c =
-    let v = value_on-4 c in
+    let v = value_on_4 c in
     let (inside, ten) = c.is_10_at.ensures (c.if-not-is_10_at.false) in
     (inside, then_end v.0 v.2 (λ z. c.if-m-eq0.false (omega arith)) inside ten)
 
@@ -183,7 +183,7 @@ pub loop-i-smaller : goal.loop-i-smaller
 loop-i-smaller c = omega (arith, (end_on c).0)
 
 pub loop-i-preserved : goal.loop-i-preserved
-loop-i-preserved c = (omega (arith, (value_on-4 c).0), omega (arith, (end_on c).0), (end_on c).1)
+loop-i-preserved c = (omega (arith, (value_on_4 c).0), omega (arith, (end_on c).0), (end_on c).1)
 
 pub overflow_sub-i-2 : goal.overflow_sub-i-2
 overflow_sub-i-2 c = c.loop-i.invariant.0

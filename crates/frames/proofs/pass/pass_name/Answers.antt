@@ -13,21 +13,21 @@ pub text_span-k-requires : goal.text_span-k-requires
 text_span-k-requires c = calm_plain c.style_of.result in_name c.name_stops-stops.ensures
 
 -- the octets of the name
-named-1 : (c : goal.After-text_span-k) → let a = c.args in Ahead a.s.now a.i a.st c.text_span-k.result
-named-1 c =
+named_1 : (c : goal.After-text_span-k) → let a = c.args in Ahead a.s.now a.i a.st c.text_span-k.result
+named_1 c =
     let v = c.requires.1 in
     let h = line_short v c.requires.2 in
     ahead_by _ 511 c.args.st (glides_name c.args.st v c.style_of.ensures c.name_stops-stops.ensures c.requires.2 c.requires.3) _ _ c.upto-e.result _ (omega arith) (omega arith) (omega arith) c.text_span-k.ensures
 
 pub skip-requires : goal.skip-requires
-skip-requires c = (named-1 c).kept
+skip-requires c = (named_1 c).kept
 
 -- the octets of the name
-named-2 : (c : goal.After-skip) → let a = c.args in Ahead a.s.now a.i a.st c.text_span-k.result
-named-2 c =
+named_2 : (c : goal.After-skip) → let a = c.args in Ahead a.s.now a.i a.st c.text_span-k.result
+named_2 c =
     let v = c.requires.1 in
     let h = line_short v c.requires.2 in
     ahead_by _ 511 c.args.st (glides_name c.args.st v c.style_of.ensures c.name_stops-stops.ensures c.requires.2 c.requires.3) _ _ c.upto-e.result _ (omega arith) (omega arith) (omega arith) c.text_span-k.ensures
 
 pub returns : goal.returns
-returns c = passed_ahead (named-2 c) c.skip.ensures
+returns c = passed_ahead (named_2 c) c.skip.ensures

@@ -16,25 +16,25 @@ body_front-k-requires c =
     (c.requires, ltb-false p 12 (or_false_left (ltb p 12) (ltb 13 p) c.if-begin.false), ltb-false 13 p (or_false_right (ltb p 12) (ltb 13 p) c.if-begin.false))
 
 -- the state after the body's octets
-passed-1 : (c : goal.Then-s-k) → let a = c.args in
+passed_1 : (c : goal.Then-s-k) → let a = c.args in
     (c.body_front-k.result ≤ length a.s.now) × Valid c.skip-next.result × (scan c.skip-next.result (drop c.body_front-k.result a.s.now) ≡ scan a.begin a.s.now)
-passed-1 c = front_on _ _ _ _ c.body_front-k.ensures c.skip-next.ensures
+passed_1 c = front_on _ _ _ _ c.body_front-k.ensures c.skip-next.ensures
 
 pub returns-then-s-k : goal.returns-then-s-k
-returns-then-s-k c = let p = passed-1 c in (sym (scan_end _ _ c.skip-next.result c.if-s-k.true) ∙ p.2, p.1)
+returns-then-s-k c = let p = passed_1 c in (sym (scan_end _ _ c.skip-next.result c.if-s-k.true) ∙ p.2, p.1)
 
 -- the state after the body's octets
-passed-2 : (c : goal.Else-s-k) → let a = c.args in
+passed_2 : (c : goal.Else-s-k) → let a = c.args in
     (c.body_front-k.result ≤ length a.s.now) × Valid c.skip-next.result × (scan c.skip-next.result (drop c.body_front-k.result a.s.now) ≡ scan a.begin a.s.now)
-passed-2 c = front_on _ _ _ _ c.body_front-k.ensures c.skip-next.ensures
+passed_2 c = front_on _ _ _ _ c.body_front-k.ensures c.skip-next.ensures
 
 pub run-requires-2 : goal.run-requires-2
-run-requires-2 c = let p = passed-2 c in (p.0, p.1)
+run-requires-2 c = let p = passed_2 c in (p.0, p.1)
 
 -- the state after the body's octets
-passed-3 : (c : goal.After-run-2) → let a = c.args in
+passed_3 : (c : goal.After-run-2) → let a = c.args in
     (c.body_front-k.result ≤ length a.s.now) × Valid c.skip-next.result × (scan c.skip-next.result (drop c.body_front-k.result a.s.now) ≡ scan a.begin a.s.now)
-passed-3 c = front_on _ _ _ _ c.body_front-k.ensures c.skip-next.ensures
+passed_3 c = front_on _ _ _ _ c.body_front-k.ensures c.skip-next.ensures
 
 pub returns : goal.returns
-returns c = (c.run-2.ensures.0 ∙ (passed-3 c).2, c.run-2.ensures.1)
+returns c = (c.run-2.ensures.0 ∙ (passed_3 c).2, c.run-2.ensures.1)

@@ -9,31 +9,31 @@ unfolding on_word
 returns-then-c-ne0 c = simp (c.to_phase.ensures, ← c.next_command-c.ensures, ne_eqb _ _ c.if-c-ne0.true)
 
 -- no command's word goes on with the octet
-ended-1 : (c : goal.After-refused) → let a = c.args in next_command a.st.command a.st.at a.x ≡ 0
-ended-1 c = sym c.next_command-c.ensures ∙ c.if-c-ne0.false
+ended_1 : (c : goal.After-refused) → let a = c.args in next_command a.st.command a.st.at a.x ≡ 0
+ended_1 c = sym c.next_command-c.ensures ∙ c.if-c-ne0.false
 
 pub returns-then-w-eq0 : goal.returns-then-w-eq0
 unfolding on_word
-returns-then-w-eq0 c = simp (c.refused.ensures, ended-1 c, ← c.whole_command-w.ensures, eq-eqb _ _ c.if-w-eq0.true)
+returns-then-w-eq0 c = simp (c.refused.ensures, ended_1 c, ← c.whole_command-w.ensures, eq-eqb _ _ c.if-w-eq0.true)
 
 -- no command's word goes on with the octet
-ended-2 : (c : goal.After-to_phase-then-x-eq10) → let a = c.args in next_command a.st.command a.st.at a.x ≡ 0
-ended-2 c = sym c.next_command-c.ensures ∙ c.if-c-ne0.false
+ended_2 : (c : goal.After-to_phase-then-x-eq10) → let a = c.args in next_command a.st.command a.st.at a.x ≡ 0
+ended_2 c = sym c.next_command-c.ensures ∙ c.if-c-ne0.false
 
 pub returns-then-x-eq10 : goal.returns-then-x-eq10
 unfolding on_word
-returns-then-x-eq10 c = simp (c.to_phase-then-x-eq10.ensures, ended-2 c, ← c.whole_command-w.ensures, ne_eqb _ _ c.if-w-eq0.false, eq-eqb _ _ c.if-x-eq10.true)
+returns-then-x-eq10 c = simp (c.to_phase-then-x-eq10.ensures, ended_2 c, ← c.whole_command-w.ensures, ne_eqb _ _ c.if-w-eq0.false, eq-eqb _ _ c.if-x-eq10.true)
 
 -- no command's word goes on with the octet
-ended-3 : (c : goal.After-to_phase-then-x-st) → let a = c.args in next_command a.st.command a.st.at a.x ≡ 0
-ended-3 c = sym c.next_command-c.ensures ∙ c.if-c-ne0.false
+ended_3 : (c : goal.After-to_phase-then-x-st) → let a = c.args in next_command a.st.command a.st.at a.x ≡ 0
+ended_3 c = sym c.next_command-c.ensures ∙ c.if-c-ne0.false
 
 pub returns-then-x-st : goal.returns-then-x-st
 unfolding on_word
 returns-then-x-st c =
     simp (
       c.to_phase-then-x-st.ensures,
-      ended-3 c,
+      ended_3 c,
       ← c.whole_command-w.ensures,
       ne_eqb _ _ c.if-w-eq0.false,
       ne_eqb _ _ c.if-x-eq10.false,
@@ -41,15 +41,15 @@ returns-then-x-st c =
     )
 
 -- no command's word goes on with the octet
-ended-4 : (c : goal.After-refused-2) → let a = c.args in next_command a.st.command a.st.at a.x ≡ 0
-ended-4 c = sym c.next_command-c.ensures ∙ c.if-c-ne0.false
+ended_4 : (c : goal.After-refused-2) → let a = c.args in next_command a.st.command a.st.at a.x ≡ 0
+ended_4 c = sym c.next_command-c.ensures ∙ c.if-c-ne0.false
 
 pub returns : goal.returns
 unfolding on_word
 returns c =
     simp (
       c.refused-2.ensures,
-      ended-4 c,
+      ended_4 c,
       ← c.whole_command-w.ensures,
       ne_eqb _ _ c.if-w-eq0.false,
       ne_eqb _ _ c.if-x-eq10.false,

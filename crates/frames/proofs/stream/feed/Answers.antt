@@ -22,78 +22,78 @@ returns-then-not-is_resumable c =
     gives_invalid a.parser.scan a.buffer.now a.piece.now c.if-buffer-lt-FRAME.false (sym c.is_resumable.ensures ∙ c.if-not-is_resumable.true)
 
 -- the record passes its rule
-passed-1 : (c : goal.Else-not-is_resumable) → let st = c.args.parser.scan in is_resumable st ≡ true
-passed-1 c = sym c.is_resumable.ensures ∙ c.if-not-is_resumable.false
+passed_1 : (c : goal.Else-not-is_resumable) → let st = c.args.parser.scan in is_resumable st ≡ true
+passed_1 c = sym c.is_resumable.ensures ∙ c.if-not-is_resumable.false
 
 pub run_on-next-requires : goal.run_on-next-requires
-run_on-next-requires c = (resumed _ (passed-1 c)).0
+run_on-next-requires c = (resumed _ (passed_1 c)).0
 
 -- how far the run went
-counted-1 : (c : goal.After-struct_known-1) → let a = c.args in
+counted_1 : (c : goal.After-struct_known-1) → let a = c.args in
     (a.parser.scan.at ≤ c.run_on-next.result.at) × (c.run_on-next.result.at ≤ a.parser.scan.at + length a.piece.now)
-counted-1 c =
+counted_1 c =
     let a = c.args in
     let n = scan_counts a.piece.now a.parser.scan in
     (omega (arith, n.onward, ap (λ z. z.at) c.run_on-next.ensures.0), omega (arith, n.most, ap (λ z. z.at) c.run_on-next.ensures.0))
 
 pub overflow_sub-octets : goal.overflow_sub-octets
-overflow_sub-octets c = (counted-1 c).0
+overflow_sub-octets c = (counted_1 c).0
 
 -- the record passes its rule
-passed-2 : (c : goal.After-struct_known-1) → let st = c.args.parser.scan in is_resumable st ≡ true
-passed-2 c = sym c.is_resumable.ensures ∙ c.if-not-is_resumable.false
+passed_2 : (c : goal.After-struct_known-1) → let st = c.args.parser.scan in is_resumable st ≡ true
+passed_2 c = sym c.is_resumable.ensures ∙ c.if-not-is_resumable.false
 
 pub overflow_sub-buffer : goal.overflow_sub-buffer
-overflow_sub-buffer c = omega (arith, (resumed _ (passed-2 c)).1, c.if-buffer-lt-FRAME.false)
+overflow_sub-buffer c = omega (arith, (resumed _ (passed_2 c)).1, c.if-buffer-lt-FRAME.false)
 
 -- how far the run went
-counted-2 : (c : goal.After-copy-arg-1) → let a = c.args in
+counted_2 : (c : goal.After-copy-arg-1) → let a = c.args in
     (a.parser.scan.at ≤ c.run_on-next.result.at) × (c.run_on-next.result.at ≤ a.parser.scan.at + length a.piece.now)
-counted-2 c =
+counted_2 c =
     let a = c.args in
     let n = scan_counts a.piece.now a.parser.scan in
     (omega (arith, n.onward, ap (λ z. z.at) c.run_on-next.ensures.0), omega (arith, n.most, ap (λ z. z.at) c.run_on-next.ensures.0))
 
 -- the record passes its rule
-passed-3 : (c : goal.After-copy-arg-1) → let st = c.args.parser.scan in is_resumable st ≡ true
-passed-3 c = sym c.is_resumable.ensures ∙ c.if-not-is_resumable.false
+passed_3 : (c : goal.After-copy-arg-1) → let st = c.args.parser.scan in is_resumable st ≡ true
+passed_3 c = sym c.is_resumable.ensures ∙ c.if-not-is_resumable.false
 
 -- what was taken has room in the buffer
-fitting-1 : (c : goal.After-copy-arg-1) → let a = c.args in
+fitting_1 : (c : goal.After-copy-arg-1) → let a = c.args in
     (c.least-n.result ≤ length a.piece.now) × (a.parser.scan.at + c.least-n.result ≤ length a.buffer.now)
-fitting-1 c =
-    (omega (arith, c.least-n.ensures, counted-2 c), omega (arith, c.least-n.ensures, (resumed _ (passed-3 c)).1, c.if-buffer-lt-FRAME.false))
+fitting_1 c =
+    (omega (arith, c.least-n.ensures, counted_2 c), omega (arith, c.least-n.ensures, (resumed _ (passed_3 c)).1, c.if-buffer-lt-FRAME.false))
 
 pub slice_bounds-copy-end : goal.slice_bounds-copy-end
-slice_bounds-copy-end c = (fitting-1 c).0
+slice_bounds-copy-end c = (fitting_1 c).0
 
 -- the record passes its rule
-passed-4 : (c : goal.After-next_item-scan) → let st = c.args.parser.scan in is_resumable st ≡ true
-passed-4 c = sym c.is_resumable.ensures ∙ c.if-not-is_resumable.false
+passed_4 : (c : goal.After-next_item-scan) → let st = c.args.parser.scan in is_resumable st ≡ true
+passed_4 c = sym c.is_resumable.ensures ∙ c.if-not-is_resumable.false
 
 -- how far the run went
-counted-3 : (c : goal.After-next_item-scan) → let a = c.args in
+counted_3 : (c : goal.After-next_item-scan) → let a = c.args in
     (a.parser.scan.at ≤ c.run_on-next.result.at) × (c.run_on-next.result.at ≤ a.parser.scan.at + length a.piece.now)
-counted-3 c =
+counted_3 c =
     let a = c.args in
     let n = scan_counts a.piece.now a.parser.scan in
     (omega (arith, n.onward, ap (λ z. z.at) c.run_on-next.ensures.0), omega (arith, n.most, ap (λ z. z.at) c.run_on-next.ensures.0))
 
 -- what was taken has room in the buffer
-fitting-2 : (c : goal.After-next_item-scan) → let a = c.args in
+fitting_2 : (c : goal.After-next_item-scan) → let a = c.args in
     (c.least-n.result ≤ length a.piece.now) × (a.parser.scan.at + c.least-n.result ≤ length a.buffer.now)
-fitting-2 c =
-    (omega (arith, c.least-n.ensures, counted-3 c), omega (arith, c.least-n.ensures, (resumed _ (passed-4 c)).1, c.if-buffer-lt-FRAME.false))
+fitting_2 c =
+    (omega (arith, c.least-n.ensures, counted_3 c), omega (arith, c.least-n.ensures, (resumed _ (passed_4 c)).1, c.if-buffer-lt-FRAME.false))
 
 pub returns : goal.returns
 returns c =
     let a = c.args in
     let n = c.least-n.result in
     let all : n - 0 ≡ n = omega arith in
-    let fits = fitting-2 c in
+    let fits = fitting_2 c in
     let next = c.run_on-next.result in
     let same : next.crlf ≡ a.parser.scan.crlf = ap (λ z. z.crlf) c.run_on-next.ensures.0 ∙ (scan_counts a.piece.now a.parser.scan).same_ends in
-    let g = gives_reply a.parser.scan a.buffer.now a.piece.now c.if-buffer-lt-FRAME.false (passed-4 c) c.run_on-next.result c.run_on-next.ensures.0 in (
+    let g = gives_reply a.parser.scan a.buffer.now a.piece.now c.if-buffer-lt-FRAME.false (passed_4 c) c.run_on-next.result c.run_on-next.ensures.0 in (
       ap (λ z. replied z (c.run_on-next.result.at - a.parser.scan.at)) c.reply-reply.ensures ∙ g.0,
       c.next_item-scan.ensures ∙ ap (λ w. cond (is_whole next) (nothing_read w) next) same ∙ g.1,
       c.copy.ensures ∙ ap (λ m. copied a.buffer.now a.parser.scan.at (take m a.piece.now)) all

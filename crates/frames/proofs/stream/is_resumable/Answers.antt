@@ -14,18 +14,18 @@ returns-then-not-is_valid c =
     rw (sym (valid_test c.args.st v.result v.ensures) ∙ c.if-not-is_valid.true)
 
 -- past the first test the state is valid
-valid-1 : (c : goal.Then-st-gt-HELD) → is_valid c.args.st ≡ true
-valid-1 c =
+valid_1 : (c : goal.Then-st-gt-HELD) → is_valid c.args.st ≡ true
+valid_1 c =
     let v = c.is_valid in
     sym (valid_test c.args.st v.result v.ensures) ∙ c.if-not-is_valid.false
 
 pub returns-then-st-gt-HELD : goal.returns-then-st-gt-HELD
 unfolding is_resumable
-returns-then-st-gt-HELD c = rw (valid-1 c, lt-leb _ _ c.if-st-gt-HELD.true)
+returns-then-st-gt-HELD c = rw (valid_1 c, lt-leb _ _ c.if-st-gt-HELD.true)
 
 -- past the first test the state is valid
-valid-2 : (c : goal.Then-not-fits_version) → is_valid c.args.st ≡ true
-valid-2 c =
+valid_2 : (c : goal.Then-not-fits_version) → is_valid c.args.st ≡ true
+valid_2 c =
     let v = c.is_valid in
     sym (valid_test c.args.st v.result v.ensures) ∙ c.if-not-is_valid.false
 
@@ -33,11 +33,11 @@ pub returns-then-not-fits_version : goal.returns-then-not-fits_version
 unfolding is_resumable
 returns-then-not-fits_version c =
     let w = c.fits_version in
-    rw (valid-2 c, le-leb _ _ c.if-st-gt-HELD.false, sym w.ensures ∙ c.if-not-fits_version.true)
+    rw (valid_2 c, le-leb _ _ c.if-st-gt-HELD.false, sym w.ensures ∙ c.if-not-fits_version.true)
 
 -- past the first test the state is valid
-valid-3 : (c : goal.Then-st-lt-HEART_BEAT_READ) → is_valid c.args.st ≡ true
-valid-3 c =
+valid_3 : (c : goal.Then-st-lt-HEART_BEAT_READ) → is_valid c.args.st ≡ true
+valid_3 c =
     let v = c.is_valid in
     sym (valid_test c.args.st v.result v.ensures) ∙ c.if-not-is_valid.false
 
@@ -46,15 +46,15 @@ unfolding is_resumable
 returns-then-st-lt-HEART_BEAT_READ c =
     let w = c.fits_version in
     rw (
-      valid-3 c,
+      valid_3 c,
       le-leb _ _ c.if-st-gt-HELD.false,
       sym w.ensures ∙ c.if-not-fits_version.false,
       lt-ltb _ _ c.if-st-lt-HEART_BEAT_READ.true,
     )
 
 -- past the first test the state is valid
-valid-4 : (c : goal.After-is_number) → is_valid c.args.st ≡ true
-valid-4 c =
+valid_4 : (c : goal.After-is_number) → is_valid c.args.st ≡ true
+valid_4 c =
     let v = c.is_valid in
     sym (valid_test c.args.st v.result v.ensures) ∙ c.if-not-is_valid.false
 
@@ -63,7 +63,7 @@ unfolding is_resumable
 returns c =
     let w = c.fits_version in
     rw (
-      valid-4 c,
+      valid_4 c,
       le-leb _ _ c.if-st-gt-HELD.false,
       sym w.ensures ∙ c.if-not-fits_version.false,
       le-ltb _ _ c.if-st-lt-HEART_BEAT_READ.false,

@@ -16,8 +16,8 @@ record Told (state buffer piece left : List ℕ) (scan : Scan) (f : Fed) : Type 
   leaves : scan ≡ feed_state (read_record state) buffer piece
   holds : left ≡ feed_buffer (read_record state) buffer piece
 
-told-1 : (c : goal.After-write_record-arg-in-Replied-1) (f : Fed) → c.feed-step.result.answer ≡ f → Told c.args.state.now c.args.buffer.now c.args.piece.now c.feed-step.new.buffer c.feed-step.result.parser.scan f
-told-1 c f e =
+told_1 : (c : goal.After-write_record-arg-in-Replied-1) (f : Fed) → c.feed-step.result.answer ≡ f → Told c.args.state.now c.args.buffer.now c.args.piece.now c.feed-step.new.buffer c.feed-step.result.parser.scan f
+told_1 c f e =
     let a = c.args in
     let is = c.read_record-scan.ensures in
     record {
@@ -28,10 +28,10 @@ told-1 c f e =
 
 -- src/stream_calls.rt:163:13
 pub write_record-requires : goal.write_record-requires
-write_record-requires c = (replies _ _ _ _ _ (told-1 c _ c.in-Replied.is).answers).long
+write_record-requires c = (replies _ _ _ _ _ (told_1 c _ c.in-Replied.is).answers).long
 
-told-2 : (c : goal.After-slice_known-in-Replied-1) (f : Fed) → c.feed-step.result.answer ≡ f → Told c.args.state.now c.args.buffer.now c.args.piece.now c.feed-step.new.buffer c.feed-step.result.parser.scan f
-told-2 c f e =
+told_2 : (c : goal.After-slice_known-in-Replied-1) (f : Fed) → c.feed-step.result.answer ≡ f → Told c.args.state.now c.args.buffer.now c.args.piece.now c.feed-step.new.buffer c.feed-step.result.parser.scan f
+told_2 c f e =
     let a = c.args in
     let is = c.read_record-scan.ensures in
     record {
@@ -42,10 +42,10 @@ told-2 c f e =
 
 -- src/stream_calls.rt:164:13
 pub pack_taken-requires : goal.pack_taken-requires
-pack_taken-requires c = let r = replies _ _ _ _ _ (told-2 c _ c.in-Replied.is).answers in (r.packs, r.few)
+pack_taken-requires c = let r = replies _ _ _ _ _ (told_2 c _ c.in-Replied.is).answers in (r.packs, r.few)
 
-told-3 : (c : goal.After-pack_taken) (f : Fed) → c.feed-step.result.answer ≡ f → Told c.args.state.now c.args.buffer.now c.args.piece.now c.feed-step.new.buffer c.feed-step.result.parser.scan f
-told-3 c f e =
+told_3 : (c : goal.After-pack_taken) (f : Fed) → c.feed-step.result.answer ≡ f → Told c.args.state.now c.args.buffer.now c.args.piece.now c.feed-step.new.buffer c.feed-step.result.parser.scan f
+told_3 c f e =
     let a = c.args in
     let is = c.read_record-scan.ensures in
     record {
@@ -58,14 +58,14 @@ told-3 c f e =
 pub returns-in-Replied : goal.returns-in-Replied
 returns-in-Replied c =
     let a = c.args in
-    let t = told-3 c _ c.in-Replied.is in (
+    let t = told_3 c _ c.in-Replied.is in (
       c.pack_taken.ensures ∙ ap packed_feed t.answers,
       c.write_record.ensures ∙ ap record_of t.leaves ∙ ap (λ z. record_left z (feed_state (read_record a.state.now) a.buffer.now a.piece.now) a.state.now) t.answers,
       t.holds,
     )
 
-told-4 : (c : goal.In-ShortBuffer) (f : Fed) → c.feed-step.result.answer ≡ f → Told c.args.state.now c.args.buffer.now c.args.piece.now c.feed-step.new.buffer c.feed-step.result.parser.scan f
-told-4 c f e =
+told_4 : (c : goal.In-ShortBuffer) (f : Fed) → c.feed-step.result.answer ≡ f → Told c.args.state.now c.args.buffer.now c.args.piece.now c.feed-step.new.buffer c.feed-step.result.parser.scan f
+told_4 c f e =
     let a = c.args in
     let is = c.read_record-scan.ensures in
     record {
@@ -78,11 +78,11 @@ told-4 c f e =
 pub returns-in-ShortBuffer : goal.returns-in-ShortBuffer
 returns-in-ShortBuffer c =
     let a = c.args in
-    let t = told-4 c _ c.in-ShortBuffer.is in
+    let t = told_4 c _ c.in-ShortBuffer.is in
     (ap packed_feed t.answers, ap (λ z. record_left z (feed_state (read_record a.state.now) a.buffer.now a.piece.now) a.state.now) t.answers, t.holds)
 
-told-5 : (c : goal.In-InvalidParser) (f : Fed) → c.feed-step.result.answer ≡ f → Told c.args.state.now c.args.buffer.now c.args.piece.now c.feed-step.new.buffer c.feed-step.result.parser.scan f
-told-5 c f e =
+told_5 : (c : goal.In-InvalidParser) (f : Fed) → c.feed-step.result.answer ≡ f → Told c.args.state.now c.args.buffer.now c.args.piece.now c.feed-step.new.buffer c.feed-step.result.parser.scan f
+told_5 c f e =
     let a = c.args in
     let is = c.read_record-scan.ensures in
     record {
@@ -95,5 +95,5 @@ told-5 c f e =
 pub returns-in-InvalidParser : goal.returns-in-InvalidParser
 returns-in-InvalidParser c =
     let a = c.args in
-    let t = told-5 c _ c.in-InvalidParser.is in
+    let t = told_5 c _ c.in-InvalidParser.is in
     (ap packed_feed t.answers, ap (λ z. record_left z (feed_state (read_record a.state.now) a.buffer.now a.piece.now) a.state.now) t.answers, t.holds)

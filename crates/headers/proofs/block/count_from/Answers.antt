@@ -17,39 +17,39 @@ loop-l-init c =
     let a = c.args in
     (omega arith, plus_zero a.name.now a.at (entries (drop a.at a.block.now)))
 
-here-1 : (c : goal.In-Entry) → Placed c.args.block.now c.loop-l.i c.in-Entry.l
-here-1 c = told_entry c.args.block.now c.loop-l.i c.entry_at.result c.in-Entry.l c.entry_at.ensures c.in-Entry.is
+here_1 : (c : goal.In-Entry) → Placed c.args.block.now c.loop-l.i c.in-Entry.l
+here_1 c = told_entry c.args.block.now c.loop-l.i c.entry_at.result c.in-Entry.l c.entry_at.ensures c.in-Entry.is
 
 pub overflow_add-from : goal.overflow_add-from
-overflow_add-from c = omega (arith, (here-1 c).inside)
+overflow_add-from c = omega (arith, (here_1 c).inside)
 
-here-2 : (c : goal.After-struct_known-1) → Placed c.args.block.now c.loop-l.i c.in-Entry.l
-here-2 c = told_entry c.args.block.now c.loop-l.i c.entry_at.result c.in-Entry.l c.entry_at.ensures c.in-Entry.is
+here_2 : (c : goal.After-struct_known-1) → Placed c.args.block.now c.loop-l.i c.in-Entry.l
+here_2 c = told_entry c.args.block.now c.loop-l.i c.entry_at.result c.in-Entry.l c.entry_at.ensures c.in-Entry.is
 
 pub overflow_add-start : goal.overflow_add-start
-overflow_add-start c = omega (arith, (here-2 c).inside)
+overflow_add-start c = omega (arith, (here_2 c).inside)
 
-here-3 : (c : goal.After-struct_known-in-Entry-1) → Placed c.args.block.now c.loop-l.i c.in-Entry.l
-here-3 c = told_entry c.args.block.now c.loop-l.i c.entry_at.result c.in-Entry.l c.entry_at.ensures c.in-Entry.is
+here_3 : (c : goal.After-struct_known-in-Entry-1) → Placed c.args.block.now c.loop-l.i c.in-Entry.l
+here_3 c = told_entry c.args.block.now c.loop-l.i c.entry_at.result c.in-Entry.l c.entry_at.ensures c.in-Entry.is
 
 pub overflow_add-i : goal.overflow_add-i
-overflow_add-i c = omega (arith, (here-3 c).inside)
+overflow_add-i c = omega (arith, (here_3 c).inside)
 
 pub slice_bounds-equal-end : goal.slice_bounds-equal-end
-slice_bounds-equal-end c = omega (arith, (here-3 c).inside)
+slice_bounds-equal-end c = omega (arith, (here_3 c).inside)
 
-here-4 : (c : goal.Then-equal) → Placed c.args.block.now c.loop-l.i c.in-Entry.l
-here-4 c = told_entry c.args.block.now c.loop-l.i c.entry_at.result c.in-Entry.l c.entry_at.ensures c.in-Entry.is
+here_4 : (c : goal.Then-equal) → Placed c.args.block.now c.loop-l.i c.in-Entry.l
+here_4 c = told_entry c.args.block.now c.loop-l.i c.entry_at.result c.in-Entry.l c.entry_at.ensures c.in-Entry.is
 
 pub overflow_add-count : goal.overflow_add-count
 overflow_add-count c =
-    omega (arith, (here-4 c).inside, c.loop-l.invariant.0)
+    omega (arith, (here_4 c).inside, c.loop-l.invariant.0)
 
 pub loop-l-smaller-then-equal : goal.loop-l-smaller-then-equal
-loop-l-smaller-then-equal c = omega (arith, (here-4 c).inside)
+loop-l-smaller-then-equal c = omega (arith, (here_4 c).inside)
 
-compared-1 : (c : goal.Then-equal) → same (placed c.args.block.now c.loop-l.i c.in-Entry.l).name c.args.name.now ≡ c.equal.result
-compared-1 c =
+compared_1 : (c : goal.Then-equal) → same (placed c.args.block.now c.loop-l.i c.in-Entry.l).name c.args.name.now ≡ c.equal.result
+compared_1 c =
     let n : c.loop-l.i + 6 + c.in-Entry.l.name - (c.loop-l.i + 6) ≡ c.in-Entry.l.name = omega arith in
     sym (c.equal.ensures ∙ ap (λ k. same (take k (drop (c.loop-l.i + 6) c.args.block.now)) c.args.name.now) n)
 
@@ -57,18 +57,18 @@ pub loop-l-preserved-then-equal : goal.loop-l-preserved-then-equal
 loop-l-preserved-then-equal c =
     let i = c.loop-l in (
       omega (arith, i.invariant.0),
-      i.invariant.1 ∙ ap (plus i.count) (count_counts c.args.block.now c.args.name.now c.loop-l.i c.in-Entry.l (here-4 c) (compared-1 c ∙ c.if-equal.true))
+      i.invariant.1 ∙ ap (plus i.count) (count_counts c.args.block.now c.args.name.now c.loop-l.i c.in-Entry.l (here_4 c) (compared_1 c ∙ c.if-equal.true))
           ∙ plus_plus i.count 1 (count_from c.args.name.now (place_behind c.loop-l.i c.in-Entry.l) (entries (drop (place_behind c.loop-l.i c.in-Entry.l) c.args.block.now))),
     )
 
-here-5 : (c : goal.Else-equal) → Placed c.args.block.now c.loop-l.i c.in-Entry.l
-here-5 c = told_entry c.args.block.now c.loop-l.i c.entry_at.result c.in-Entry.l c.entry_at.ensures c.in-Entry.is
+here_5 : (c : goal.Else-equal) → Placed c.args.block.now c.loop-l.i c.in-Entry.l
+here_5 c = told_entry c.args.block.now c.loop-l.i c.entry_at.result c.in-Entry.l c.entry_at.ensures c.in-Entry.is
 
 pub loop-l-smaller : goal.loop-l-smaller
-loop-l-smaller c = omega (arith, (here-5 c).inside)
+loop-l-smaller c = omega (arith, (here_5 c).inside)
 
-compared-2 : (c : goal.Else-equal) → same (placed c.args.block.now c.loop-l.i c.in-Entry.l).name c.args.name.now ≡ c.equal.result
-compared-2 c =
+compared_2 : (c : goal.Else-equal) → same (placed c.args.block.now c.loop-l.i c.in-Entry.l).name c.args.name.now ≡ c.equal.result
+compared_2 c =
     let n : c.loop-l.i + 6 + c.in-Entry.l.name - (c.loop-l.i + 6) ≡ c.in-Entry.l.name = omega arith in
     sym (c.equal.ensures ∙ ap (λ k. same (take k (drop (c.loop-l.i + 6) c.args.block.now)) c.args.name.now) n)
 
@@ -76,13 +76,13 @@ pub loop-l-preserved : goal.loop-l-preserved
 loop-l-preserved c =
     let i = c.loop-l in (
       omega (arith, i.invariant.0),
-      i.invariant.1 ∙ ap (plus i.count) (count_passes c.args.block.now c.args.name.now c.loop-l.i c.in-Entry.l (here-5 c) (compared-2 c ∙ c.if-equal.false)),
+      i.invariant.1 ∙ ap (plus i.count) (count_passes c.args.block.now c.args.name.now c.loop-l.i c.in-Entry.l (here_5 c) (compared_2 c ∙ c.if-equal.false)),
     )
 
-ended-1 : (c : goal.In-End) (o : Option (List Entry)) → entries ((drop c.loop-l.i c.args.block.now)) ≡ o
+ended_1 : (c : goal.In-End) (o : Option (List Entry)) → entries ((drop c.loop-l.i c.args.block.now)) ≡ o
     → let a = c.args in
     plus c.loop-l.count (count_from a.name.now c.loop-l.i o) ≡ count_from a.name.now a.at (entries (drop a.at a.block.now))
-ended-1 c o h =
+ended_1 c o h =
     let a = c.args in
     sym (c.loop-l.invariant.1 ∙ ap (λ z. plus c.loop-l.count (count_from a.name.now c.loop-l.i z)) h)
 
@@ -90,14 +90,14 @@ pub returns-in-End : goal.returns-in-End
 unfolding spans
 returns-in-End c =
     let z : c.loop-l.count ≡ c.loop-l.count + 0 = omega arith in
-    ap (λ k. accepted (k ∷ [])) z ∙ ended-1 c (some []) (told_end _ _ c.entry_at.ensures c.in-End.is)
+    ap (λ k. accepted (k ∷ [])) z ∙ ended_1 c (some []) (told_end _ _ c.entry_at.ensures c.in-End.is)
 
-ended-2 : (c : goal.In-Malformed) (o : Option (List Entry)) → entries ((drop c.loop-l.i c.args.block.now)) ≡ o
+ended_2 : (c : goal.In-Malformed) (o : Option (List Entry)) → entries ((drop c.loop-l.i c.args.block.now)) ≡ o
     → let a = c.args in
     plus c.loop-l.count (count_from a.name.now c.loop-l.i o) ≡ count_from a.name.now a.at (entries (drop a.at a.block.now))
-ended-2 c o h =
+ended_2 c o h =
     let a = c.args in
     sym (c.loop-l.invariant.1 ∙ ap (λ z. plus c.loop-l.count (count_from a.name.now c.loop-l.i z)) h)
 
 pub returns-in-Malformed : goal.returns-in-Malformed
-returns-in-Malformed c = ended-2 c none (told_malformed _ _ c.entry_at.ensures c.in-Malformed.is)
+returns-in-Malformed c = ended_2 c none (told_malformed _ _ c.entry_at.ensures c.in-Malformed.is)

@@ -40,14 +40,14 @@ returns-in_default-text_length c = let a = c.args in
     sym (length_no a.style e (no_value_text a.style e (told_refused _ _ 53 (sym (ap length_says c.in_default-text_length.is) ∙ c.text_length-2.ensures))))
 
 -- what the two lengths are, and that both texts can be written
-abbrev Told-1 : goal.Then-not-both_fit-2 → Type 0
-Told-1 c =
+abbrev Told_1 : goal.Then-not-both_fit-2 → Type 0
+Told_1 c =
     let a = c.args in
     ((can_stand a.style Name a.name.now ≡ true) × (c.in-Length.n ≡ length (encode a.style a.name.now)))
     × ((can_stand a.style Value a.value.now ≡ true) × (c.in-Length-text_length.v ≡ length (encode a.style a.value.now)))
 
-told-1 : (c : goal.Then-not-both_fit-2) → Told-1 c
-told-1 c = (
+told_1 : (c : goal.Then-not-both_fit-2) → Told_1 c
+told_1 c = (
   told_accepted _ _ _ (sym (ap length_says c.in-Length.is) ∙ c.text_length.ensures),
   told_accepted _ _ _ (sym (ap length_says c.in-Length-text_length.is) ∙ c.text_length-2.ensures),
 )
@@ -57,7 +57,7 @@ returns-then-not-both_fit-2 c = let a = c.args in
     let e = entry_of a.name.now a.value.now in
     sym
     (length_no a.style e
-    (no_room a.style e (omega (arith, raw_long a.style e, told-1 c, leb-false, sym c.both_fit-2.ensures ∙ c.if-not-both_fit-2.true))))
+    (no_room a.style e (omega (arith, raw_long a.style e, told_1 c, leb-false, sym c.both_fit-2.ensures ∙ c.if-not-both_fit-2.true))))
 
 pub overflow_add-result : goal.overflow_add-result
 overflow_add-result c = omega (arith, leb-true, sym c.both_fit-2.ensures ∙ c.if-not-both_fit-2.false)
@@ -66,14 +66,14 @@ pub overflow_add-result-2 : goal.overflow_add-result-2
 overflow_add-result-2 c = omega (arith, leb-true, sym c.both_fit-2.ensures ∙ c.if-not-both_fit-2.false)
 
 -- what the two lengths are, and that both texts can be written
-abbrev Told-2 : goal.Else-not-both_fit-2 → Type 0
-Told-2 c =
+abbrev Told_2 : goal.Else-not-both_fit-2 → Type 0
+Told_2 c =
     let a = c.args in
     ((can_stand a.style Name a.name.now ≡ true) × (c.in-Length.n ≡ length (encode a.style a.name.now)))
     × ((can_stand a.style Value a.value.now ≡ true) × (c.in-Length-text_length.v ≡ length (encode a.style a.value.now)))
 
-told-2 : (c : goal.Else-not-both_fit-2) → Told-2 c
-told-2 c = (
+told_2 : (c : goal.Else-not-both_fit-2) → Told_2 c
+told_2 c = (
   told_accepted _ _ _ (sym (ap length_says c.in-Length.is) ∙ c.text_length.ensures),
   told_accepted _ _ _ (sym (ap length_says c.in-Length-text_length.is) ∙ c.text_length-2.ensures),
 )
@@ -81,7 +81,7 @@ told-2 c = (
 pub returns : goal.returns
 returns c = let a = c.args in
     let e = entry_of a.name.now a.value.now in
-    let ((name, n), (value, v)) = told-2 c in
+    let ((name, n), (value, v)) = told_2 c in
     let long = raw_long a.style e in
     let ok =
     can a.style e (empty_not a.name.now (λ q. c.if-name-eq0.false (ap length q)))

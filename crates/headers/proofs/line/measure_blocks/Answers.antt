@@ -20,30 +20,30 @@ module _ (s : Style) (xs : List ℕ) (i k : ℕ) where
   abbrev part : List ℕ
   part = take (i + 32 - i) (drop i xs)
 
-  part-more : (n : ℕ) → i + 32 ≤ length xs → k + length part ≡ length (encode s part)
+  part_more : (n : ℕ) → i + 32 ≤ length xs → k + length part ≡ length (encode s part)
       → n + length (encode s (drop i xs)) ≡ length (encode s xs) + (length xs - i)
       → n + k + length (encode s (drop (i + 32) xs)) ≡ length (encode s xs) + (length xs - (i + 32))
-  part-more n h e w =
+  part_more n h e w =
       omega (arith, e, w, part_long xs i (i + 32) (omega arith) h, simp length-append at (ap length (encode_part s xs i (i + 32) (omega arith))))
 
 -- the last block, as it is handed on
 abbrev block : List ℕ → List ℕ
 block xs = take (length xs - (length xs - 32)) (drop (length xs - 32) xs)
 
-block-whole : (xs : List ℕ) → block xs ≡ drop (length xs - 32) xs
-block-whole xs = take_all (length xs - (length xs - 32)) (drop (length xs - 32) xs) (simp length-drop (omega arith))
+block_whole : (xs : List ℕ) → block xs ≡ drop (length xs - 32) xs
+block_whole xs = take_all (length xs - (length xs - 32)) (drop (length xs - 32) xs) (simp length-drop (omega arith))
 
-block-rest : (xs : List ℕ) (i : ℕ) → length xs - 32 ≤ i → drop (i - (length xs - 32)) (block xs) ≡ drop i xs
-block-rest xs i h =
+block_rest : (xs : List ℕ) (i : ℕ) → length xs - 32 ≤ i → drop (i - (length xs - 32)) (block xs) ≡ drop i xs
+block_rest xs i h =
     let on : length xs - 32 + (i - (length xs - 32)) ≡ i = omega arith in
-    ap (drop (i - (length xs - 32))) (block-whole xs) ∙ drop-drop (i - (length xs - 32)) (length xs - 32) xs ∙ ap (λ k. drop k xs) on
+    ap (drop (i - (length xs - 32))) (block_whole xs) ∙ drop-drop (i - (length xs - 32)) (length xs - 32) xs ∙ ap (λ k. drop k xs) on
 
 -- what is left of the text, where k of its octets are escaped
-left-more : (s : Style) (xs : List ℕ) (n i k : ℕ) → i ≤ length xs → length xs - 32 ≤ i
+left_more : (s : Style) (xs : List ℕ) (n i k : ℕ) → i ≤ length xs → length xs - 32 ≤ i
     → k + length (drop (i - (length xs - 32)) (block xs)) ≡ length (encode s (drop (i - (length xs - 32)) (block xs)))
     → n + length (encode s (drop i xs)) ≡ length (encode s xs) + (length xs - i) → n + k ≡ length (encode s xs)
-left-more s xs n i k h far e w =
-    let rest = block-rest xs i far in
+left_more s xs n i k h far e w =
+    let rest = block_rest xs i far in
     omega (arith, e, w, ap length rest, ap (λ z. length (encode s z)) rest, length-drop i xs)
 
 pub loop-i-init : goal.loop-i-init
@@ -59,7 +59,7 @@ overflow_add-n c =
       arith,
       c.requires.1,
       encode_twice c.args.style xs,
-      part-more c.args.style xs l.i k l.n fits c.tally_block-t.ensures.0 l.invariant.1,
+      part_more c.args.style xs l.i k l.n fits c.tally_block-t.ensures.0 l.invariant.1,
     )
 
 pub loop-i-preserved : goal.loop-i-preserved
@@ -69,7 +69,7 @@ loop-i-preserved c =
     let t = c.tally_block-t in
     let fits : l.i + 32 ≤ length a.text.now = omega (arith, l.invariant.0, c.loop-i-test.true) in (
       fits,
-      part-more a.style a.text.now l.i t.result.escapes l.n fits t.ensures.0 l.invariant.1,
+      part_more a.style a.text.now l.i t.result.escapes l.n fits t.ensures.0 l.invariant.1,
       rw (c.larger-most.ensures, t.ensures.1) (every_block ascii a.text.now l.i (ltb l.most 128) (l.i + 32) (omega arith) ∙ l.invariant.2),
     )
 
@@ -82,7 +82,7 @@ overflow_add-result c =
       arith,
       c.requires.1,
       encode_twice c.args.style xs,
-      left-more c.args.style xs l.n l.i t.result.escapes l.invariant.0 (omega (arith, c.loop-i-test.false))
+      left_more c.args.style xs l.n l.i t.result.escapes l.invariant.0 (omega (arith, c.loop-i-test.false))
           t.ensures.0 l.invariant.1,
     )
 
@@ -94,7 +94,7 @@ returns c =
     let t = c.tally_block-t-2 in
     let far : length xs - 32 ≤ l.i = omega (arith, c.loop-i-test.false) in (
       refl,
-      left-more a.style xs l.n l.i t.result.escapes l.invariant.0 far t.ensures.0 l.invariant.1,
-      c.larger.ensures ∙ ap (ltb l.most 128 &&◌) (t.ensures.1 ∙ ap (every ascii) (block-whole xs))
+      left_more a.style xs l.n l.i t.result.escapes l.invariant.0 far t.ensures.0 l.invariant.1,
+      c.larger.ensures ∙ ap (ltb l.most 128 &&◌) (t.ensures.1 ∙ ap (every ascii) (block_whole xs))
           ∙ every_last_block ascii xs l.i (ltb l.most 128) (length xs - 32) far l.invariant.2,
     )

@@ -22,8 +22,8 @@ use Rattle.headers.proofs.line.measure_short.Goals as goal
 abbrev filling : List ℕ → List ℕ
 filling xs = drop (length xs) (replicate 32 0)
 
-zero-bare : (s : Style) → bare s 0 ≡ true
-zero-bare s = by s.escapes s.crlf
+zero_bare : (s : Style) → bare s 0 ≡ true
+zero_bare s = by s.escapes s.crlf
   where
     by : (e c : Bool) → bare (styled e c) 0 ≡ true
     by true true = refl
@@ -43,7 +43,7 @@ module _ (s : Style) (xs block : List ℕ) (short : length xs < 32) (is : block 
   written : encode s block ≡ encode s xs ++ filling xs
   written =
       ap (encode s) filled ∙ encode_append s xs (filling xs)
-      ∙ ap (encode s xs ++◌) (encode_bare s (filling xs) (every_drop (bare s) (length xs) (replicate 32 0) (every_replicate (bare s) 32 0 (zero-bare s))))
+      ∙ ap (encode s xs ++◌) (encode_bare s (filling xs) (every_drop (bare s) (length xs) (replicate 32 0) (every_replicate (bare s) 32 0 (zero_bare s))))
 
   counted : (k : ℕ) → k + length block ≡ length (encode s block) → length xs + k ≡ length (encode s xs)
   counted k e =

@@ -6,7 +6,7 @@ use native.Mathlib.Omega.{arith}
 use lib.Dec.{ltb}
 use Rattle.headers.specs.Text.{ascii}
 use Rattle.headers.proofs.Stretches.{every_more, every_done}
-use Rattle.headers.proofs.line.tally_block.Invariants.{since_none, since-more, since-all, here}
+use Rattle.headers.proofs.line.tally_block.Invariants.{since_none, since_more, since_all, here}
 use Rattle.headers.proofs.line.tally_block.Goals as goal
 
 few : (t : Bool) (n : ℕ) → n ≡ cond t 1 0 → n ≤ 1
@@ -31,7 +31,7 @@ loop-i-preserved c =
     let e = c.escape_count-escapes in (
       omega (arith, t),
       omega (arith, l.invariant.1, few (here a.style a.block.now a.from l.i) _ e.ensures),
-      since-more a.style a.block.now a.from l.escapes l.i e.result t e.ensures l.invariant.2,
+      since_more a.style a.block.now a.from l.escapes l.i e.result t e.ensures l.invariant.2,
       rw c.larger-most.ensures (every_more ascii a.block.now l.i (ltb l.most 128) t ∙ l.invariant.3),
     )
 
@@ -39,6 +39,6 @@ pub returns : goal.returns
 returns c =
     let l = c.loop-i in
     let a = c.args in (
-      since-all a.style a.block.now a.from l.escapes l.i c.loop-i-test.false l.invariant.0 (omega (arith, c.requires.0, c.requires.1)) l.invariant.2,
+      since_all a.style a.block.now a.from l.escapes l.i c.loop-i-test.false l.invariant.0 (omega (arith, c.requires.0, c.requires.1)) l.invariant.2,
       sym (every_done ascii a.block.now l.i (ltb l.most 128) c.loop-i-test.false) ∙ l.invariant.3,
     )

@@ -14,8 +14,8 @@ use Rattle.headers.proofs.Rows.{and_no, and_yes}
 use Rattle.headers.proofs.Coding.{encode_step, encode_end}
 use Rattle.headers.proofs.line.tally_block.Given as goal
 
-pub octet-long : (s : Style) (x : ℕ) → length (encode_octet s x) ≡ 1 + cond (escaped s x) 1 0
-octet-long s x = by (escaped s x)
+pub octet_long : (s : Style) (x : ℕ) → length (encode_octet s x) ≡ 1 + cond (escaped s x) 1 0
+octet_long s x = by (escaped s x)
   where
     by : (t : Bool) → length (cond t (92 ∷ letter_of s x ∷ []) (x ∷ [])) ≡ 1 + cond t 1 0
     by true = refl
@@ -33,8 +33,8 @@ module _ (s : Style) (xs : List ℕ) (from : ℕ) where
   pub since_none : Since 0 0
   since_none = (λ h. refl, λ h. let e : from ≡ 0 = omega arith in omega (arith, ap (λ k. length (encode s (drop k xs))) e))
 
-  pub since-more : (n i c : ℕ) → i < length xs → c ≡ cond (escaped s (get_or xs i 0) && leb from i) 1 0 → Since n i → Since (n + c) (i + 1)
-  since-more n i c h e (none, some) = by (leb from i) refl
+  pub since_more : (n i c : ℕ) → i < length xs → c ≡ cond (escaped s (get_or xs i 0) && leb from i) 1 0 → Since n i → Since (n + c) (i + 1)
+  since_more n i c h e (none, some) = by (leb from i) refl
     where
       by : (t : Bool) → leb from i ≡ t → Since (n + c) (i + 1)
       by true q =
@@ -42,7 +42,7 @@ module _ (s : Style) (xs : List ℕ) (from : ℕ) where
           let one : c ≡ cond (escaped s (get_or xs i 0)) 1 0 =
           e ∙ ap (λ t. cond (escaped s (get_or xs i 0) && t) 1 0) q ∙ ap (λ t. cond t 1 0) (and_yes (escaped s (get_or xs i 0))) in (
             λ k. absurd (omega arith),
-            λ k. omega (arith, some near, one, octet-long s (get_or xs i 0), simp length-append at (ap length (encode_step s xs i h))),
+            λ k. omega (arith, some near, one, octet_long s (get_or xs i 0), simp length-append at (ap length (encode_step s xs i h))),
           )
       by false q =
           let far = leb-false from i q in
@@ -53,8 +53,8 @@ module _ (s : Style) (xs : List ℕ) (from : ℕ) where
                 omega (arith, none (omega arith), zero, ap (λ k. length (encode s (drop k xs))) here),
           )
 
-  pub since-all : (n i : ℕ) → length xs ≤ i → i ≤ length xs → from ≤ length xs → Since n i → n + length (drop from xs) ≡ length (encode s (drop from xs))
-  since-all n i h k l (none, some) = omega (arith, some (omega arith), length-drop from xs, ap length (encode_end s xs i h))
+  pub since_all : (n i : ℕ) → length xs ≤ i → i ≤ length xs → from ≤ length xs → Since n i → n + length (drop from xs) ≡ length (encode s (drop from xs))
+  since_all n i h k l (none, some) = omega (arith, some (omega arith), length-drop from xs, ap length (encode_end s xs i h))
 
 abbrev pub invariant-loop-i : goal.invariant-loop-i
 invariant-loop-i l = (l.i ≤ length l.block) × (l.escapes ≤ l.i) × Since l.style l.block l.from l.escapes l.i × (ltb l.most 128 && every ascii (drop l.i l.block) ≡ every ascii l.block)

@@ -14,19 +14,19 @@ returns-then-not-both_fit c =
     sym (copied_none a.d.now a.at a.s.now (sym c.both_fit.ensures ∙ c.if-not-both_fit.true))
 
 -- there is room
-fitting-1 : (c : goal.After-put_all-arg-1) → let a = c.args in leb (a.at + length a.s.now) (length a.d.now) ≡ true
-fitting-1 c = sym c.both_fit.ensures ∙ c.if-not-both_fit.false
+fitting_1 : (c : goal.After-put_all-arg-1) → let a = c.args in leb (a.at + length a.s.now) (length a.d.now) ≡ true
+fitting_1 c = sym c.both_fit.ensures ∙ c.if-not-both_fit.false
 
 pub put_all-requires : goal.put_all-requires
 put_all-requires c =
     let a = c.args in
-    leb-true (a.at + length a.s.now) (length a.d.now) (fitting-1 c)
+    leb-true (a.at + length a.s.now) (length a.d.now) (fitting_1 c)
 
 -- there is room
-fitting-2 : (c : goal.After-slice_known-2-1) → let a = c.args in leb (a.at + length a.s.now) (length a.d.now) ≡ true
-fitting-2 c = sym c.both_fit.ensures ∙ c.if-not-both_fit.false
+fitting_2 : (c : goal.After-slice_known-2-1) → let a = c.args in leb (a.at + length a.s.now) (length a.d.now) ≡ true
+fitting_2 c = sym c.both_fit.ensures ∙ c.if-not-both_fit.false
 
 pub returns : goal.returns
 returns c =
     let a = c.args in
-    c.put_all.ensures ∙ sym (copied_all a.d.now a.at a.s.now (fitting-2 c))
+    c.put_all.ensures ∙ sym (copied_all a.d.now a.at a.s.now (fitting_2 c))

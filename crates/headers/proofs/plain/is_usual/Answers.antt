@@ -10,8 +10,8 @@ use Rattle.headers.specs.declared.plain.Stops.{Stops}
 use Rattle.headers.proofs.Rows.{and_left, and_right}
 use Rattle.headers.proofs.plain.is_usual.Goals as goal
 
-colon-apart : (colon x : ℕ) → 14 ≤ x → eqb x 58 ≡ false → ltb colon 14 || eqb colon 58 ≡ true → eqb x colon ≡ false
-colon-apart colon x l n h = by (ltb colon 14) refl h
+colon_apart : (colon x : ℕ) → 14 ≤ x → eqb x 58 ≡ false → ltb colon 14 || eqb colon 58 ≡ true → eqb x colon ≡ false
+colon_apart colon x l n h = by (ltb colon 14) refl h
   where
     by : (t : Bool) → ltb colon 14 ≡ t → t || eqb colon 58 ≡ true → eqb x colon ≡ false
     by true e k = let b = ltb-true colon 14 e in ne_eqb x colon (λ z. absurd (omega arith))
@@ -33,7 +33,7 @@ leaves st h x k =
     rw (
       ne_eqb x 10 (λ z. absurd (omega arith)),
       ne_eqb x st.cr (λ z. absurd (omega arith)),
-      colon-apart st.colon x low n58 (and_right (ltb st.cr 14) _ b),
+      colon_apart st.colon x low n58 (and_right (ltb st.cr 14) _ b),
       ne_eqb x st.back (λ z. eqb-false x 92 n92 (z ∙ back)),
       le-leb x st.top (omega arith),
     )

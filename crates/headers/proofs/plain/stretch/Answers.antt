@@ -11,31 +11,31 @@ use Rattle.headers.proofs.plain.stretch.Goals as goal
 use Rattle.headers.proofs.plain.stretch.Goals.{then-s-lt16, else-s-lt16}
 
 -- the octets that are looked at one by one are of s
-near-1 : (c : goal.After-shared_slice_known-in-loop-i-1-unread) → c.if-s-lt16.e ≤ length c.args.s.now
-near-1 c = elim c.if-s-lt16.branch [ then-s-lt16 w ↦ omega arith | else-s-lt16 w ↦ omega arith ]
+near_1 : (c : goal.After-shared_slice_known-in-loop-i-1-unread) → c.if-s-lt16.e ≤ length c.args.s.now
+near_1 c = elim c.if-s-lt16.branch [ then-s-lt16 w ↦ omega arith | else-s-lt16 w ↦ omega arith ]
 
 pub bounds-s-i : goal.bounds-s-i
-bounds-s-i c = omega (arith, near-1 c)
+bounds-s-i c = omega (arith, near_1 c)
 
 -- the octets that are looked at one by one are of s
-near-2 : (c : goal.Then-s-i-eq92) → c.if-s-lt16.e ≤ length c.args.s.now
-near-2 c = elim c.if-s-lt16.branch [ then-s-lt16 w ↦ omega arith | else-s-lt16 w ↦ omega arith ]
+near_2 : (c : goal.Then-s-i-eq92) → c.if-s-lt16.e ≤ length c.args.s.now
+near_2 c = elim c.if-s-lt16.branch [ then-s-lt16 w ↦ omega arith | else-s-lt16 w ↦ omega arith ]
 
 pub returns-then-s-i-eq92 : goal.returns-then-s-i-eq92
 returns-then-s-i-eq92 c =
     let l = c.loop-i in
     let s = c.args.s.now in
-    stretch_at s l.i (span_stop not_back s l.i (omega (arith, near-2 c, c.loop-i-test.true)) (ap not_back c.if-s-i-eq92.true) ∙ l.invariant.1)
+    stretch_at s l.i (span_stop not_back s l.i (omega (arith, near_2 c, c.loop-i-test.true)) (ap not_back c.if-s-i-eq92.true) ∙ l.invariant.1)
 
 -- the octets that are looked at one by one are of s
-near-3 : (c : goal.Else-s-i-eq92) → c.if-s-lt16.e ≤ length c.args.s.now
-near-3 c = elim c.if-s-lt16.branch [ then-s-lt16 w ↦ omega arith | else-s-lt16 w ↦ omega arith ]
+near_3 : (c : goal.Else-s-i-eq92) → c.if-s-lt16.e ≤ length c.args.s.now
+near_3 c = elim c.if-s-lt16.branch [ then-s-lt16 w ↦ omega arith | else-s-lt16 w ↦ omega arith ]
 
 pub loop-i-preserved : goal.loop-i-preserved
 loop-i-preserved c =
     let l = c.loop-i in
     let s = c.args.s.now in
-    let h : l.i < length s = omega (arith, near-3 c, c.loop-i-test.true) in
+    let h : l.i < length s = omega (arith, near_3 c, c.loop-i-test.true) in
     (omega (arith, h), span_more not_back s l.i h (ap not (ne_eqb _ 92 c.if-s-i-eq92.false)) ∙ l.invariant.1)
 
 -- the rest, by blocks

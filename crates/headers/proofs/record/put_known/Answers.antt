@@ -32,79 +32,79 @@ returns-then-raw-known c =
     (partly_done (alone c) refl)
 
 -- what is known, and what is left to decode
-abbrev whole-1 : goal.After-slice_known-2-1 → List ℕ
-whole-1 c = let a = c.args in kept a.known a.style a.raw.now
+abbrev whole_1 : goal.After-slice_known-2-1 → List ℕ
+whole_1 c = let a = c.args in kept a.known a.style a.raw.now
 
-abbrev rest-1 : goal.After-slice_known-2-1 → List ℕ
-rest-1 c = let a = c.args in decode a.style (drop a.known a.raw.now)
+abbrev rest_1 : goal.After-slice_known-2-1 → List ℕ
+rest_1 c = let a = c.args in decode a.style (drop a.known a.raw.now)
 
-begun-1 : (c : goal.After-slice_known-2-1) → Partly (whole-1 c) (rest-1 c) c.args.d.now c.copy-2.new.d c.args.known
-begun-1 c =
+begun_1 : (c : goal.After-slice_known-2-1) → Partly (whole_1 c) (rest_1 c) c.args.d.now c.copy-2.new.d c.args.known
+begun_1 c =
     let a = c.args in
     let none : a.known - 0 ≡ a.known = omega arith in
     let is : c.copy-2.new.d ≡ copied a.d.now 0 (take a.known a.raw.now) = c.copy-2.ensures ∙ ap (λ k. copied a.d.now 0 (take k a.raw.now)) none in
-    subst (Partly (whole-1 c) (rest-1 c) c.args.d.now c.copy-2.new.d) (length-take-le a.known a.raw.now (omega (arith, c.if-raw-known.false)))
-    (partly_copied (whole-1 c) (take a.known a.raw.now) (rest-1 c) a.d.now c.copy-2.new.d c.requires refl is)
+    subst (Partly (whole_1 c) (rest_1 c) c.args.d.now c.copy-2.new.d) (length-take-le a.known a.raw.now (omega (arith, c.if-raw-known.false)))
+    (partly_copied (whole_1 c) (take a.known a.raw.now) (rest_1 c) a.d.now c.copy-2.new.d c.requires refl is)
 
 pub slice_bounds-put_decoded-count : goal.slice_bounds-put_decoded-count
-slice_bounds-put_decoded-count c = partly_inside (begun-1 c)
+slice_bounds-put_decoded-count c = partly_inside (begun_1 c)
 
 pub slice_bounds-put_decoded-start : goal.slice_bounds-put_decoded-start
-slice_bounds-put_decoded-start c = partly_inside (begun-1 c)
+slice_bounds-put_decoded-start c = partly_inside (begun_1 c)
 
-abbrev rest-2 : goal.After-put_decoded-arg-2-1 → List ℕ
-rest-2 c = let a = c.args in decode a.style (drop a.known a.raw.now)
+abbrev rest_2 : goal.After-put_decoded-arg-2-1 → List ℕ
+rest_2 c = let a = c.args in decode a.style (drop a.known a.raw.now)
 
 -- all the rest of the raw text is given
-given-1 : (c : goal.After-put_decoded-arg-2-1) → let a = c.args in decode a.style (take (length a.raw.now - a.known) (drop a.known a.raw.now)) ≡ rest-2 c
-given-1 c =
+given_1 : (c : goal.After-put_decoded-arg-2-1) → let a = c.args in decode a.style (take (length a.raw.now - a.known) (drop a.known a.raw.now)) ≡ rest_2 c
+given_1 c =
     let a = c.args in
     ap (decode a.style) (take_all (length a.raw.now - a.known) (drop a.known a.raw.now) (omega (arith, length-drop a.known a.raw.now)))
 
 -- what is known, and what is left to decode
-abbrev whole-2 : goal.After-put_decoded-arg-2-1 → List ℕ
-whole-2 c = let a = c.args in kept a.known a.style a.raw.now
+abbrev whole_2 : goal.After-put_decoded-arg-2-1 → List ℕ
+whole_2 c = let a = c.args in kept a.known a.style a.raw.now
 
-begun-2 : (c : goal.After-put_decoded-arg-2-1) → Partly (whole-2 c) (rest-2 c) c.args.d.now c.copy-2.new.d c.args.known
-begun-2 c =
+begun_2 : (c : goal.After-put_decoded-arg-2-1) → Partly (whole_2 c) (rest_2 c) c.args.d.now c.copy-2.new.d c.args.known
+begun_2 c =
     let a = c.args in
     let none : a.known - 0 ≡ a.known = omega arith in
     let is : c.copy-2.new.d ≡ copied a.d.now 0 (take a.known a.raw.now) = c.copy-2.ensures ∙ ap (λ k. copied a.d.now 0 (take k a.raw.now)) none in
-    subst (Partly (whole-2 c) (rest-2 c) c.args.d.now c.copy-2.new.d) (length-take-le a.known a.raw.now (omega (arith, c.if-raw-known.false)))
-    (partly_copied (whole-2 c) (take a.known a.raw.now) (rest-2 c) a.d.now c.copy-2.new.d c.requires refl is)
+    subst (Partly (whole_2 c) (rest_2 c) c.args.d.now c.copy-2.new.d) (length-take-le a.known a.raw.now (omega (arith, c.if-raw-known.false)))
+    (partly_copied (whole_2 c) (take a.known a.raw.now) (rest_2 c) a.d.now c.copy-2.new.d c.requires refl is)
 
 pub put_decoded-requires : goal.put_decoded-requires
 put_decoded-requires c =
-    omega (arith, ap length (given-1 c), partly_fits (begun-2 c) (rest-2 c) [] (sym (append-nil (rest-2 c))))
+    omega (arith, ap length (given_1 c), partly_fits (begun_2 c) (rest_2 c) [] (sym (append-nil (rest_2 c))))
 
 -- what is known, and what is left to decode
-abbrev whole-3 : goal.After-slice_known-3-1 → List ℕ
-whole-3 c = let a = c.args in kept a.known a.style a.raw.now
+abbrev whole_3 : goal.After-slice_known-3-1 → List ℕ
+whole_3 c = let a = c.args in kept a.known a.style a.raw.now
 
-abbrev rest-3 : goal.After-slice_known-3-1 → List ℕ
-rest-3 c = let a = c.args in decode a.style (drop a.known a.raw.now)
+abbrev rest_3 : goal.After-slice_known-3-1 → List ℕ
+rest_3 c = let a = c.args in decode a.style (drop a.known a.raw.now)
 
 -- all the rest of the raw text is given
-given-2 : (c : goal.After-slice_known-3-1) → let a = c.args in decode a.style (take (length a.raw.now - a.known) (drop a.known a.raw.now)) ≡ rest-3 c
-given-2 c =
+given_2 : (c : goal.After-slice_known-3-1) → let a = c.args in decode a.style (take (length a.raw.now - a.known) (drop a.known a.raw.now)) ≡ rest_3 c
+given_2 c =
     let a = c.args in
     ap (decode a.style) (take_all (length a.raw.now - a.known) (drop a.known a.raw.now) (omega (arith, length-drop a.known a.raw.now)))
 
-begun-3 : (c : goal.After-slice_known-3-1) → Partly (whole-3 c) (rest-3 c) c.args.d.now c.copy-2.new.d c.args.known
-begun-3 c =
+begun_3 : (c : goal.After-slice_known-3-1) → Partly (whole_3 c) (rest_3 c) c.args.d.now c.copy-2.new.d c.args.known
+begun_3 c =
     let a = c.args in
     let none : a.known - 0 ≡ a.known = omega arith in
     let is : c.copy-2.new.d ≡ copied a.d.now 0 (take a.known a.raw.now) = c.copy-2.ensures ∙ ap (λ k. copied a.d.now 0 (take k a.raw.now)) none in
-    subst (Partly (whole-3 c) (rest-3 c) c.args.d.now c.copy-2.new.d) (length-take-le a.known a.raw.now (omega (arith, c.if-raw-known.false)))
-    (partly_copied (whole-3 c) (take a.known a.raw.now) (rest-3 c) a.d.now c.copy-2.new.d c.requires refl is)
+    subst (Partly (whole_3 c) (rest_3 c) c.args.d.now c.copy-2.new.d) (length-take-le a.known a.raw.now (omega (arith, c.if-raw-known.false)))
+    (partly_copied (whole_3 c) (take a.known a.raw.now) (rest_3 c) a.d.now c.copy-2.new.d c.requires refl is)
 
 ended : (c : goal.After-slice_known-3-1) → let k = c.args.known in
-    Partly (whole-3 c) [] c.args.d.now (put_mid k (length c.copy-2.new.d - k) c.copy-2.new.d c.put_decoded.new.d) (k + c.put_decoded.result)
+    Partly (whole_3 c) [] c.args.d.now (put_mid k (length c.copy-2.new.d - k) c.copy-2.new.d c.put_decoded.new.d) (k + c.put_decoded.result)
 ended c =
     let k = c.args.known in
     let q = c.put_decoded in
-    let same = given-2 c in
-    partly_put (begun-3 c) (rest-3 c) [] (sym (append-nil (rest-3 c))) q.result q.new.d (q.ensures.0 ∙ ap length same)
+    let same = given_2 c in
+    partly_put (begun_3 c) (rest_3 c) [] (sym (append-nil (rest_3 c))) q.result q.new.d (q.ensures.0 ∙ ap length same)
     (q.ensures.1 ∙ ap (λ z. z ++ drop (length z) (mid_of k (length c.copy-2.new.d - k) c.copy-2.new.d)) same)
 
 pub overflow_add-result : goal.overflow_add-result

@@ -21,8 +21,8 @@ use Rattle.headers.proofs.record.write_known.Goals as goal
 itself : (xs : List ℕ) → length (decode unescaped xs) ≡ length xs
 itself xs = ap length (decode_off unescaped refl xs)
 
-itself-short : (name value : List ℕ) → is_short (decoded_entry unescaped name value) ≡ is_short (entry_of name value)
-itself-short name value = ap₂ (λ x y. is_short (entry_of x y)) (decode_off unescaped refl name) (decode_off unescaped refl value)
+itself_short : (name value : List ℕ) → is_short (decoded_entry unescaped name value) ≡ is_short (entry_of name value)
+itself_short name value = ap₂ (λ x y. is_short (entry_of x y)) (decode_off unescaped refl name) (decode_off unescaped refl value)
 
 as_is : (name value : List ℕ) → entry_record (entry_of name value) ≡ written_record unescaped name value
 as_is name value = ap₂ (λ x y. entry_record (entry_of x y)) (sym (decode_off unescaped refl name)) (sym (decode_off unescaped refl value))
@@ -35,79 +35,79 @@ pub returns-then-not-known_fit : goal.returns-then-not-known_fit
 returns-then-not-known_fit c =
     refusal _ 21 _ _ (decoded_short unescaped (length c.args.d.now) ((kept c.args.known.name c.args.style c.args.name.now)) ((kept c.args.known.value c.args.style c.args.value.now)) (omega (arith, itself ((kept c.args.known.name c.args.style c.args.name.now)), itself ((kept c.args.known.value c.args.style c.args.value.now)), leb-false, sym c.known_fit.ensures ∙ c.if-not-known_fit.true)))
 
-room-1 : (c : goal.Then-not-have_record) → 6 + length ((kept c.args.known.name c.args.style c.args.name.now)) + length ((kept c.args.known.value c.args.style c.args.value.now)) ≤ length c.args.d.now
-room-1 c = omega (arith, leb-true, sym c.known_fit.ensures ∙ c.if-not-known_fit.false)
+room_1 : (c : goal.Then-not-have_record) → 6 + length ((kept c.args.known.name c.args.style c.args.name.now)) + length ((kept c.args.known.value c.args.style c.args.value.now)) ≤ length c.args.d.now
+room_1 c = omega (arith, leb-true, sym c.known_fit.ensures ∙ c.if-not-known_fit.false)
 
-roomy-1 : (c : goal.Then-not-have_record) → 6 + length (decode unescaped ((kept c.args.known.name c.args.style c.args.name.now))) + length (decode unescaped ((kept c.args.known.value c.args.style c.args.value.now))) ≤ length c.args.d.now
-roomy-1 c = omega (arith, room-1 c, itself ((kept c.args.known.name c.args.style c.args.name.now)), itself ((kept c.args.known.value c.args.style c.args.value.now)))
+roomy_1 : (c : goal.Then-not-have_record) → 6 + length (decode unescaped ((kept c.args.known.name c.args.style c.args.name.now))) + length (decode unescaped ((kept c.args.known.value c.args.style c.args.value.now))) ≤ length c.args.d.now
+roomy_1 c = omega (arith, room_1 c, itself ((kept c.args.known.name c.args.style c.args.name.now)), itself ((kept c.args.known.value c.args.style c.args.value.now)))
 
 pub returns-then-not-have_record : goal.returns-then-not-have_record
 returns-then-not-have_record c =
     refusal _ 21 _ _
-    (decoded_over unescaped (length c.args.d.now) ((kept c.args.known.name c.args.style c.args.name.now)) ((kept c.args.known.value c.args.style c.args.value.now)) (roomy-1 c)
-    (itself-short ((kept c.args.known.name c.args.style c.args.name.now)) ((kept c.args.known.value c.args.style c.args.value.now)) ∙ sym c.have_record.ensures ∙ c.if-not-have_record.true))
+    (decoded_over unescaped (length c.args.d.now) ((kept c.args.known.name c.args.style c.args.name.now)) ((kept c.args.known.value c.args.style c.args.value.now)) (roomy_1 c)
+    (itself_short ((kept c.args.known.name c.args.style c.args.name.now)) ((kept c.args.known.value c.args.style c.args.value.now)) ∙ sym c.have_record.ensures ∙ c.if-not-have_record.true))
 
-room-2 : (c : goal.After-put_plain-arg-1) → 6 + length ((kept c.args.known.name c.args.style c.args.name.now)) + length ((kept c.args.known.value c.args.style c.args.value.now)) ≤ length c.args.d.now
-room-2 c = omega (arith, leb-true, sym c.known_fit.ensures ∙ c.if-not-known_fit.false)
+room_2 : (c : goal.After-put_plain-arg-1) → 6 + length ((kept c.args.known.name c.args.style c.args.name.now)) + length ((kept c.args.known.value c.args.style c.args.value.now)) ≤ length c.args.d.now
+room_2 c = omega (arith, leb-true, sym c.known_fit.ensures ∙ c.if-not-known_fit.false)
 
 -- both are known
-name-known-1 : (c : goal.After-put_plain-arg-1) → (kept c.args.known.name c.args.style c.args.name.now) ≡ c.args.name.now
-name-known-1 c =
+name_known_1 : (c : goal.After-put_plain-arg-1) → (kept c.args.known.name c.args.style c.args.name.now) ≡ c.args.name.now
+name_known_1 c =
     kept_all c.args.style c.args.known.name c.args.name.now (leb-true (length c.args.name.now) c.args.known.name (and_left _ _ c.if-name-known.true))
 
-value-known-1 : (c : goal.After-put_plain-arg-1) → (kept c.args.known.value c.args.style c.args.value.now) ≡ c.args.value.now
-value-known-1 c =
+value_known_1 : (c : goal.After-put_plain-arg-1) → (kept c.args.known.value c.args.style c.args.value.now) ≡ c.args.value.now
+value_known_1 c =
     kept_all c.args.style c.args.known.value c.args.value.now
     (leb-true (length c.args.value.now) c.args.known.value (and_right (leb (length c.args.name.now) c.args.known.name) _ c.if-name-known.true))
 
 pub put_plain-requires : goal.put_plain-requires
-put_plain-requires c = omega (arith, room-2 c, ap length (name-known-1 c), ap length (value-known-1 c))
+put_plain-requires c = omega (arith, room_2 c, ap length (name_known_1 c), ap length (value_known_1 c))
 
 -- both are known
-name-known-2 : (c : goal.After-slice_known-then-name-known-1) → (kept c.args.known.name c.args.style c.args.name.now) ≡ c.args.name.now
-name-known-2 c =
+name_known_2 : (c : goal.After-slice_known-then-name-known-1) → (kept c.args.known.name c.args.style c.args.name.now) ≡ c.args.name.now
+name_known_2 c =
     kept_all c.args.style c.args.known.name c.args.name.now (leb-true (length c.args.name.now) c.args.known.name (and_left _ _ c.if-name-known.true))
 
-value-known-2 : (c : goal.After-slice_known-then-name-known-1) → (kept c.args.known.value c.args.style c.args.value.now) ≡ c.args.value.now
-value-known-2 c =
+value_known_2 : (c : goal.After-slice_known-then-name-known-1) → (kept c.args.known.value c.args.style c.args.value.now) ≡ c.args.value.now
+value_known_2 c =
     kept_all c.args.style c.args.known.value c.args.value.now
     (leb-true (length c.args.value.now) c.args.known.value (and_right (leb (length c.args.name.now) c.args.known.name) _ c.if-name-known.true))
 
-room-3 : (c : goal.After-slice_known-then-name-known-1) → 6 + length ((kept c.args.known.name c.args.style c.args.name.now)) + length ((kept c.args.known.value c.args.style c.args.value.now)) ≤ length c.args.d.now
-room-3 c = omega (arith, leb-true, sym c.known_fit.ensures ∙ c.if-not-known_fit.false)
+room_3 : (c : goal.After-slice_known-then-name-known-1) → 6 + length ((kept c.args.known.name c.args.style c.args.name.now)) + length ((kept c.args.known.value c.args.style c.args.value.now)) ≤ length c.args.d.now
+room_3 c = omega (arith, leb-true, sym c.known_fit.ensures ∙ c.if-not-known_fit.false)
 
-roomy-2 : (c : goal.After-slice_known-then-name-known-1) → 6 + length (decode unescaped ((kept c.args.known.name c.args.style c.args.name.now))) + length (decode unescaped ((kept c.args.known.value c.args.style c.args.value.now))) ≤ length c.args.d.now
-roomy-2 c = omega (arith, room-3 c, itself ((kept c.args.known.name c.args.style c.args.name.now)), itself ((kept c.args.known.value c.args.style c.args.value.now)))
+roomy_2 : (c : goal.After-slice_known-then-name-known-1) → 6 + length (decode unescaped ((kept c.args.known.name c.args.style c.args.name.now))) + length (decode unescaped ((kept c.args.known.value c.args.style c.args.value.now))) ≤ length c.args.d.now
+roomy_2 c = omega (arith, room_3 c, itself ((kept c.args.known.name c.args.style c.args.name.now)), itself ((kept c.args.known.value c.args.style c.args.value.now)))
 
 -- and where the second does, it has a record
-short-1 : (c : goal.After-slice_known-then-name-known-1) → is_short (decoded_entry unescaped ((kept c.args.known.name c.args.style c.args.name.now)) ((kept c.args.known.value c.args.style c.args.value.now))) ≡ true
-short-1 c =
-    itself-short ((kept c.args.known.name c.args.style c.args.name.now)) ((kept c.args.known.value c.args.style c.args.value.now)) ∙ sym c.have_record.ensures ∙ c.if-not-have_record.false
+short_1 : (c : goal.After-slice_known-then-name-known-1) → is_short (decoded_entry unescaped ((kept c.args.known.name c.args.style c.args.name.now)) ((kept c.args.known.value c.args.style c.args.value.now))) ≡ true
+short_1 c =
+    itself_short ((kept c.args.known.name c.args.style c.args.name.now)) ((kept c.args.known.value c.args.style c.args.value.now)) ∙ sym c.have_record.ensures ∙ c.if-not-have_record.false
 
 pub returns-then-name-known : goal.returns-then-name-known
 returns-then-name-known c =
     let d = c.args.d.now in
     let put = c.put_plain.ensures in
-    let same = ap₂ (λ x y. entry_record (entry_of x y)) (sym (name-known-2 c)) (sym (value-known-2 c)) ∙ as_is ((kept c.args.known.name c.args.style c.args.name.now)) ((kept c.args.known.value c.args.style c.args.value.now)) in
+    let same = ap₂ (λ x y. entry_record (entry_of x y)) (sym (name_known_2 c)) (sym (value_known_2 c)) ∙ as_is ((kept c.args.known.name c.args.style c.args.name.now)) ((kept c.args.known.value c.args.style c.args.value.now)) in
     rw (put.0 ∙ ap length same)
-    (acceptance _ _ _ d _ (decoded_yes unescaped (length d) ((kept c.args.known.name c.args.style c.args.name.now)) ((kept c.args.known.value c.args.style c.args.value.now)) (roomy-2 c) (short-1 c)) (put.1 ∙ ap (λ z. z ++ drop (length z) d) same))
+    (acceptance _ _ _ d _ (decoded_yes unescaped (length d) ((kept c.args.known.name c.args.style c.args.name.now)) ((kept c.args.known.value c.args.style c.args.value.now)) (roomy_2 c) (short_1 c)) (put.1 ∙ ap (λ z. z ++ drop (length z) d) same))
 
-room-4 : (c : goal.After-put_record-arg-1) → 6 + length ((kept c.args.known.name c.args.style c.args.name.now)) + length ((kept c.args.known.value c.args.style c.args.value.now)) ≤ length c.args.d.now
-room-4 c = omega (arith, leb-true, sym c.known_fit.ensures ∙ c.if-not-known_fit.false)
+room_4 : (c : goal.After-put_record-arg-1) → 6 + length ((kept c.args.known.name c.args.style c.args.name.now)) + length ((kept c.args.known.value c.args.style c.args.value.now)) ≤ length c.args.d.now
+room_4 c = omega (arith, leb-true, sym c.known_fit.ensures ∙ c.if-not-known_fit.false)
 
 pub put_record-requires : goal.put_record-requires
-put_record-requires c = room-4 c
+put_record-requires c = room_4 c
 
-room-5 : (c : goal.After-slice_known-2-1) → 6 + length ((kept c.args.known.name c.args.style c.args.name.now)) + length ((kept c.args.known.value c.args.style c.args.value.now)) ≤ length c.args.d.now
-room-5 c = omega (arith, leb-true, sym c.known_fit.ensures ∙ c.if-not-known_fit.false)
+room_5 : (c : goal.After-slice_known-2-1) → 6 + length ((kept c.args.known.name c.args.style c.args.name.now)) + length ((kept c.args.known.value c.args.style c.args.value.now)) ≤ length c.args.d.now
+room_5 c = omega (arith, leb-true, sym c.known_fit.ensures ∙ c.if-not-known_fit.false)
 
-roomy-3 : (c : goal.After-slice_known-2-1) → 6 + length (decode unescaped ((kept c.args.known.name c.args.style c.args.name.now))) + length (decode unescaped ((kept c.args.known.value c.args.style c.args.value.now))) ≤ length c.args.d.now
-roomy-3 c = omega (arith, room-5 c, itself ((kept c.args.known.name c.args.style c.args.name.now)), itself ((kept c.args.known.value c.args.style c.args.value.now)))
+roomy_3 : (c : goal.After-slice_known-2-1) → 6 + length (decode unescaped ((kept c.args.known.name c.args.style c.args.name.now))) + length (decode unescaped ((kept c.args.known.value c.args.style c.args.value.now))) ≤ length c.args.d.now
+roomy_3 c = omega (arith, room_5 c, itself ((kept c.args.known.name c.args.style c.args.name.now)), itself ((kept c.args.known.value c.args.style c.args.value.now)))
 
 -- and where the second does, it has a record
-short-2 : (c : goal.After-slice_known-2-1) → is_short (decoded_entry unescaped ((kept c.args.known.name c.args.style c.args.name.now)) ((kept c.args.known.value c.args.style c.args.value.now))) ≡ true
-short-2 c =
-    itself-short ((kept c.args.known.name c.args.style c.args.name.now)) ((kept c.args.known.value c.args.style c.args.value.now)) ∙ sym c.have_record.ensures ∙ c.if-not-have_record.false
+short_2 : (c : goal.After-slice_known-2-1) → is_short (decoded_entry unescaped ((kept c.args.known.name c.args.style c.args.name.now)) ((kept c.args.known.value c.args.style c.args.value.now))) ≡ true
+short_2 c =
+    itself_short ((kept c.args.known.name c.args.style c.args.name.now)) ((kept c.args.known.value c.args.style c.args.value.now)) ∙ sym c.have_record.ensures ∙ c.if-not-have_record.false
 
 pub returns : goal.returns
 returns c =
@@ -115,4 +115,4 @@ returns c =
     let put = c.put_record.ensures in
     let same = as_is ((kept c.args.known.name c.args.style c.args.name.now)) ((kept c.args.known.value c.args.style c.args.value.now)) in
     rw (put.0 ∙ ap length same)
-    (acceptance _ _ _ d _ (decoded_yes unescaped (length d) ((kept c.args.known.name c.args.style c.args.name.now)) ((kept c.args.known.value c.args.style c.args.value.now)) (roomy-3 c) (short-2 c)) (put.1 ∙ ap (λ z. z ++ drop (length z) d) same))
+    (acceptance _ _ _ d _ (decoded_yes unescaped (length d) ((kept c.args.known.name c.args.style c.args.name.now)) ((kept c.args.known.value c.args.style c.args.value.now)) (roomy_3 c) (short_2 c)) (put.1 ∙ ap (λ z. z ++ drop (length z) d) same))

@@ -16,9 +16,9 @@ use Rattle.headers.proofs.text.is_escaped.Goals as goal
 abbrev hits : ℕ → ℕ → Bool
 hits word x = eqb x (bit_and (word / 2 ^ (2 * bit_and x 20)) 255)
 
-in-word : (e c : Bool) (x : ℕ) → x < 256 → hits (cond c 101404177861898 101404177858570) x ≡ any (λ k. eqb x k.octet) (escape_table (styled e c))
-in-word e true x h = alike (hits 101404177861898) (λ x. any (λ k. eqb x k.octet) (escape_table (styled e true))) 256 x refl h
-in-word e false x h = alike (hits 101404177858570) (λ x. any (λ k. eqb x k.octet) (escape_table (styled e false))) 256 x refl h
+in_word : (e c : Bool) (x : ℕ) → x < 256 → hits (cond c 101404177861898 101404177858570) x ≡ any (λ k. eqb x k.octet) (escape_table (styled e c))
+in_word e true x h = alike (hits 101404177861898) (λ x. any (λ k. eqb x k.octet) (escape_table (styled e true))) 256 x refl h
+in_word e false x h = alike (hits 101404177858570) (λ x. any (λ k. eqb x k.octet) (escape_table (styled e false))) 256 x refl h
 
 pub overflow_mul-result : goal.overflow_mul-result
 overflow_mul-result c = omega (arith, and_le_r c.args.x 20)
@@ -31,4 +31,4 @@ returns c =
     let a = c.args in
     let h : a.x < 256 = search rules in
     ap (a.style.escapes &&◌)
-    (ap (λ w. hits w a.x) c.escape_word.ensures ∙ in-word a.style.escapes a.style.crlf a.x h)
+    (ap (λ w. hits w a.x) c.escape_word.ensures ∙ in_word a.style.escapes a.style.crlf a.x h)

@@ -14,117 +14,117 @@ pub loop-style-init : goal.loop-style-init
 loop-style-init c = (omega arith, partly_none _ _ c.requires)
 
 -- where the stretch ends, and what is left to decode there
-ended-1 : (c : goal.After-stretch) → let a = c.args in
+ended_1 : (c : goal.After-stretch) → let a = c.args in
     let i = c.loop-style.i in
     let e = i + c.stretch.result in
     (e ≤ length a.raw.now) × (length (take (e - i) (drop i a.raw.now)) ≡ e - i)
     × (decode a.style (drop i a.raw.now) ≡ take (e - i) (drop i a.raw.now) ++ decode a.style (drop e a.raw.now))
-ended-1 c =
+ended_1 c =
     let a = c.args in
     let l = c.loop-style in
     decode_on a.style a.raw.now l.i c.stretch.result l.invariant.0 c.stretch.ensures
 
 pub overflow_add-e : goal.overflow_add-e
-overflow_add-e c = omega (arith, (ended-1 c).0)
+overflow_add-e c = omega (arith, (ended_1 c).0)
 
 -- where the stretch ends, and what is left to decode there
-ended-2 : (c : goal.After-copy-arg-1) → let a = c.args in
+ended_2 : (c : goal.After-copy-arg-1) → let a = c.args in
     let i = c.loop-style.i in
     let e = i + c.stretch.result in
     (e ≤ length a.raw.now) × (length (take (e - i) (drop i a.raw.now)) ≡ e - i)
     × (decode a.style (drop i a.raw.now) ≡ take (e - i) (drop i a.raw.now) ++ decode a.style (drop e a.raw.now))
-ended-2 c =
+ended_2 c =
     let a = c.args in
     let l = c.loop-style in
     decode_on a.style a.raw.now l.i c.stretch.result l.invariant.0 c.stretch.ensures
 
 pub slice_bounds-copy-end : goal.slice_bounds-copy-end
-slice_bounds-copy-end c = omega (arith, (ended-2 c).0)
+slice_bounds-copy-end c = omega (arith, (ended_2 c).0)
 
 -- where the stretch ends, and what is left to decode there
-ended-3 : (c : goal.After-slice_known-in-loop-style-1) → let a = c.args in
+ended_3 : (c : goal.After-slice_known-in-loop-style-1) → let a = c.args in
     let i = c.loop-style.i in
     let e = i + c.stretch.result in
     (e ≤ length a.raw.now) × (length (take (e - i) (drop i a.raw.now)) ≡ e - i)
     × (decode a.style (drop i a.raw.now) ≡ take (e - i) (drop i a.raw.now) ++ decode a.style (drop e a.raw.now))
-ended-3 c =
+ended_3 c =
     let a = c.args in
     let l = c.loop-style in
     decode_on a.style a.raw.now l.i c.stretch.result l.invariant.0 c.stretch.ensures
 
 -- the stretch is copied
-copied-1 : (c : goal.After-slice_known-in-loop-style-1) → let a = c.args in
+copied_1 : (c : goal.After-slice_known-in-loop-style-1) → let a = c.args in
     let l = c.loop-style in
     let e = l.i + c.stretch.result in
     Partly (decode a.style a.raw.now) (decode a.style (drop e a.raw.now)) a.d.now c.copy.new.d (l.n + (e - l.i))
-copied-1 c =
+copied_1 c =
     let a = c.args in
     let l = c.loop-style in
     let e = l.i + c.stretch.result in
-    let s = ended-3 c in
+    let s = ended_3 c in
     partly_copy l.invariant.1 (take (e - l.i) (drop l.i a.raw.now)) (decode a.style (drop e a.raw.now)) c.copy.new.d (e - l.i) s.2 (sym s.1) c.copy.ensures
 
 pub overflow_add-n : goal.overflow_add-n
-overflow_add-n c = let so = copied-1 c in omega (arith, partly_inside so, so.as_long)
+overflow_add-n c = let so = copied_1 c in omega (arith, partly_inside so, so.as_long)
 
 -- where the stretch ends, and what is left to decode there
-ended-4 : (c : goal.Then-raw-e) → let a = c.args in
+ended_4 : (c : goal.Then-raw-e) → let a = c.args in
     let i = c.loop-style.i in
     let e = i + c.stretch.result in
     (e ≤ length a.raw.now) × (length (take (e - i) (drop i a.raw.now)) ≡ e - i)
     × (decode a.style (drop i a.raw.now) ≡ take (e - i) (drop i a.raw.now) ++ decode a.style (drop e a.raw.now))
-ended-4 c =
+ended_4 c =
     let a = c.args in
     let l = c.loop-style in
     decode_on a.style a.raw.now l.i c.stretch.result l.invariant.0 c.stretch.ensures
 
 -- the stretch is copied
-copied-2 : (c : goal.Then-raw-e) → let a = c.args in
+copied_2 : (c : goal.Then-raw-e) → let a = c.args in
     let l = c.loop-style in
     let e = l.i + c.stretch.result in
     Partly (decode a.style a.raw.now) (decode a.style (drop e a.raw.now)) a.d.now c.copy.new.d (l.n + (e - l.i))
-copied-2 c =
+copied_2 c =
     let a = c.args in
     let l = c.loop-style in
     let e = l.i + c.stretch.result in
-    let s = ended-4 c in
+    let s = ended_4 c in
     partly_copy l.invariant.1 (take (e - l.i) (drop l.i a.raw.now)) (decode a.style (drop e a.raw.now)) c.copy.new.d (e - l.i) s.2 (sym s.1) c.copy.ensures
 
 pub shape_of-d-then-raw-e : goal.shape_of-d-then-raw-e
-shape_of-d-then-raw-e c = (copied-2 c).as_long
+shape_of-d-then-raw-e c = (copied_2 c).as_long
 
 pub returns-then-raw-e : goal.returns-then-raw-e
 returns-then-raw-e c =
     let a = c.args in
-    partly_done (copied-2 c) (decode_end a.style a.raw.now _ c.if-raw-e.true)
+    partly_done (copied_2 c) (decode_end a.style a.raw.now _ c.if-raw-e.true)
 
 -- where the stretch ends, and what is left to decode there
-ended-5 : (c : goal.After-decoded_at) → let a = c.args in
+ended_5 : (c : goal.After-decoded_at) → let a = c.args in
     let i = c.loop-style.i in
     let e = i + c.stretch.result in
     (e ≤ length a.raw.now) × (length (take (e - i) (drop i a.raw.now)) ≡ e - i)
     × (decode a.style (drop i a.raw.now) ≡ take (e - i) (drop i a.raw.now) ++ decode a.style (drop e a.raw.now))
-ended-5 c =
+ended_5 c =
     let a = c.args in
     let l = c.loop-style in
     decode_on a.style a.raw.now l.i c.stretch.result l.invariant.0 c.stretch.ensures
 
 -- the stretch is copied
-copied-3 : (c : goal.After-decoded_at) → let a = c.args in
+copied_3 : (c : goal.After-decoded_at) → let a = c.args in
     let l = c.loop-style in
     let e = l.i + c.stretch.result in
     Partly (decode a.style a.raw.now) (decode a.style (drop e a.raw.now)) a.d.now c.copy.new.d (l.n + (e - l.i))
-copied-3 c =
+copied_3 c =
     let a = c.args in
     let l = c.loop-style in
     let e = l.i + c.stretch.result in
-    let s = ended-5 c in
+    let s = ended_5 c in
     partly_copy l.invariant.1 (take (e - l.i) (drop l.i a.raw.now)) (decode a.style (drop e a.raw.now)) c.copy.new.d (e - l.i) s.2 (sym s.1) c.copy.ensures
 
 pub bounds-d-n : goal.bounds-d-n
 bounds-d-n c =
     let a = c.args in
-    partly_here (copied-3 c) _ _ (decode_step a.style a.raw.now _ c.if-raw-e.false)
+    partly_here (copied_3 c) _ _ (decode_step a.style a.raw.now _ c.if-raw-e.false)
 
 pub overflow_add-i : goal.overflow_add-i
 overflow_add-i c =
@@ -132,32 +132,32 @@ overflow_add-i c =
     omega (arith, width_fits a.style a.raw.now _ c.if-raw-e.false, c.width_at.ensures)
 
 -- where the stretch ends, and what is left to decode there
-ended-6 : (c : goal.After-width_at) → let a = c.args in
+ended_6 : (c : goal.After-width_at) → let a = c.args in
     let i = c.loop-style.i in
     let e = i + c.stretch.result in
     (e ≤ length a.raw.now) × (length (take (e - i) (drop i a.raw.now)) ≡ e - i)
     × (decode a.style (drop i a.raw.now) ≡ take (e - i) (drop i a.raw.now) ++ decode a.style (drop e a.raw.now))
-ended-6 c =
+ended_6 c =
     let a = c.args in
     let l = c.loop-style in
     decode_on a.style a.raw.now l.i c.stretch.result l.invariant.0 c.stretch.ensures
 
 -- the stretch is copied
-copied-4 : (c : goal.After-width_at) → let a = c.args in
+copied_4 : (c : goal.After-width_at) → let a = c.args in
     let l = c.loop-style in
     let e = l.i + c.stretch.result in
     Partly (decode a.style a.raw.now) (decode a.style (drop e a.raw.now)) a.d.now c.copy.new.d (l.n + (e - l.i))
-copied-4 c =
+copied_4 c =
     let a = c.args in
     let l = c.loop-style in
     let e = l.i + c.stretch.result in
-    let s = ended-6 c in
+    let s = ended_6 c in
     partly_copy l.invariant.1 (take (e - l.i) (drop l.i a.raw.now)) (decode a.style (drop e a.raw.now)) c.copy.new.d (e - l.i) s.2 (sym s.1) c.copy.ensures
 
 pub overflow_add-n-in-loop-style : goal.overflow_add-n-in-loop-style
 overflow_add-n-in-loop-style c =
     let a = c.args in
-    let so = copied-4 c in
+    let so = copied_4 c in
     omega (arith, partly_here so _ _ (decode_step a.style a.raw.now _ c.if-raw-e.false), so.as_long)
 
 pub loop-style-smaller : goal.loop-style-smaller
@@ -170,4 +170,4 @@ loop-style-preserved c =
     let a = c.args in
     let t = c.if-raw-e.false in
     rw (c.width_at.ensures, c.decoded_at.ensures)
-    (width_fits a.style a.raw.now _ t, partly_store (copied-4 c) _ _ (decode_step a.style a.raw.now _ t))
+    (width_fits a.style a.raw.now _ t, partly_store (copied_4 c) _ _ (decode_step a.style a.raw.now _ t))

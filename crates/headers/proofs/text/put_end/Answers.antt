@@ -28,11 +28,11 @@ begun s xs d n i h = record { room = h.2; as_long = refl; long = h.3; parts = h.
 abbrev end_of : Style → List ℕ → ℕ → List ℕ
 end_of s xs i = encode s (take (length xs - i) (drop i xs))
 
-whole-end : (s : Style) (xs : List ℕ) (i : ℕ) → encode s (drop i xs) ≡ end_of s xs i
-whole-end s xs i = ap (encode s) (sym (take_all (length xs - i) (drop i xs) (simp length-drop (omega arith))))
+whole_end : (s : Style) (xs : List ℕ) (i : ℕ) → encode s (drop i xs) ≡ end_of s xs i
+whole_end s xs i = ap (encode s) (sym (take_all (length xs - i) (drop i xs) (simp length-drop (omega arith))))
 
 rest : (s : Style) (xs : List ℕ) (i : ℕ) → encode s (drop i xs) ≡ end_of s xs i ++ []
-rest s xs i = whole-end s xs i ∙ sym (append-nil (end_of s xs i))
+rest s xs i = whole_end s xs i ∙ sym (append-nil (end_of s xs i))
 
 -- the last block, as it is handed on
 abbrev block : List ℕ → List ℕ
@@ -45,8 +45,8 @@ record Over (s : Style) (xs d : List ℕ) (n i : ℕ) : Type 0 where
   fits : n - (i - (length xs - 8)) + length (block xs) ≤ length d
   done : (after : List ℕ) → after ≡ paste d (n - (i - (length xs - 8)) + 0) (drop 0 (block xs)) 8 → Puts (encode s xs) (n - (i - (length xs - 8)) + 8) d after
 
-over-end : (s : Style) (xs d : List ℕ) (n i : ℕ) → Asks s xs d n i → 8 ≤ length xs → every (bare s) (block xs) ≡ true → Over s xs d n i
-over-end s xs d n i h long clear =
+over_end : (s : Style) (xs d : List ℕ) (n i : ℕ) → Asks s xs d n i → 8 ≤ length xs → every (bare s) (block xs) ≡ true → Over s xs d n i
+over_end s xs d n i h long clear =
     let b = length xs - 8 in
     let m = n - (i - b) in
     let P = encode s (take b xs) in
@@ -71,19 +71,19 @@ pub overflow_sub-at-then-is_bare : goal.overflow_sub-at-then-is_bare
 overflow_sub-at-then-is_bare c =
     omega (
       arith,
-      (over-end c.args.style c.args.text.now c.args.d.now c.args.n c.args.i c.requires
+      (over_end c.args.style c.args.text.now c.args.d.now c.args.n c.args.i c.requires
           c.if-text-ge8.true (sym c.is_bare.ensures ∙ c.if-is_bare.true)).place,
     )
 
 pub put_8-requires : goal.put_8-requires
 put_8-requires c =
-    let o = over-end c.args.style c.args.text.now c.args.d.now c.args.n c.args.i c.requires
+    let o = over_end c.args.style c.args.text.now c.args.d.now c.args.n c.args.i c.requires
     c.if-text-ge8.true (sym c.is_bare.ensures ∙ c.if-is_bare.true) in
     (omega (arith, o.eight), o.fits)
 
 pub returns-then-is_bare : goal.returns-then-is_bare
 returns-then-is_bare c =
-    (over-end c.args.style c.args.text.now c.args.d.now c.args.n c.args.i c.requires
+    (over_end c.args.style c.args.text.now c.args.d.now c.args.n c.args.i c.requires
     c.if-text-ge8.true
     (sym c.is_bare.ensures ∙ c.if-is_bare.true)
     ).done _ c.put_8.ensures
@@ -95,7 +95,7 @@ put_each-requires c =
 
 pub overflow_add-result-2 : goal.overflow_add-result-2
 overflow_add-result-2 c =
-    omega (arith, ap length (whole-end c.args.style c.args.text.now c.args.i), c.put_each.ensures.0, c.requires.2, c.requires.3)
+    omega (arith, ap length (whole_end c.args.style c.args.text.now c.args.i), c.put_each.ensures.0, c.requires.2, c.requires.3)
 
 pub returns : goal.returns
 returns c =

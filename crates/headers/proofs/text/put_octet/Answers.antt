@@ -13,10 +13,10 @@ use Rattle.headers.proofs.text.put_octet.Goals as goal
 
 -- a backslash and a letter, or an octet over the backslash
 module _ (l x : ℕ) (d : List ℕ) where
-  two-stores : (t : Bool) → length (cond t (92 ∷ l ∷ []) (x ∷ [])) ≤ length d
+  two_stores : (t : Bool) → length (cond t (92 ∷ l ∷ []) (x ∷ [])) ≤ length d
       → Puts (cond t (92 ∷ l ∷ []) (x ∷ [])) (cond t 1 0 + 1) d (set (set d 0 92) (cond t 1 0) (cond t l x))
-  two-stores true h = (refl, sets-eq (92 ∷ l ∷ []) d 0 h)
-  two-stores false h = (refl, set-set d 0 92 x ∙ sets-eq (x ∷ []) d 0 h)
+  two_stores true h = (refl, sets-eq (92 ∷ l ∷ []) d 0 h)
+  two_stores false h = (refl, set-set d 0 92 x ∙ sets-eq (x ∷ []) d 0 h)
 
   inside : (t : Bool) → length (cond t (92 ∷ l ∷ []) (x ∷ [])) ≤ length d → cond t 1 0 < length d
   inside true h = omega arith
@@ -40,4 +40,4 @@ overflow_add-result c = let a = c.args in omega (arith, c.octets_before-n.ensure
 pub returns : goal.returns
 returns c = let a = c.args in
     rw (c.octets_before-n.ensures, c.last_octet.ensures)
-    (two-stores (letter_of a.style a.x) a.x a.d.now (escaped a.style a.x) c.requires)
+    (two_stores (letter_of a.style a.x) a.x a.d.now (escaped a.style a.x) c.requires)

@@ -31,8 +31,8 @@ module _ (e : Else-is_bad) where
   sizes : bad_size 32 run || bad_size 32 destination ≡ false
   sizes = sym (ap₂ (◌||◌) e.is_bad.ensures e.is_bad-2.ensures) ∙ e.if-is_bad.false
 
-  some-run : 0 < length run
-  some-run = (size_of 32 run (or_false_left (bad_size 32 run) (bad_size 32 destination) sizes)).some_octet
+  some_run : 0 < length run
+  some_run = (size_of 32 run (or_false_left (bad_size 32 run) (bad_size 32 destination) sizes)).some_octet
 
 pub returns-then-not-is_valid : goal.returns-then-not-is_valid
 returns-then-not-is_valid c = (
@@ -59,7 +59,7 @@ overflow_mul-at c =
     let e = (goal.at.overflow_mul-at c).Else-is_bad in
     omega (
       arith,
-      run_inside (reg e) (valid e) (run e) (some-run e) c.in-At.k
+      run_inside (reg e) (valid e) (run e) (some_run e) c.in-At.k
           (sym (ap search_says c.in-At.is) ∙ c.find.ensures),
     )
 
@@ -68,7 +68,7 @@ overflow_add-at c =
     let e = (goal.at.overflow_add-at c).Else-is_bad in
     omega (
       arith,
-      run_inside (reg e) (valid e) (run e) (some-run e) c.in-At.k
+      run_inside (reg e) (valid e) (run e) (some_run e) c.in-At.k
           (sym (ap search_says c.in-At.is) ∙ c.find.ensures),
     )
 
@@ -77,20 +77,20 @@ overflow_add-end c =
     let e = (goal.at.overflow_add-end c).Else-is_bad in
     omega (
       arith,
-      run_inside (reg e) (valid e) (run e) (some-run e) c.in-At.k
+      run_inside (reg e) (valid e) (run e) (some_run e) c.in-At.k
           (sym (ap search_says c.in-At.is) ∙ c.find.ensures),
     )
 
 pub slice_bounds-port_in-end : goal.slice_bounds-port_in-end
 slice_bounds-port_in-end c =
     let e = (goal.at.slice_bounds-port_in-end c).Else-is_bad in
-    slots_room (reg e) (valid e) (run e) (some-run e) c.in-At.k
+    slots_room (reg e) (valid e) (run e) (some_run e) c.in-At.k
     (sym (ap search_says c.in-At.is) ∙ c.find.ensures)
 
 pub port_in-requires : goal.port_in-requires
 port_in-requires c =
     let e = (goal.at.port_in-requires c).Else-is_bad in (
-      slots_part (reg e) (valid e) (run e) (some-run e) c.in-At.k
+      slots_part (reg e) (valid e) (run e) (some_run e) c.in-At.k
           (sym (ap search_says c.in-At.is) ∙ c.find.ensures),
       size_of 32 (destination e)
           (or_false_right (bad_size 32 (run e)) (bad_size 32 (destination e)) (sizes e)),
@@ -99,7 +99,7 @@ port_in-requires c =
 pub moved-requires : goal.moved-requires
 moved-requires c =
     let e = (goal.at.moved-requires c).Else-is_bad in
-    movable_part (reg e) (valid e) (run e) (some-run e) c.in-At.k
+    movable_part (reg e) (valid e) (run e) (some_run e) c.in-At.k
     (sym (ap search_says c.in-At.is) ∙ c.find.ensures) (destination e) (sizes e)
     c.port_in.result c.port_in.ensures
 
@@ -107,7 +107,7 @@ pub returns-in-Nowhere : goal.returns-in-Nowhere
 returns-in-Nowhere c =
     let e = (goal.at.returns-in-Nowhere c).Else-is_bad in (
       ask_none (reg e) (valid e) (run e) (destination e) (sizes e)
-          (is_open_at (reg e) (valid e) (run e) (some-run e) c.find.result c.find.ensures
+          (is_open_at (reg e) (valid e) (run e) (some_run e) c.find.result c.find.ensures
           ∙ ap is_at c.in-Nowhere.is),
       tt,
       (omega arith, omega arith),
@@ -116,6 +116,6 @@ returns-in-Nowhere c =
 pub returns-in-At : goal.returns-in-At
 returns-in-At c =
     let e = (goal.at.returns-in-At c).Else-is_bad in
-    ask_part (reg e) (valid e) (run e) (some-run e) c.in-At.k
+    ask_part (reg e) (valid e) (run e) (some_run e) c.in-At.k
     (sym (ap search_says c.in-At.is) ∙ c.find.ensures) (destination e)
     (sizes e) c.port_in.result c.port_in.ensures c.moved.result c.moved.ensures

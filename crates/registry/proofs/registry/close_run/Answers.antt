@@ -27,8 +27,8 @@ module _ (e : Else-is_bad) where
   size : bad_size 32 run ≡ false
   size = sym e.is_bad.ensures ∙ e.if-is_bad.false
 
-  some-run : 0 < length run
-  some-run = (size_of 32 run size).some_octet
+  some_run : 0 < length run
+  some_run = (size_of 32 run size).some_octet
 
 pub returns-then-not-is_valid : goal.returns-then-not-is_valid
 returns-then-not-is_valid c =
@@ -49,7 +49,7 @@ overflow_mul-at c =
     let e = (goal.at.overflow_mul-at c).Else-is_bad in
     omega (
       arith,
-      run_inside (reg e) (valid e) (run e) (some-run e) c.in-At.k
+      run_inside (reg e) (valid e) (run e) (some_run e) c.in-At.k
           (sym (ap search_says c.in-At.is) ∙ c.find.ensures),
     )
 
@@ -58,26 +58,26 @@ overflow_add-end c =
     let e = (goal.at.overflow_add-end c).Else-is_bad in
     omega (
       arith,
-      run_inside (reg e) (valid e) (run e) (some-run e) c.in-At.k
+      run_inside (reg e) (valid e) (run e) (some_run e) c.in-At.k
           (sym (ap search_says c.in-At.is) ∙ c.find.ensures),
     )
 
 pub slice_bounds-fill-end : goal.slice_bounds-fill-end
 slice_bounds-fill-end c =
     let e = (goal.at.slice_bounds-fill-end c).Else-is_bad in
-    Rattle.registry.proofs.Calling.row_room (reg e) (valid e) (run e) (some-run e) c.in-At.k
+    Rattle.registry.proofs.Calling.row_room (reg e) (valid e) (run e) (some_run e) c.in-At.k
     (sym (ap search_says c.in-At.is) ∙ c.find.ensures)
 
 pub returns-in-Nowhere : goal.returns-in-Nowhere
 returns-in-Nowhere c =
     let e = (goal.at.returns-in-Nowhere c).Else-is_bad in
     close_none (reg e) (valid e) (run e) (size e)
-    (is_open_at (reg e) (valid e) (run e) (some-run e) c.find.result c.find.ensures ∙ ap is_at c.in-Nowhere.is)
+    (is_open_at (reg e) (valid e) (run e) (some_run e) c.find.result c.find.ensures ∙ ap is_at c.in-Nowhere.is)
 
 pub returns-in-At : goal.returns-in-At
 returns-in-At c =
     let e = (goal.at.returns-in-At c).Else-is_bad in
-    close_there (reg e) (valid e) (run e) (some-run e) c.in-At.k
+    close_there (reg e) (valid e) (run e) (some_run e) c.in-At.k
     (sym (ap search_says c.in-At.is)
     ∙ c.find.ensures) (size e) c.fill.new.place
     c.fill.ensures

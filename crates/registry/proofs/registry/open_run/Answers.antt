@@ -27,8 +27,8 @@ module _ (e : Else-is_bad) where
   size : bad_size 32 run ≡ false
   size = sym e.is_bad.ensures ∙ e.if-is_bad.false
 
-  some-run : 0 < length run
-  some-run = (size_of 32 run size).some_octet
+  some_run : 0 < length run
+  some_run = (size_of 32 run size).some_octet
 
 pub returns-then-not-is_valid : goal.returns-then-not-is_valid
 returns-then-not-is_valid c =
@@ -48,7 +48,7 @@ pub returns-then-is_found : goal.returns-then-is_found
 returns-then-is_found c =
     let e = (goal.at.returns-then-is_found c).Else-is_bad in
     open_again (reg e) (valid e) (run e) (size e)
-    (is_open_at (reg e) (valid e) (run e) (some-run e) c.find.result c.find.ensures ∙ sym c.is_found.ensures
+    (is_open_at (reg e) (valid e) (run e) (some_run e) c.find.result c.find.ensures ∙ sym c.is_found.ensures
     ∙ c.if-is_found.true)
 
 pub find-requires-2 : goal.find-requires-2
@@ -56,8 +56,8 @@ find-requires-2 c =
     let e = (goal.at.find-requires-2 c).Else-is_bad in valid_rows (reg e) (valid e)
 
 -- no run of that label is open
-not-open : (e : Else-is_found) → is_open e.args.run.now (runs_in e.args.reg.now) ≡ false
-not-open e =
+not_open : (e : Else-is_found) → is_open e.args.run.now (runs_in e.args.reg.now) ≡ false
+not_open e =
     is_open_at e.args.reg.now (sym e.is_valid.ensures ∙ e.if-not-is_valid.false) e.args.run.now
     (size_of 32 e.args.run.now (sym e.is_bad.ensures ∙ e.if-is_bad.false)).some_octet e.find.result e.find.ensures
     ∙ sym e.is_found.ensures ∙ e.if-is_found.false
@@ -67,7 +67,7 @@ overflow_mul-at c =
     let e = (goal.at.overflow_mul-at c).Else-is_bad in
     omega (
       arith,
-      place_inside (reg e) (valid e) (run e) (size e) (not-open (goal.at.overflow_mul-at c).Else-is_found) c.in-At.k
+      place_inside (reg e) (valid e) (run e) (size e) (not_open (goal.at.overflow_mul-at c).Else-is_found) c.in-At.k
           (sym (ap search_says c.in-At.is) ∙ c.find-2.ensures),
     )
 
@@ -76,7 +76,7 @@ overflow_add-end c =
     let e = (goal.at.overflow_add-end c).Else-is_bad in
     omega (
       arith,
-      place_inside (reg e) (valid e) (run e) (size e) (not-open (goal.at.overflow_add-end c).Else-is_found) c.in-At.k
+      place_inside (reg e) (valid e) (run e) (size e) (not_open (goal.at.overflow_add-end c).Else-is_found) c.in-At.k
           (sym (ap search_says c.in-At.is) ∙ c.find-2.ensures),
     )
 
@@ -84,24 +84,24 @@ pub slice_bounds-put_text-end : goal.slice_bounds-put_text-end
 slice_bounds-put_text-end c =
     let e = (goal.at.slice_bounds-put_text-end c).Else-is_bad in
     label_room (reg e) (valid e) (run e) (size e) c.in-At.k
-    (place_inside (reg e) (valid e) (run e) (size e) (not-open (goal.at.slice_bounds-put_text-end c).Else-is_found) c.in-At.k
+    (place_inside (reg e) (valid e) (run e) (size e) (not_open (goal.at.slice_bounds-put_text-end c).Else-is_found) c.in-At.k
     (sym (ap search_says c.in-At.is) ∙ c.find-2.ensures))
 
 pub put_text-requires : goal.put_text-requires
 put_text-requires c =
     let e = (goal.at.put_text-requires c).Else-is_bad in
     label_fits (reg e) (valid e) (run e) (size e) c.in-At.k
-    (place_inside (reg e) (valid e) (run e) (size e) (not-open (goal.at.put_text-requires c).Else-is_found) c.in-At.k
+    (place_inside (reg e) (valid e) (run e) (size e) (not_open (goal.at.put_text-requires c).Else-is_found) c.in-At.k
     (sym (ap search_says c.in-At.is) ∙ c.find-2.ensures))
 
 pub returns-in-Nowhere : goal.returns-in-Nowhere
 returns-in-Nowhere c =
     let e = (goal.at.returns-in-Nowhere c).Else-is_bad in
-    open_full (reg e) (valid e) (run e) (size e) (not-open (goal.at.returns-in-Nowhere c).Else-is_found) (sym (ap search_says c.in-Nowhere.is) ∙ c.find-2.ensures)
+    open_full (reg e) (valid e) (run e) (size e) (not_open (goal.at.returns-in-Nowhere c).Else-is_found) (sym (ap search_says c.in-Nowhere.is) ∙ c.find-2.ensures)
 
 pub returns-in-At : goal.returns-in-At
 returns-in-At c =
     let e = (goal.at.returns-in-At c).Else-is_bad in
-    open_there (reg e) (valid e) (run e) (size e) (not-open (goal.at.returns-in-At c).Else-is_found) c.in-At.k
+    open_there (reg e) (valid e) (run e) (size e) (not_open (goal.at.returns-in-At c).Else-is_found) c.in-At.k
     (sym (ap search_says c.in-At.is) ∙ c.find-2.ensures)
     c.put_text.new.field c.put_text.ensures

@@ -39,8 +39,8 @@ module _ (e : Else-is_bad) where
   texts : bad_size 32 destination || bad_size 64 text ≡ false
   texts = or_false_right (bad_size 32 run) (bad_size 32 destination || bad_size 64 text) sizes
 
-  some-run : 0 < length run
-  some-run = (size_of 32 run (or_false_left (bad_size 32 run) (bad_size 32 destination || bad_size 64 text) sizes)).some_octet
+  some_run : 0 < length run
+  some_run = (size_of 32 run (or_false_left (bad_size 32 run) (bad_size 32 destination || bad_size 64 text) sizes)).some_octet
 
 pub returns-then-not-is_valid : goal.returns-then-not-is_valid
 returns-then-not-is_valid c =
@@ -64,7 +64,7 @@ overflow_mul-at c =
     let e = (goal.at.overflow_mul-at c).Else-is_bad in
     omega (
       arith,
-      run_inside (reg e) (valid e) (run e) (some-run e) c.in-At.k
+      run_inside (reg e) (valid e) (run e) (some_run e) c.in-At.k
           (sym (ap search_says c.in-At.is) ∙ c.find.ensures),
     )
 
@@ -73,7 +73,7 @@ overflow_add-at c =
     let e = (goal.at.overflow_add-at c).Else-is_bad in
     omega (
       arith,
-      run_inside (reg e) (valid e) (run e) (some-run e) c.in-At.k
+      run_inside (reg e) (valid e) (run e) (some_run e) c.in-At.k
           (sym (ap search_says c.in-At.is) ∙ c.find.ensures),
     )
 
@@ -82,20 +82,20 @@ overflow_add-end c =
     let e = (goal.at.overflow_add-end c).Else-is_bad in
     omega (
       arith,
-      run_inside (reg e) (valid e) (run e) (some-run e) c.in-At.k
+      run_inside (reg e) (valid e) (run e) (some_run e) c.in-At.k
           (sym (ap search_says c.in-At.is) ∙ c.find.ensures),
     )
 
 pub slice_bounds-publish_in-end : goal.slice_bounds-publish_in-end
 slice_bounds-publish_in-end c =
     let e = (goal.at.slice_bounds-publish_in-end c).Else-is_bad in
-    slots_room (reg e) (valid e) (run e) (some-run e) c.in-At.k
+    slots_room (reg e) (valid e) (run e) (some_run e) c.in-At.k
     (sym (ap search_says c.in-At.is) ∙ c.find.ensures)
 
 pub publish_in-requires : goal.publish_in-requires
 publish_in-requires c =
     let e = (goal.at.publish_in-requires c).Else-is_bad in (
-      slots_part (reg e) (valid e) (run e) (some-run e) c.in-At.k
+      slots_part (reg e) (valid e) (run e) (some_run e) c.in-At.k
           (sym (ap search_says c.in-At.is) ∙ c.find.ensures),
       size_of 32 (destination e)
           (or_false_left (bad_size 32 (destination e)) (bad_size 64 (text e)) (texts e)),
@@ -108,12 +108,12 @@ returns-in-Nowhere c =
     let e = (goal.at.returns-in-Nowhere c).Else-is_bad in
     publish_none (reg e) (valid e) (run e) (destination e) (text e)
     c.args.session (sizes e)
-    (is_open_at (reg e) (valid e) (run e) (some-run e) c.find.result c.find.ensures ∙ ap is_at c.in-Nowhere.is)
+    (is_open_at (reg e) (valid e) (run e) (some_run e) c.find.result c.find.ensures ∙ ap is_at c.in-Nowhere.is)
 
 pub returns-in-At : goal.returns-in-At
 returns-in-At c =
     let e = (goal.at.returns-in-At c).Else-is_bad in
-    publish_part (reg e) (valid e) (run e) (some-run e) c.in-At.k
+    publish_part (reg e) (valid e) (run e) (some_run e) c.in-At.k
     (sym (ap search_says c.in-At.is) ∙ c.find.ensures)
     (destination e) (text e) c.args.session (sizes e)
     c.publish_in.result c.publish_in.new.rows c.publish_in.ensures

@@ -9,89 +9,89 @@ use Rattle.sessions.proofs.notes.note.Goals as goal
 pub loop-l-init : goal.loop-l-init
 loop-l-init c = subst (λ r. Walked c.args.block.now r 0) (sym c.none-notes.ensures) (walk_begins c.args.block.now)
 
-here-1 : (c : goal.After-struct_known-1) → Placed c.args.block.now c.loop-l.i c.in-Entry.l
-here-1 c = told_entry c.args.block.now c.loop-l.i c.entry_at.result c.in-Entry.l c.entry_at.ensures c.in-Entry.is
+here_1 : (c : goal.After-struct_known-1) → Placed c.args.block.now c.loop-l.i c.in-Entry.l
+here_1 c = told_entry c.args.block.now c.loop-l.i c.entry_at.result c.in-Entry.l c.entry_at.ensures c.in-Entry.is
 
 pub overflow_add-start : goal.overflow_add-start
-overflow_add-start c = omega (arith, (here-1 c).inside)
+overflow_add-start c = omega (arith, (here_1 c).inside)
 
-here-2 : (c : goal.After-struct_known-in-Entry-1) → Placed c.args.block.now c.loop-l.i c.in-Entry.l
-here-2 c = told_entry c.args.block.now c.loop-l.i c.entry_at.result c.in-Entry.l c.entry_at.ensures c.in-Entry.is
+here_2 : (c : goal.After-struct_known-in-Entry-1) → Placed c.args.block.now c.loop-l.i c.in-Entry.l
+here_2 c = told_entry c.args.block.now c.loop-l.i c.entry_at.result c.in-Entry.l c.entry_at.ensures c.in-Entry.is
 
 pub overflow_add-i : goal.overflow_add-i
-overflow_add-i c = omega (arith, (here-2 c).inside)
+overflow_add-i c = omega (arith, (here_2 c).inside)
 
 pub slice_bounds-number_of-end : goal.slice_bounds-number_of-end
-slice_bounds-number_of-end c = omega (arith, (here-2 c).inside)
+slice_bounds-number_of-end c = omega (arith, (here_2 c).inside)
 
-walked-1 : (c : goal.After-count-1) → Walked c.args.block.now c.loop-l.notes c.loop-l.i
-walked-1 c = c.loop-l.invariant
+walked_1 : (c : goal.After-count-1) → Walked c.args.block.now c.loop-l.notes c.loop-l.i
+walked_1 c = c.loop-l.invariant
 
 -- no count is above the place that the walk is at
 few : (c : goal.After-count-1) → get_or c.loop-l.notes.counts c.number_of-k.result 0 ≤ c.loop-l.i
-few c = ((walked-1 c).bounded c.number_of-k.result).few
+few c = ((walked_1 c).bounded c.number_of-k.result).few
 
-here-3 : (c : goal.After-count-1) → Placed c.args.block.now c.loop-l.i c.in-Entry.l
-here-3 c = told_entry c.args.block.now c.loop-l.i c.entry_at.result c.in-Entry.l c.entry_at.ensures c.in-Entry.is
+here_3 : (c : goal.After-count-1) → Placed c.args.block.now c.loop-l.i c.in-Entry.l
+here_3 c = told_entry c.args.block.now c.loop-l.i c.entry_at.result c.in-Entry.l c.entry_at.ensures c.in-Entry.is
 
 pub overflow_add-notes : goal.overflow_add-notes
-overflow_add-notes c = omega (arith, few c, (walked-1 c).within, (here-3 c).inside)
+overflow_add-notes c = omega (arith, few c, (walked_1 c).within, (here_3 c).inside)
 
-here-4 : (c : goal.Then-count-eq0) → Placed c.args.block.now c.loop-l.i c.in-Entry.l
-here-4 c = told_entry c.args.block.now c.loop-l.i c.entry_at.result c.in-Entry.l c.entry_at.ensures c.in-Entry.is
+here_4 : (c : goal.Then-count-eq0) → Placed c.args.block.now c.loop-l.i c.in-Entry.l
+here_4 c = told_entry c.args.block.now c.loop-l.i c.entry_at.result c.in-Entry.l c.entry_at.ensures c.in-Entry.is
 
 pub loop-l-smaller-then-count-eq0 : goal.loop-l-smaller-then-count-eq0
-loop-l-smaller-then-count-eq0 c = omega (arith, (here-4 c).inside)
+loop-l-smaller-then-count-eq0 c = omega (arith, (here_4 c).inside)
 
-walked-2 : (c : goal.Then-count-eq0) → Walked c.args.block.now c.loop-l.notes c.loop-l.i
-walked-2 c = c.loop-l.invariant
+walked_2 : (c : goal.Then-count-eq0) → Walked c.args.block.now c.loop-l.notes c.loop-l.i
+walked_2 c = c.loop-l.invariant
 
-numbered-1 : (c : goal.Then-count-eq0) → c.number_of-k.result ≡ number_of_name (placed c.args.block.now c.loop-l.i c.in-Entry.l).name
-numbered-1 c =
+numbered_1 : (c : goal.Then-count-eq0) → c.number_of-k.result ≡ number_of_name (placed c.args.block.now c.loop-l.i c.in-Entry.l).name
+numbered_1 c =
     let n : c.loop-l.i + 6 + c.in-Entry.l.name - (c.loop-l.i + 6) ≡ c.in-Entry.l.name = omega arith in
     c.number_of-k.ensures ∙ ap (λ k. number_of_name (take k (drop (c.loop-l.i + 6) c.args.block.now))) n
 
 pub loop-l-preserved-then-count-eq0 : goal.loop-l-preserved-then-count-eq0
 loop-l-preserved-then-count-eq0 c =
-    walk_first c.args.block.now c.loop-l.notes c.loop-l.i (walked-2 c) c.in-Entry.l (here-4 c) c.number_of-k.result (numbered-1 c)
+    walk_first c.args.block.now c.loop-l.notes c.loop-l.i (walked_2 c) c.in-Entry.l (here_4 c) c.number_of-k.result (numbered_1 c)
     c.if-k-lt-HEADERS.true c.if-count-eq0.true
 
-here-5 : (c : goal.Else-count-eq0) → Placed c.args.block.now c.loop-l.i c.in-Entry.l
-here-5 c = told_entry c.args.block.now c.loop-l.i c.entry_at.result c.in-Entry.l c.entry_at.ensures c.in-Entry.is
+here_5 : (c : goal.Else-count-eq0) → Placed c.args.block.now c.loop-l.i c.in-Entry.l
+here_5 c = told_entry c.args.block.now c.loop-l.i c.entry_at.result c.in-Entry.l c.entry_at.ensures c.in-Entry.is
 
 pub loop-l-smaller-else-count-eq0 : goal.loop-l-smaller-else-count-eq0
-loop-l-smaller-else-count-eq0 c = omega (arith, (here-5 c).inside)
+loop-l-smaller-else-count-eq0 c = omega (arith, (here_5 c).inside)
 
-walked-3 : (c : goal.Else-count-eq0) → Walked c.args.block.now c.loop-l.notes c.loop-l.i
-walked-3 c = c.loop-l.invariant
+walked_3 : (c : goal.Else-count-eq0) → Walked c.args.block.now c.loop-l.notes c.loop-l.i
+walked_3 c = c.loop-l.invariant
 
-numbered-2 : (c : goal.Else-count-eq0) → c.number_of-k.result ≡ number_of_name (placed c.args.block.now c.loop-l.i c.in-Entry.l).name
-numbered-2 c =
+numbered_2 : (c : goal.Else-count-eq0) → c.number_of-k.result ≡ number_of_name (placed c.args.block.now c.loop-l.i c.in-Entry.l).name
+numbered_2 c =
     let n : c.loop-l.i + 6 + c.in-Entry.l.name - (c.loop-l.i + 6) ≡ c.in-Entry.l.name = omega arith in
     c.number_of-k.ensures ∙ ap (λ k. number_of_name (take k (drop (c.loop-l.i + 6) c.args.block.now))) n
 
 pub loop-l-preserved-else-count-eq0 : goal.loop-l-preserved-else-count-eq0
 loop-l-preserved-else-count-eq0 c =
-    walk_later c.args.block.now c.loop-l.notes c.loop-l.i (walked-3 c) c.in-Entry.l (here-5 c) c.number_of-k.result (numbered-2 c)
+    walk_later c.args.block.now c.loop-l.notes c.loop-l.i (walked_3 c) c.in-Entry.l (here_5 c) c.number_of-k.result (numbered_2 c)
     c.if-k-lt-HEADERS.true c.if-count-eq0.false
 
-here-6 : (c : goal.Else-k-lt-HEADERS) → Placed c.args.block.now c.loop-l.i c.in-Entry.l
-here-6 c = told_entry c.args.block.now c.loop-l.i c.entry_at.result c.in-Entry.l c.entry_at.ensures c.in-Entry.is
+here_6 : (c : goal.Else-k-lt-HEADERS) → Placed c.args.block.now c.loop-l.i c.in-Entry.l
+here_6 c = told_entry c.args.block.now c.loop-l.i c.entry_at.result c.in-Entry.l c.entry_at.ensures c.in-Entry.is
 
 pub loop-l-smaller : goal.loop-l-smaller
-loop-l-smaller c = omega (arith, (here-6 c).inside)
+loop-l-smaller c = omega (arith, (here_6 c).inside)
 
-walked-4 : (c : goal.Else-k-lt-HEADERS) → Walked c.args.block.now c.loop-l.notes c.loop-l.i
-walked-4 c = c.loop-l.invariant
+walked_4 : (c : goal.Else-k-lt-HEADERS) → Walked c.args.block.now c.loop-l.notes c.loop-l.i
+walked_4 c = c.loop-l.invariant
 
-numbered-3 : (c : goal.Else-k-lt-HEADERS) → c.number_of-k.result ≡ number_of_name (placed c.args.block.now c.loop-l.i c.in-Entry.l).name
-numbered-3 c =
+numbered_3 : (c : goal.Else-k-lt-HEADERS) → c.number_of-k.result ≡ number_of_name (placed c.args.block.now c.loop-l.i c.in-Entry.l).name
+numbered_3 c =
     let n : c.loop-l.i + 6 + c.in-Entry.l.name - (c.loop-l.i + 6) ≡ c.in-Entry.l.name = omega arith in
     c.number_of-k.ensures ∙ ap (λ k. number_of_name (take k (drop (c.loop-l.i + 6) c.args.block.now))) n
 
 pub loop-l-preserved : goal.loop-l-preserved
 loop-l-preserved c =
-    walk_passes c.args.block.now c.loop-l.notes c.loop-l.i (walked-4 c) c.in-Entry.l (here-6 c) c.number_of-k.result (numbered-3 c) c.if-k-lt-HEADERS.false
+    walk_passes c.args.block.now c.loop-l.notes c.loop-l.i (walked_4 c) c.in-Entry.l (here_6 c) c.number_of-k.result (numbered_3 c) c.if-k-lt-HEADERS.false
 
 pub returns-in-End : goal.returns-in-End
 returns-in-End c =

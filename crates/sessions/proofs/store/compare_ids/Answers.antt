@@ -10,60 +10,60 @@ pub loop-k-init : goal.loop-k-init
 loop-k-init c = (first_place _ _, c.requires.clean_yes, refl)
 
 -- what a turn knows that has read the place's length
-here-1 : (c : goal.After-wide) → Turn c.requires.fits c.loop-k.invariant.0 c.wide.result
-here-1 c = record { more = c.loop-k-test.true; read = c.wide.ensures.0 }
+here_1 : (c : goal.After-wide) → Turn c.requires.fits c.loop-k.invariant.0 c.wide.result
+here_1 c = record { more = c.loop-k-test.true; read = c.wide.ensures.0 }
 
 pub overflow_add-end : goal.overflow_add-end
-overflow_add-end c = omega (arith, id_fits (here-1 c))
+overflow_add-end c = omega (arith, id_fits (here_1 c))
 
 pub overflow_add-next : goal.overflow_add-next
-overflow_add-next c = omega (arith, room (here-1 c))
+overflow_add-next c = omega (arith, room (here_1 c))
 
 -- what a turn knows that has read the place's length
-here-2 : (c : goal.After-is_repeated-arg-1) → Turn c.requires.fits c.loop-k.invariant.0 c.wide.result
-here-2 c = record { more = c.loop-k-test.true; read = c.wide.ensures.0 }
+here_2 : (c : goal.After-is_repeated-arg-1) → Turn c.requires.fits c.loop-k.invariant.0 c.wide.result
+here_2 c = record { more = c.loop-k-test.true; read = c.wide.ensures.0 }
 
 pub slice_bounds-is_repeated-count-in-loop-k : goal.slice_bounds-is_repeated-count-in-loop-k
-slice_bounds-is_repeated-count-in-loop-k c = room (here-2 c)
+slice_bounds-is_repeated-count-in-loop-k c = room (here_2 c)
 
 pub slice_bounds-is_repeated-start-in-loop-k : goal.slice_bounds-is_repeated-start-in-loop-k
-slice_bounds-is_repeated-start-in-loop-k c = room (here-2 c)
+slice_bounds-is_repeated-start-in-loop-k c = room (here_2 c)
 
 -- what a turn knows that has read the place's length
-here-3 : (c : goal.After-is_repeated-arg-in-loop-k-2-1) → Turn c.requires.fits c.loop-k.invariant.0 c.wide.result
-here-3 c = record { more = c.loop-k-test.true; read = c.wide.ensures.0 }
+here_3 : (c : goal.After-is_repeated-arg-in-loop-k-2-1) → Turn c.requires.fits c.loop-k.invariant.0 c.wide.result
+here_3 c = record { more = c.loop-k-test.true; read = c.wide.ensures.0 }
 
 pub slice_bounds-is_repeated-end-in-loop-k-3 : goal.slice_bounds-is_repeated-end-in-loop-k-3
-slice_bounds-is_repeated-end-in-loop-k-3 c = id_fits (here-3 c)
+slice_bounds-is_repeated-end-in-loop-k-3 c = id_fits (here_3 c)
 
 -- what a turn knows that has read the place's length
-here-4 : (c : goal.After-is_repeated-arg-in-loop-k-3-1) → Turn c.requires.fits c.loop-k.invariant.0 c.wide.result
-here-4 c = record { more = c.loop-k-test.true; read = c.wide.ensures.0 }
+here_4 : (c : goal.After-is_repeated-arg-in-loop-k-3-1) → Turn c.requires.fits c.loop-k.invariant.0 c.wide.result
+here_4 c = record { more = c.loop-k-test.true; read = c.wide.ensures.0 }
 
 pub is_repeated-requires : goal.is_repeated-requires
 is_repeated-requires c =
     let p = c.put_keys in
-    rest_keyed (here-4 c) c.loop-k.invariant.1 c.requires.wide c.requires.few p.new.d _ (p.ensures ∙ all_keys c.requires) _ refl
+    rest_keyed (here_4 c) c.loop-k.invariant.1 c.requires.wide c.requires.few p.new.d _ (p.ensures ∙ all_keys c.requires) _ refl
 
 -- what a turn knows that has read the place's length
-here-5 : (c : goal.Then-is_repeated) → Turn c.requires.fits c.loop-k.invariant.0 c.wide.result
-here-5 c = record { more = c.loop-k-test.true; read = c.wide.ensures.0 }
+here_5 : (c : goal.Then-is_repeated) → Turn c.requires.fits c.loop-k.invariant.0 c.wide.result
+here_5 c = record { more = c.loop-k-test.true; read = c.wide.ensures.0 }
 
 pub returns-then-is_repeated : goal.returns-then-is_repeated
 returns-then-is_repeated c =
     let l = c.loop-k in
-    sym (l.invariant.2 ∙ distinct_next (here-5 c) l.invariant.1 true (sym c.if-is_repeated.true ∙ c.is_repeated.ensures))
+    sym (l.invariant.2 ∙ distinct_next (here_5 c) l.invariant.1 true (sym c.if-is_repeated.true ∙ c.is_repeated.ensures))
 
 -- what a turn knows that has read the place's length
-here-6 : (c : goal.Else-is_repeated) → Turn c.requires.fits c.loop-k.invariant.0 c.wide.result
-here-6 c = record { more = c.loop-k-test.true; read = c.wide.ensures.0 }
+here_6 : (c : goal.Else-is_repeated) → Turn c.requires.fits c.loop-k.invariant.0 c.wide.result
+here_6 c = record { more = c.loop-k-test.true; read = c.wide.ensures.0 }
 
 pub loop-k-preserved : goal.loop-k-preserved
 loop-k-preserved c =
     let l = c.loop-k in (
-      next_place (here-6 c),
-      rest_clean (here-6 c) l.invariant.1,
-      l.invariant.2 ∙ distinct_next (here-6 c) l.invariant.1 false
+      next_place (here_6 c),
+      rest_clean (here_6 c) l.invariant.1,
+      l.invariant.2 ∙ distinct_next (here_6 c) l.invariant.1 false
           (sym c.if-is_repeated.false ∙ c.is_repeated.ensures),
     )
 

@@ -10,38 +10,38 @@ pub loop-k-init : goal.loop-k-init
 loop-k-init c = (first_place _ _, refl)
 
 -- what a turn knows that has read the place's length
-here-1 : (c : goal.After-wide) → Turn c.requires
+here_1 : (c : goal.After-wide) → Turn c.requires
     c.loop-k.invariant.0 c.wide.result
-here-1 c = record { more = c.loop-k-test.true; read = c.wide.ensures.0 }
+here_1 c = record { more = c.loop-k-test.true; read = c.wide.ensures.0 }
 
 pub overflow_add-end : goal.overflow_add-end
-overflow_add-end c = omega (arith, id_fits (here-1 c))
+overflow_add-end c = omega (arith, id_fits (here_1 c))
 
 pub slice_bounds-is_same-end : goal.slice_bounds-is_same-end
-slice_bounds-is_same-end c = id_fits (here-1 c)
+slice_bounds-is_same-end c = id_fits (here_1 c)
 
 -- what a turn knows that has read the place's length
-here-2 : (c : goal.Then-is_same) → Turn c.requires
+here_2 : (c : goal.Then-is_same) → Turn c.requires
     c.loop-k.invariant.0 c.wide.result
-here-2 c = record { more = c.loop-k-test.true; read = c.wide.ensures.0 }
+here_2 c = record { more = c.loop-k-test.true; read = c.wide.ensures.0 }
 
 pub returns-then-is_same : goal.returns-then-is_same
 returns-then-is_same c =
-    sym (c.loop-k.invariant.1 ∙ ap (first_from _ _) (ids_at (here-2 c)) ∙ first_hit _ _ _ _
+    sym (c.loop-k.invariant.1 ∙ ap (first_from _ _) (ids_at (here_2 c)) ∙ first_hit _ _ _ _
     (sym c.is_same.ensures ∙ c.if-is_same.true))
 
 -- what a turn knows that has read the place's length
-here-3 : (c : goal.Else-is_same) → Turn c.requires
+here_3 : (c : goal.Else-is_same) → Turn c.requires
     c.loop-k.invariant.0 c.wide.result
-here-3 c = record { more = c.loop-k-test.true; read = c.wide.ensures.0 }
+here_3 c = record { more = c.loop-k-test.true; read = c.wide.ensures.0 }
 
 pub overflow_add-at : goal.overflow_add-at
-overflow_add-at c = omega (arith, room (here-3 c))
+overflow_add-at c = omega (arith, room (here_3 c))
 
 pub loop-k-preserved : goal.loop-k-preserved
 loop-k-preserved c = (
-  next_place (here-3 c),
-  c.loop-k.invariant.1 ∙ ap (first_from _ _) (ids_at (here-3 c)) ∙ first_miss _ _ _ _ (sym c.is_same.ensures ∙ c.if-is_same.false),
+  next_place (here_3 c),
+  c.loop-k.invariant.1 ∙ ap (first_from _ _) (ids_at (here_3 c)) ∙ first_miss _ _ _ _ (sym c.is_same.ensures ∙ c.if-is_same.false),
 )
 
 pub returns : goal.returns

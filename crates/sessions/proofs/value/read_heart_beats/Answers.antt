@@ -21,27 +21,27 @@ returns-in_default c =
     c.read_decimal.ensures c.in_default.is)
 
 -- where the first number is read, what the second comes to
-known-1 : (c : goal.After-no_heart_beats-in_default-read_decimal) (b : DecimalRead) → c.read_decimal-2.result ≡ b
+known_1 : (c : goal.After-no_heart_beats-in_default-read_decimal) (b : DecimalRead) → c.read_decimal-2.result ≡ b
     → heart_beats c.args.value.now ≡ both
     (some c.in-Number.sends) (read_says b)
-known-1 c b q =
+known_1 c b q =
     let e = c.end_of-comma in
     heart_beats_both c.args.value.now e.result e.ensures.0 c.if-value-comma.false c.read_decimal.result
     c.read_decimal.ensures
     c.read_decimal-2.result c.read_decimal-2.ensures (DecimalRead.Number c.in-Number.sends) b c.in-Number.is q
 
 pub returns-in_default-read_decimal : goal.returns-in_default-read_decimal
-returns-in_default-read_decimal c = c.no_heart_beats-in_default-read_decimal.ensures ∙ sym (known-1 c DecimalRead.Invalid c.in_default-read_decimal.is)
+returns-in_default-read_decimal c = c.no_heart_beats-in_default-read_decimal.ensures ∙ sym (known_1 c DecimalRead.Invalid c.in_default-read_decimal.is)
 
 -- where the first number is read, what the second comes to
-known-2 : (c : goal.In-Number-read_decimal) (b : DecimalRead) → c.read_decimal-2.result ≡ b
+known_2 : (c : goal.In-Number-read_decimal) (b : DecimalRead) → c.read_decimal-2.result ≡ b
     → heart_beats c.args.value.now ≡ both
     (some c.in-Number.sends) (read_says b)
-known-2 c b q =
+known_2 c b q =
     let e = c.end_of-comma in
     heart_beats_both c.args.value.now e.result e.ensures.0 c.if-value-comma.false c.read_decimal.result
     c.read_decimal.ensures
     c.read_decimal-2.result c.read_decimal-2.ensures (DecimalRead.Number c.in-Number.sends) b c.in-Number.is q
 
 pub returns : goal.returns
-returns c = sym (known-2 c (DecimalRead.Number c.in-Number-read_decimal.wants) c.in-Number-read_decimal.is)
+returns c = sym (known_2 c (DecimalRead.Number c.in-Number-read_decimal.wants) c.in-Number-read_decimal.is)

@@ -21,19 +21,19 @@ returns-then-out-store c =
     kept_in_full a.range a.width a.store.now a.places.now a.out.now c.if-out-store.true
 
 -- the sizes fit
-fitting-1 : (c : goal.After-keep_each-arg-1) → let a = c.args in Compacts a.width a.store.now a.places.now a.out.now
-fitting-1 c =
+fitting_1 : (c : goal.After-keep_each-arg-1) → let a = c.args in Compacts a.width a.store.now a.places.now a.out.now
+fitting_1 c =
     let a = c.args in
     let r = c.are_rows in
     let long = eqb-true (length a.store.now) (length a.places.now * a.width) (sym r.ensures ∙ c.if-not-are_rows.false) in
     record { store_long = long; room = c.if-out-store.false }
 
 pub keep_each-requires : goal.keep_each-requires
-keep_each-requires c = fitting-1 c
+keep_each-requires c = fitting_1 c
 
 -- the sizes fit
-fitting-2 : (c : goal.After-slice_known-2-1) → let a = c.args in Compacts a.width a.store.now a.places.now a.out.now
-fitting-2 c =
+fitting_2 : (c : goal.After-slice_known-2-1) → let a = c.args in Compacts a.width a.store.now a.places.now a.out.now
+fitting_2 c =
     let a = c.args in
     let r = c.are_rows in
     let long = eqb-true (length a.store.now) (length a.places.now * a.width) (sym r.ensures ∙ c.if-not-are_rows.false) in
@@ -43,4 +43,4 @@ pub returns : goal.returns
 returns c =
     let a = c.args in
     subst (λ (z : List ℕ). Puts z c.keep_each.result a.out.now c.keep_each.new.out)
-    (sym (kept_in_all a.range a.width a.store.now a.places.now a.out.now (fitting-2 c))) c.keep_each.ensures
+    (sym (kept_in_all a.range a.width a.store.now a.places.now a.out.now (fitting_2 c))) c.keep_each.ensures

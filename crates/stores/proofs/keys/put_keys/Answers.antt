@@ -18,18 +18,18 @@ returns-then-d-lens c =
     sym (with_keys_full a.store.now a.lens.now a.d.now c.if-d-lens.true)
 
 -- the store has a place for each length
-placed-1 : (c : goal.After-put_each-arg-1) → let a = c.args in length a.store.now ≡ length a.lens.now * 32
-placed-1 c =
+placed_1 : (c : goal.After-put_each-arg-1) → let a = c.args in length a.store.now ≡ length a.lens.now * 32
+placed_1 c =
     let a = c.args in
     let r = c.are_rows in
     eqb-true (length a.store.now) (length a.lens.now * 32) (sym r.ensures ∙ c.if-not-are_rows.false)
 
 pub put_each-requires : goal.put_each-requires
-put_each-requires c = (placed-1 c, c.if-d-lens.false)
+put_each-requires c = (placed_1 c, c.if-d-lens.false)
 
 -- the store has a place for each length
-placed-2 : (c : goal.After-slice_known-2-1) → let a = c.args in length a.store.now ≡ length a.lens.now * 32
-placed-2 c =
+placed_2 : (c : goal.After-slice_known-2-1) → let a = c.args in length a.store.now ≡ length a.lens.now * 32
+placed_2 c =
     let a = c.args in
     let r = c.are_rows in
     eqb-true (length a.store.now) (length a.lens.now * 32) (sym r.ensures ∙ c.if-not-are_rows.false)
@@ -37,4 +37,4 @@ placed-2 c =
 pub returns : goal.returns
 returns c =
     let a = c.args in
-    c.put_each.ensures ∙ sym (with_keys_all a.store.now a.lens.now a.d.now (placed-2 c) c.if-d-lens.false)
+    c.put_each.ensures ∙ sym (with_keys_all a.store.now a.lens.now a.d.now (placed_2 c) c.if-d-lens.false)

@@ -13,8 +13,8 @@ use Rattle.sessions.proofs.Deciding.{does_nothing, does_drop}
 use Rattle.sessions.proofs.session.Session.drop_deliveries.Goals as goal
 
 -- a valid session, with the sizes of its arrays
-kept-1 : (c : goal.Then-count-is_zero) → is_valid c.args.self ≡ true → Kept c.args.self
-kept-1 c v =
+kept_1 : (c : goal.Then-count-is_zero) → is_valid c.args.self ≡ true → Kept c.args.self
+kept_1 c v =
     kept_of c.args.self
     (record {
       subscriptions = record { ids_long = search rules; lens_long = search rules; modes_long = search rules };
@@ -25,7 +25,7 @@ kept-1 c v =
 pub returns-then-count-is_zero : goal.returns-then-count-is_zero
 returns-then-count-is_zero c =
     let a = c.args in
-    let held = kept-1 c c.requires in
+    let held = kept_1 c c.requires in
     let d = a.self.deliveries in
     let ms = a.self.subscriptions.modes in
     let o = place_named a.self (some a.id.now) in
@@ -34,8 +34,8 @@ returns-then-count-is_zero c =
     (sym (dropped_idle d held.holds.sized (laid_of a.self held) o (eqb-true d.count 0 (and_left (eqb d.count 0) (is_zero ms) idle))))
 
 -- a valid session, with the sizes of its arrays
-kept-2 : (c : goal.In-At) → is_valid c.args.self ≡ true → Kept c.args.self
-kept-2 c v =
+kept_2 : (c : goal.In-At) → is_valid c.args.self ≡ true → Kept c.args.self
+kept_2 c v =
     kept_of c.args.self
     (record {
       subscriptions = record { ids_long = search rules; lens_long = search rules; modes_long = search rules };
@@ -48,7 +48,7 @@ returns-in-At c =
     let a = c.args in
     let found = says_at _ _ _ c.find_subscription.ensures c.in-At.is in
     does_drop a.self (place_named a.self (some a.id.now)) _ found
-    (place_inside a.self (kept-2 c c.requires) (λ x. same x a.id.now) _ found)
+    (place_inside a.self (kept_2 c c.requires) (λ x. same x a.id.now) _ found)
 
 pub returns-in-Nowhere : goal.returns-in-Nowhere
 returns-in-Nowhere c =

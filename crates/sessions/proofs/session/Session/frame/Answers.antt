@@ -68,8 +68,8 @@ returns-then-not-numbers-ids c =
     (gives_kept _ 38 _ (ap not (sym w ∙ c.if-not-numbers-ids.true)) refl c.kept.ensures)
 
 -- it is valid
-valid-1 : (c : goal.After-kept-then-is_unknown-notes) → is_valid c.args.self ≡ true
-valid-1 c =
+valid_1 : (c : goal.After-kept-then-is_unknown-notes) → is_valid c.args.self ≡ true
+valid_1 c =
     sym (whole_valid c.args.self _ _ _ c.has_valid_numbers-numbers.ensures c.are_valid_ids-ids.ensures c.are_valid-deliveries.ensures)
     ∙ c.if-not-numbers-ids.false
 
@@ -78,17 +78,17 @@ returns-then-is_unknown-notes c =
     let a = c.args in
     let fails = ap₂ (λ x y. x || not y) (sym c.is_unknown.ensures) (sym c.note-notes.ensures.well_formed) ∙ c.if-is_unknown-notes.true in
     frame_gives a.self a.command a.block.now a.time _
-    (gives_on _ _ (ap not (valid-1 c)) (gives_kept _ 39 _ fails refl c.kept-then-is_unknown-notes.ensures))
+    (gives_on _ _ (ap not (valid_1 c)) (gives_kept _ 39 _ fails refl c.kept-then-is_unknown-notes.ensures))
 
 -- it is valid
-valid-2 : (c : goal.After-settle_ids-arg-8-1) → is_valid c.args.self ≡ true
-valid-2 c =
+valid_2 : (c : goal.After-settle_ids-arg-8-1) → is_valid c.args.self ≡ true
+valid_2 c =
     sym (whole_valid c.args.self _ _ _ c.has_valid_numbers-numbers.ensures c.are_valid_ids-ids.ensures c.are_valid-deliveries.ensures)
     ∙ c.if-not-numbers-ids.false
 
 -- a valid session, with the sizes of its arrays
-kept-1 : (c : goal.After-settle_ids-arg-8-1) → is_valid c.args.self ≡ true → Kept c.args.self
-kept-1 c v =
+kept_1 : (c : goal.After-settle_ids-arg-8-1) → is_valid c.args.self ≡ true → Kept c.args.self
+kept_1 c v =
     kept_of c.args.self
     (record {
       subscriptions = record { ids_long = search rules; lens_long = search rules; modes_long = search rules };
@@ -96,35 +96,35 @@ kept-1 c v =
     })
     (record { labels_long = search rules; lens_long = search rules; places_long = search rules }) v
 
-noted-1 : (c : goal.After-settle_ids-arg-8-1) → AllNoted c.args.block.now c.note-notes.result
-noted-1 c =
+noted_1 : (c : goal.After-settle_ids-arg-8-1) → AllNoted c.args.block.now c.note-notes.result
+noted_1 c =
     let notes = c.note-notes.ensures in
     notes.noted (sym notes.well_formed ∙ not-false _ (or_false_right c.is_unknown.result _ c.if-is_unknown-notes.false))
 
 pub settle_ids-named-requires : goal.settle_ids-named-requires
 settle_ids-named-requires c =
-    let v = valid-2 c in
-    let sized = (kept-1 c v).ids.sized in (
+    let v = valid_2 c in
+    let sized = (kept_1 c v).ids.sized in (
       fits_of c.args.self sized v Subscriptions,
       fits_of c.args.self sized v Transactions,
-      noted-1 c,
+      noted_1 c,
     )
 
 -- it is valid
-valid-3 : (c : goal.After-settle_ids-named) → is_valid c.args.self ≡ true
-valid-3 c =
+valid_3 : (c : goal.After-settle_ids-named) → is_valid c.args.self ≡ true
+valid_3 c =
     sym (whole_valid c.args.self _ _ _ c.has_valid_numbers-numbers.ensures c.are_valid_ids-ids.ensures c.are_valid-deliveries.ensures)
     ∙ c.if-not-numbers-ids.false
 
-noted-2 : (c : goal.After-settle_ids-named) → AllNoted c.args.block.now c.note-notes.result
-noted-2 c =
+noted_2 : (c : goal.After-settle_ids-named) → AllNoted c.args.block.now c.note-notes.result
+noted_2 c =
     let notes = c.note-notes.ensures in
     notes.noted (sym notes.well_formed ∙ not-false _ (or_false_right c.is_unknown.result _ c.if-is_unknown-notes.false))
 
 pub act-step-requires : goal.act-step-requires
 act-step-requires c = (
-  valid-3 c,
-  noted-2 c,
+  valid_3 c,
+  noted_2 c,
   c.settle_ids-named.ensures c.args.self
       (record { subs_are = refl; sub_lens_are = refl; txs_are = refl; tx_lens_are = refl }) (sym c.chosen-version.ensures),
 )
@@ -145,8 +145,8 @@ pub put-self-requires : goal.put-self-requires
 put-self-requires c = (asked (goal.at.put-self-requires c).In-Use).put_fits
 
 -- a valid session, with the sizes of its arrays
-kept-2 : (c : goal.After-pending-1) → is_valid c.args.self ≡ true → Kept c.args.self
-kept-2 c v =
+kept_2 : (c : goal.After-pending-1) → is_valid c.args.self ≡ true → Kept c.args.self
+kept_2 c v =
     kept_of c.args.self
     (record {
       subscriptions = record { ids_long = search rules; lens_long = search rules; modes_long = search rules };
@@ -155,14 +155,14 @@ kept-2 c v =
     (record { labels_long = search rules; lens_long = search rules; places_long = search rules }) v
 
 -- it is valid
-valid-4 : (c : goal.After-pending-1) → is_valid c.args.self ≡ true
-valid-4 c =
+valid_4 : (c : goal.After-pending-1) → is_valid c.args.self ≡ true
+valid_4 c =
     sym (whole_valid c.args.self _ _ _ c.has_valid_numbers-numbers.ensures c.are_valid_ids-ids.ensures c.are_valid-deliveries.ensures)
     ∙ c.if-not-numbers-ids.false
 
 pub dropped-self-requires : goal.dropped-self-requires
 dropped-self-requires c = (
-  laid_of c.args.self (kept-2 c (valid-4 c)),
+  laid_of c.args.self (kept_2 c (valid_4 c)),
   subst ModeFits c.in-Drop.is (asked (goal.at.dropped-self-requires c).In-Use).mode_fits,
 )
 
@@ -170,8 +170,8 @@ pub slice_bounds-settled-end : goal.slice_bounds-settled-end
 slice_bounds-settled-end c = search rules
 
 -- a valid session, with the sizes of its arrays
-kept-3 : (c : goal.After-modes-in-Settle-1) → is_valid c.args.self ≡ true → Kept c.args.self
-kept-3 c v =
+kept_3 : (c : goal.After-modes-in-Settle-1) → is_valid c.args.self ≡ true → Kept c.args.self
+kept_3 c v =
     kept_of c.args.self
     (record {
       subscriptions = record { ids_long = search rules; lens_long = search rules; modes_long = search rules };
@@ -180,14 +180,14 @@ kept-3 c v =
     (record { labels_long = search rules; lens_long = search rules; places_long = search rules }) v
 
 -- it is valid
-valid-5 : (c : goal.After-modes-in-Settle-1) → is_valid c.args.self ≡ true
-valid-5 c =
+valid_5 : (c : goal.After-modes-in-Settle-1) → is_valid c.args.self ≡ true
+valid_5 c =
     sym (whole_valid c.args.self _ _ _ c.has_valid_numbers-numbers.ensures c.are_valid_ids-ids.ensures c.are_valid-deliveries.ensures)
     ∙ c.if-not-numbers-ids.false
 
 pub settled-self-requires : goal.settled-self-requires
 settled-self-requires c = (
-  laid_of c.args.self (kept-3 c (valid-5 c)),
+  laid_of c.args.self (kept_3 c (valid_5 c)),
   (subst (λ f. SettleFits f c.args.self.deliveries) c.in-Settle.is (asked (goal.at.settled-self-requires c).In-Use).settle_fits).number_inside,
 )
 

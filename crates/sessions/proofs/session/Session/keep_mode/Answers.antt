@@ -10,8 +10,8 @@ use Rattle.sessions.proofs.Deciding.{does_nothing, does_mode}
 use Rattle.sessions.proofs.session.Session.keep_mode.Goals as goal
 
 -- a valid session, with the sizes of its arrays
-kept-1 : (c : goal.Then-mode-eq-AUTO) → is_valid c.args.self ≡ true → Kept c.args.self
-kept-1 c v =
+kept_1 : (c : goal.Then-mode-eq-AUTO) → is_valid c.args.self ≡ true → Kept c.args.self
+kept_1 c v =
     kept_of c.args.self
     (record {
       subscriptions = record { ids_long = search rules; lens_long = search rules; modes_long = search rules };
@@ -22,12 +22,12 @@ kept-1 c v =
 pub returns-then-mode-eq-AUTO : goal.returns-then-mode-eq-AUTO
 returns-then-mode-eq-AUTO c =
     let a = c.args in
-    let auto = entered_auto a.self (kept-1 c c.requires) in
+    let auto = entered_auto a.self (kept_1 c c.requires) in
     does_nothing a.self _ _ (ap (λ m. with_mode (free_place a.self) m a.self.subscriptions.modes) c.if-mode-eq-AUTO.true ∙ sym auto) refl
 
 -- a valid session, with the sizes of its arrays
-kept-2 : (c : goal.In-At) → is_valid c.args.self ≡ true → Kept c.args.self
-kept-2 c v =
+kept_2 : (c : goal.In-At) → is_valid c.args.self ≡ true → Kept c.args.self
+kept_2 c v =
     kept_of c.args.self
     (record {
       subscriptions = record { ids_long = search rules; lens_long = search rules; modes_long = search rules };
@@ -38,13 +38,13 @@ kept-2 c v =
 pub returns-in-At : goal.returns-in-At
 returns-in-At c =
     let a = c.args in
-    let held = kept-2 c c.requires in
+    let held = kept_2 c c.requires in
     let found = free_is a.self held ∙ says_at _ _ _ c.find_free.ensures c.in-At.is in
     does_mode a.self (free_place a.self) _ a.mode found (place_inside a.self held empty _ found)
 
 -- a valid session, with the sizes of its arrays
-kept-3 : (c : goal.In-Nowhere) → is_valid c.args.self ≡ true → Kept c.args.self
-kept-3 c v =
+kept_3 : (c : goal.In-Nowhere) → is_valid c.args.self ≡ true → Kept c.args.self
+kept_3 c v =
     kept_of c.args.self
     (record {
       subscriptions = record { ids_long = search rules; lens_long = search rules; modes_long = search rules };
@@ -55,5 +55,5 @@ kept-3 c v =
 pub returns-in-Nowhere : goal.returns-in-Nowhere
 returns-in-Nowhere c =
     let a = c.args in
-    let none_free = free_is a.self (kept-3 c c.requires) ∙ says_nowhere _ _ c.find_free.ensures c.in-Nowhere.is in
+    let none_free = free_is a.self (kept_3 c c.requires) ∙ says_nowhere _ _ c.find_free.ensures c.in-Nowhere.is in
     does_nothing a.self _ _ (ap (λ o. with_mode o a.mode a.self.subscriptions.modes) none_free) refl

@@ -12,8 +12,8 @@ returns-then-not-is_valid c =
     ∙ c.if-not-is_valid.true)
 
 -- a valid session, with the sizes of its arrays
-kept-1 : (c : goal.After-nothing_told-then-wide-index) → is_valid c.args.self ≡ true → Kept c.args.self
-kept-1 c v =
+kept_1 : (c : goal.After-nothing_told-then-wide-index) → is_valid c.args.self ≡ true → Kept c.args.self
+kept_1 c v =
     kept_of c.args.self
     (record {
       subscriptions = record { ids_long = search rules; lens_long = search rules; modes_long = search rules };
@@ -26,7 +26,7 @@ pub returns-then-wide-index : goal.returns-then-wide-index
 returns-then-wide-index c =
     c.nothing_told-then-wide-index.ensures
     ∙ told_absent c.args.self
-    (kept-1 c (sym c.is_valid.ensures
+    (kept_1 c (sym c.is_valid.ensures
     ∙ c.if-not-is_valid.false)) c.args.index
     (sym c.is_valid.ensures ∙ c.if-not-is_valid.false)
     (omega (arith, c.wide.ensures.0, c.if-wide-index.true))
@@ -39,8 +39,8 @@ told-requires c = (
 )
 
 -- a valid session, with the sizes of its arrays
-kept-2 : (c : goal.After-told) → is_valid c.args.self ≡ true → Kept c.args.self
-kept-2 c v =
+kept_2 : (c : goal.After-told) → is_valid c.args.self ≡ true → Kept c.args.self
+kept_2 c v =
     kept_of c.args.self
     (record {
       subscriptions = record { ids_long = search rules; lens_long = search rules; modes_long = search rules };
@@ -52,6 +52,6 @@ kept-2 c v =
 pub returns : goal.returns
 returns c =
     c.told.ensures ∙ told_held c.args.self
-    (kept-2 c (sym c.is_valid.ensures
+    (kept_2 c (sym c.is_valid.ensures
     ∙ c.if-not-is_valid.false)) c.args.index
     (sym c.is_valid.ensures ∙ c.if-not-is_valid.false)

@@ -7,8 +7,8 @@ use Rattle.sessions.proofs.Kept.{Kept, kept_of}
 use Rattle.sessions.proofs.session.Session.told.Goals as goal
 
 -- a valid session, with the sizes of its arrays
-kept-1 : (c : goal.After-id_lens-1-unread) → is_valid c.args.self ≡ true → Kept c.args.self
-kept-1 c v =
+kept_1 : (c : goal.After-id_lens-1-unread) → is_valid c.args.self ≡ true → Kept c.args.self
+kept_1 c v =
     kept_of c.args.self
     (record {
       subscriptions = record { ids_long = search rules; lens_long = search rules; modes_long = search rules };
@@ -24,12 +24,12 @@ bounds-places-index c =
       c.requires.1,
       (laid_of
           c.args.self
-          (kept-1 c c.requires.0)).few,
+          (kept_1 c c.requires.0)).few,
     )
 
 -- a valid session, with the sizes of its arrays
-kept-2 : (c : goal.After-ids-2-1) → is_valid c.args.self ≡ true → Kept c.args.self
-kept-2 c v =
+kept_2 : (c : goal.After-ids-2-1) → is_valid c.args.self ≡ true → Kept c.args.self
+kept_2 c v =
     kept_of c.args.self
     (record {
       subscriptions = record { ids_long = search rules; lens_long = search rules; modes_long = search rules };
@@ -43,17 +43,17 @@ row-requires c =
     omega (
       arith,
       told_place c.args.self
-          (kept-2 c
+          (kept_2 c
           c.requires.0)
           c.args.index
           c.requires.1 c.wide-place.result c.wide-place.ensures.0,
-      (kept-2 c
+      (kept_2 c
           c.requires.0).ids.sized.subscriptions.ids_long,
     )
 
 -- a valid session, with the sizes of its arrays
-kept-3 : (c : goal.After-row) → is_valid c.args.self ≡ true → Kept c.args.self
-kept-3 c v =
+kept_3 : (c : goal.After-row) → is_valid c.args.self ≡ true → Kept c.args.self
+kept_3 c v =
     kept_of c.args.self
     (record {
       subscriptions = record { ids_long = search rules; lens_long = search rules; modes_long = search rules };
@@ -67,7 +67,7 @@ bounds-id_lens-place c =
     omega (
       arith,
       told_place c.args.self
-          (kept-3 c
+          (kept_3 c
           c.requires.0)
           c.args.index
           c.requires.1 c.wide-place.result
@@ -79,7 +79,7 @@ bounds-modes-place c =
     omega (
       arith,
       told_place c.args.self
-          (kept-3 c
+          (kept_3 c
           c.requires.0)
           c.args.index
           c.requires.1 c.wide-place.result
@@ -91,8 +91,8 @@ slice_bounds-row-end-2 c =
     search rules
 
 -- a valid session, with the sizes of its arrays
-kept-4 : (c : goal.After-labels-2-1) → is_valid c.args.self ≡ true → Kept c.args.self
-kept-4 c v =
+kept_4 : (c : goal.After-labels-2-1) → is_valid c.args.self ≡ true → Kept c.args.self
+kept_4 c v =
     kept_of c.args.self
     (record {
       subscriptions = record { ids_long = search rules; lens_long = search rules; modes_long = search rules };
@@ -108,15 +108,15 @@ row-requires-2 c =
       c.requires.1,
       (laid_of
           c.args.self
-          (kept-4 c
+          (kept_4 c
           c.requires.0)).few,
-      (kept-4 c
+      (kept_4 c
           c.requires.0).holds.sized.labels_long,
     )
 
 -- a valid session, with the sizes of its arrays
-kept-5 : (c : goal.After-row-2) → is_valid c.args.self ≡ true → Kept c.args.self
-kept-5 c v =
+kept_5 : (c : goal.After-row-2) → is_valid c.args.self ≡ true → Kept c.args.self
+kept_5 c v =
     kept_of c.args.self
     (record {
       subscriptions = record { ids_long = search rules; lens_long = search rules; modes_long = search rules };
@@ -132,7 +132,7 @@ bounds-lens-index c =
       c.requires.1,
       (laid_of
           c.args.self
-          (kept-5 c
+          (kept_5 c
           c.requires.0)).few,
     )
 
@@ -152,7 +152,7 @@ returns c = ap₂ (λ a b. record {
       c.args.index 0;
 }) c.row.ensures c.row-2.ensures
     ∙ told_at c.args.self
-    (kept-5 c
+    (kept_5 c
     c.requires.0)
     c.args.index
     c.requires.1

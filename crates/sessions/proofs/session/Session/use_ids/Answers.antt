@@ -17,14 +17,14 @@ returns-then-number-ne0 c =
     (uses_closed a.self a.command a.block.now a.acceptance _ (c.requires.2.refuses c.if-number-ne0.true a.acceptance))
 
 -- the session that the ids leave
-abbrev left-1 : (c : goal.After-closing-in-Refused) → Session
-left-1 c = id_effect c.args.self (changed_id (put_before (use_named c.args.named.first (listed (entries c.args.block.now))) []))
+abbrev left_1 : (c : goal.After-closing-in-Refused) → Session
+left_1 c = id_effect c.args.self (changed_id (put_before (use_named c.args.named.first (listed (entries c.args.block.now))) []))
 
 pub returns-in-Refused : goal.returns-in-Refused
 returns-in-Refused c =
     let a = c.args in
     decides_as c.closing-in-Refused.ensures
-    (uses_refused_later a.self a.command a.block.now a.acceptance (left-1 c) (c.requires.2.accepts c.if-number-ne0.false a.acceptance) _
+    (uses_refused_later a.self a.command a.block.now a.acceptance (left_1 c) (c.requires.2.accepts c.if-number-ne0.false a.acceptance) _
     (rw c.in-Refused.is at c.further.ensures))
 
 -- the sizes of its arrays
@@ -36,8 +36,8 @@ sized c =
     }
 
 -- the session that the ids leave
-abbrev left-2 : (c : goal.After-accepting) → Session
-left-2 c = id_effect c.args.self (changed_id (put_before (use_named c.args.named.first (listed (entries c.args.block.now))) []))
+abbrev left_2 : (c : goal.After-accepting) → Session
+left_2 c = id_effect c.args.self (changed_id (put_before (use_named c.args.named.first (listed (entries c.args.block.now))) []))
 
 pub returns-in-Does : goal.returns-in-Does
 returns-in-Does c =
@@ -46,6 +46,6 @@ returns-in-Does c =
     let zero = c.if-number-ne0.false in
     let (e, fits) = c.put_of-put.ensures a.self (sized c) c.requires.0 names.first_settled (names.none_refused zero) in
     decides_as (c.accepting.ensures ∙ ap (accepting_step a.acceptance) c.use_of.ensures)
-    (uses_done a.self a.command a.block.now a.acceptance (left-2 c) (names.accepts zero a.acceptance) c.put_of-put.result
+    (uses_done a.self a.command a.block.now a.acceptance (left_2 c) (names.accepts zero a.acceptance) c.put_of-put.result
     c.in-Does.further e fits
     (rw c.in-Does.is at c.further.ensures))
