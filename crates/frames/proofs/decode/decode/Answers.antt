@@ -15,6 +15,7 @@ use Rattle.frames.specs.Layout.{line_cr, front_lines}
 use Rattle.frames.specs.Decoding.{line_entries}
 use borrow.Enum.Refused.{opened}
 use Rattle.frames.proofs.decode.decode.Goals as goal
+use Rattle.frames.proofs.decode.decode.Goals.{After-first_line-from, After-measure, Else-item-frame}
 
 pub returns-in_default : goal.returns-in_default
 returns-in_default c =
@@ -39,139 +40,76 @@ returns-then-item-frame c =
     (not_frame s.version _ c.parse.ensures.1
     (ap parsed_says c.in-Complete.is) (λ all. absurd (c.if-item-frame.true all)))
 
-one_1 : (c : goal.After-put_records-arg-1) → let i = c.in-Complete.item in
+one_1 : (c : After-first_line-from) → let i = c.in-Complete.item in
     OneFrame c.args.version c.args.frame.now i.command i.headers i.body i.body_len
 one_1 c =
     one_frame c.args.version c.parse.ensures.1
     (ap parsed_says c.in-Complete.is) c.if-item-eq1.false c.if-item-frame.false
 
-cr_is_1 : (c : goal.After-put_records-arg-1) → c.or_10-cr.result ≡ line_cr (crlf c.args.version)
+cr_is_1 : (c : After-first_line-from) → c.or_10-cr.result ≡ line_cr (crlf c.args.version)
 cr_is_1 c = c.or_10-cr.ensures ∙ ap line_cr c.has_crlf-crlf.ensures
 
-style_is_1 : (c : goal.After-put_records-arg-1) → c.style_of-style.result ≡ style_of (crlf c.args.version) c.in-Complete.item.command
+style_is_1 : (c : After-first_line-from) → c.style_of-style.result ≡ style_of (crlf c.args.version) c.in-Complete.item.command
 style_is_1 c = c.style_of-style.ensures ∙ ap (λ w. style_of w c.in-Complete.item.command) c.has_crlf-crlf.ensures
 
-fits_1 : (c : goal.After-put_records-arg-1) → let a = c.args in 16544 ≤ length a.block.now → length (image ((line_entries c.style_of-style.result (front_lines c.or_10-cr.result c.in-Complete.item.headers (drop c.first_line-from.result c.args.frame.now))))) ≤ length a.block.now
-fits_1 c =
+fits : (c : After-first_line-from) → let a = c.args in 16544 ≤ length a.block.now → length (image ((line_entries c.style_of-style.result (front_lines c.or_10-cr.result c.in-Complete.item.headers (drop c.first_line-from.result c.args.frame.now))))) ≤ length a.block.now
+fits c =
     ample _ (one_1 c) c.or_10-cr.result c.style_of-style.result c.first_line-from.result (cr_is_1 c) (style_is_1 c) c.first_line-from.ensures.1 c.args.block.now
 
-shorts_1 : (c : goal.After-put_records-arg-1) → All Short ((line_entries c.style_of-style.result (front_lines c.or_10-cr.result c.in-Complete.item.headers (drop c.first_line-from.result c.args.frame.now))))
-shorts_1 c = each_short _ (one_1 c) c.or_10-cr.result c.style_of-style.result c.first_line-from.result (cr_is_1 c) (style_is_1 c) c.first_line-from.ensures.1
+shorts : (c : After-first_line-from) → All Short ((line_entries c.style_of-style.result (front_lines c.or_10-cr.result c.in-Complete.item.headers (drop c.first_line-from.result c.args.frame.now))))
+shorts c = each_short _ (one_1 c) c.or_10-cr.result c.style_of-style.result c.first_line-from.result (cr_is_1 c) (style_is_1 c) c.first_line-from.ensures.1
 
 pub put_records-requires : goal.put_records-requires
-put_records-requires c = (c.first_line-from.ensures.0, fits_1 c c.if-block-ge-BLOCK.true, shorts_1 c)
+put_records-requires c = (c.first_line-from.ensures.0, fits (goal.at.put_records-requires c).After-first_line-from c.if-block-ge-BLOCK.true, shorts (goal.at.put_records-requires c).After-first_line-from)
 
-one_2 : (c : goal.After-slice_known-then-block-ge-BLOCK-1) → let i = c.in-Complete.item in
+-- what is known of them, whatever is measured
+settles_1 : (c : After-first_line-from) (total : ℕ) → total ≡ length (image ((line_entries c.style_of-style.result (front_lines c.or_10-cr.result c.in-Complete.item.headers (drop c.first_line-from.result c.args.frame.now)))))
+    → let a = c.args in Settled a.version a.frame.now a.block.now ((line_entries c.style_of-style.result (front_lines c.or_10-cr.result c.in-Complete.item.headers (drop c.first_line-from.result c.args.frame.now)))) total
+settles_1 c = settled _ (one_1 c) c.or_10-cr.result c.style_of-style.result c.first_line-from.result (cr_is_1 c) (style_is_1 c) c.first_line-from.ensures.1 _
+
+pub returns-then-block-ge-BLOCK : goal.returns-then-block-ge-BLOCK
+returns-then-block-ge-BLOCK c =
+    (settles_1 (goal.at.returns-then-block-ge-BLOCK c).After-first_line-from c.put_records.result c.put_records.ensures.0).whole (omega (arith, fits (goal.at.returns-then-block-ge-BLOCK c).After-first_line-from c.if-block-ge-BLOCK.true, c.put_records.ensures.0)) _ c.put_records.ensures.1
+
+one_2 : (c : Else-item-frame) → let i = c.in-Complete.item in
     OneFrame c.args.version c.args.frame.now i.command i.headers i.body i.body_len
 one_2 c =
     one_frame c.args.version c.parse.ensures.1
     (ap parsed_says c.in-Complete.is) c.if-item-eq1.false c.if-item-frame.false
 
-cr_is_2 : (c : goal.After-slice_known-then-block-ge-BLOCK-1) → c.or_10-cr.result ≡ line_cr (crlf c.args.version)
-cr_is_2 c = c.or_10-cr.ensures ∙ ap line_cr c.has_crlf-crlf.ensures
+pub measure-requires : goal.measure-requires
+measure-requires c = (c.first_line-from.ensures.0, few_lines _ (one_2 (goal.at.measure-requires c).Else-item-frame))
 
-style_is_2 : (c : goal.After-slice_known-then-block-ge-BLOCK-1) → c.style_of-style.result ≡ style_of (crlf c.args.version) c.in-Complete.item.command
-style_is_2 c = c.style_of-style.ensures ∙ ap (λ w. style_of w c.in-Complete.item.command) c.has_crlf-crlf.ensures
-
--- what is known of them, whatever is measured
-settles_1 : (c : goal.After-slice_known-then-block-ge-BLOCK-1) (total : ℕ) → total ≡ length (image ((line_entries c.style_of-style.result (front_lines c.or_10-cr.result c.in-Complete.item.headers (drop c.first_line-from.result c.args.frame.now)))))
-    → let a = c.args in Settled a.version a.frame.now a.block.now ((line_entries c.style_of-style.result (front_lines c.or_10-cr.result c.in-Complete.item.headers (drop c.first_line-from.result c.args.frame.now)))) total
-settles_1 c = settled _ (one_2 c) c.or_10-cr.result c.style_of-style.result c.first_line-from.result (cr_is_2 c) (style_is_2 c) c.first_line-from.ensures.1 _
-
-fits_2 : (c : goal.After-slice_known-then-block-ge-BLOCK-1) → let a = c.args in 16544 ≤ length a.block.now → length (image ((line_entries c.style_of-style.result (front_lines c.or_10-cr.result c.in-Complete.item.headers (drop c.first_line-from.result c.args.frame.now))))) ≤ length a.block.now
-fits_2 c =
-    ample _ (one_2 c) c.or_10-cr.result c.style_of-style.result c.first_line-from.result (cr_is_2 c) (style_is_2 c) c.first_line-from.ensures.1 c.args.block.now
-
-pub returns-then-block-ge-BLOCK : goal.returns-then-block-ge-BLOCK
-returns-then-block-ge-BLOCK c =
-    (settles_1 c c.put_records.result c.put_records.ensures.0).whole (omega (arith, fits_2 c c.if-block-ge-BLOCK.true, c.put_records.ensures.0)) _ c.put_records.ensures.1
-
-one_3 : (c : goal.Else-block-ge-BLOCK) → let i = c.in-Complete.item in
+one_3 : (c : After-measure) → let i = c.in-Complete.item in
     OneFrame c.args.version c.args.frame.now i.command i.headers i.body i.body_len
 one_3 c =
     one_frame c.args.version c.parse.ensures.1
     (ap parsed_says c.in-Complete.is) c.if-item-eq1.false c.if-item-frame.false
 
-pub measure-requires : goal.measure-requires
-measure-requires c = (c.first_line-from.ensures.0, few_lines _ (one_3 c))
+cr_is_2 : (c : After-measure) → c.or_10-cr.result ≡ line_cr (crlf c.args.version)
+cr_is_2 c = c.or_10-cr.ensures ∙ ap line_cr c.has_crlf-crlf.ensures
 
-one_4 : (c : goal.Then-block-measure) → let i = c.in-Complete.item in
-    OneFrame c.args.version c.args.frame.now i.command i.headers i.body i.body_len
-one_4 c =
-    one_frame c.args.version c.parse.ensures.1
-    (ap parsed_says c.in-Complete.is) c.if-item-eq1.false c.if-item-frame.false
-
-cr_is_3 : (c : goal.Then-block-measure) → c.or_10-cr.result ≡ line_cr (crlf c.args.version)
-cr_is_3 c = c.or_10-cr.ensures ∙ ap line_cr c.has_crlf-crlf.ensures
-
-style_is_3 : (c : goal.Then-block-measure) → c.style_of-style.result ≡ style_of (crlf c.args.version) c.in-Complete.item.command
-style_is_3 c = c.style_of-style.ensures ∙ ap (λ w. style_of w c.in-Complete.item.command) c.has_crlf-crlf.ensures
+style_is_2 : (c : After-measure) → c.style_of-style.result ≡ style_of (crlf c.args.version) c.in-Complete.item.command
+style_is_2 c = c.style_of-style.ensures ∙ ap (λ w. style_of w c.in-Complete.item.command) c.has_crlf-crlf.ensures
 
 -- what is known of them, whatever is measured
-settles_2 : (c : goal.Then-block-measure) (total : ℕ) → total ≡ length (image ((line_entries c.style_of-style.result (front_lines c.or_10-cr.result c.in-Complete.item.headers (drop c.first_line-from.result c.args.frame.now)))))
+settles_2 : (c : After-measure) (total : ℕ) → total ≡ length (image ((line_entries c.style_of-style.result (front_lines c.or_10-cr.result c.in-Complete.item.headers (drop c.first_line-from.result c.args.frame.now)))))
     → let a = c.args in Settled a.version a.frame.now a.block.now ((line_entries c.style_of-style.result (front_lines c.or_10-cr.result c.in-Complete.item.headers (drop c.first_line-from.result c.args.frame.now)))) total
-settles_2 c = settled _ (one_4 c) c.or_10-cr.result c.style_of-style.result c.first_line-from.result (cr_is_3 c) (style_is_3 c) c.first_line-from.ensures.1 _
+settles_2 c = settled _ (one_3 c) c.or_10-cr.result c.style_of-style.result c.first_line-from.result (cr_is_2 c) (style_is_2 c) c.first_line-from.ensures.1 _
 
 -- its entries are measured
-measured_1 : (c : goal.Then-block-measure) → let a = c.args in
+measured : (c : After-measure) → let a = c.args in
     Settled a.version a.frame.now a.block.now ((line_entries c.style_of-style.result (front_lines c.or_10-cr.result c.in-Complete.item.headers (drop c.first_line-from.result c.args.frame.now)))) c.measure.result
-measured_1 c = settles_2 c c.measure.result c.measure.ensures
+measured c = settles_2 c c.measure.result c.measure.ensures
 
 pub returns-then-block-measure : goal.returns-then-block-measure
-returns-then-block-measure c = (measured_1 c).short c.if-block-measure.true
-
-one_5 : (c : goal.After-put_records-arg-2-1) → let i = c.in-Complete.item in
-    OneFrame c.args.version c.args.frame.now i.command i.headers i.body i.body_len
-one_5 c =
-    one_frame c.args.version c.parse.ensures.1
-    (ap parsed_says c.in-Complete.is) c.if-item-eq1.false c.if-item-frame.false
-
-cr_is_4 : (c : goal.After-put_records-arg-2-1) → c.or_10-cr.result ≡ line_cr (crlf c.args.version)
-cr_is_4 c = c.or_10-cr.ensures ∙ ap line_cr c.has_crlf-crlf.ensures
-
-style_is_4 : (c : goal.After-put_records-arg-2-1) → c.style_of-style.result ≡ style_of (crlf c.args.version) c.in-Complete.item.command
-style_is_4 c = c.style_of-style.ensures ∙ ap (λ w. style_of w c.in-Complete.item.command) c.has_crlf-crlf.ensures
-
--- what is known of them, whatever is measured
-settles_3 : (c : goal.After-put_records-arg-2-1) (total : ℕ) → total ≡ length (image ((line_entries c.style_of-style.result (front_lines c.or_10-cr.result c.in-Complete.item.headers (drop c.first_line-from.result c.args.frame.now)))))
-    → let a = c.args in Settled a.version a.frame.now a.block.now ((line_entries c.style_of-style.result (front_lines c.or_10-cr.result c.in-Complete.item.headers (drop c.first_line-from.result c.args.frame.now)))) total
-settles_3 c = settled _ (one_5 c) c.or_10-cr.result c.style_of-style.result c.first_line-from.result (cr_is_4 c) (style_is_4 c) c.first_line-from.ensures.1 _
-
--- its entries are measured
-measured_2 : (c : goal.After-put_records-arg-2-1) → let a = c.args in
-    Settled a.version a.frame.now a.block.now ((line_entries c.style_of-style.result (front_lines c.or_10-cr.result c.in-Complete.item.headers (drop c.first_line-from.result c.args.frame.now)))) c.measure.result
-measured_2 c = settles_3 c c.measure.result c.measure.ensures
-
-shorts_2 : (c : goal.After-put_records-arg-2-1) → All Short ((line_entries c.style_of-style.result (front_lines c.or_10-cr.result c.in-Complete.item.headers (drop c.first_line-from.result c.args.frame.now))))
-shorts_2 c = each_short _ (one_5 c) c.or_10-cr.result c.style_of-style.result c.first_line-from.result (cr_is_4 c) (style_is_4 c) c.first_line-from.ensures.1
+returns-then-block-measure c = (measured (goal.at.returns-then-block-measure c).After-measure).short c.if-block-measure.true
 
 pub put_records-requires-2 : goal.put_records-requires-2
 put_records-requires-2 c =
-    (c.first_line-from.ensures.0, (measured_2 c).room c.if-block-measure.false, shorts_2 c)
-
-one_6 : (c : goal.After-slice_known-2-1) → let i = c.in-Complete.item in
-    OneFrame c.args.version c.args.frame.now i.command i.headers i.body i.body_len
-one_6 c =
-    one_frame c.args.version c.parse.ensures.1
-    (ap parsed_says c.in-Complete.is) c.if-item-eq1.false c.if-item-frame.false
-
-cr_is_5 : (c : goal.After-slice_known-2-1) → c.or_10-cr.result ≡ line_cr (crlf c.args.version)
-cr_is_5 c = c.or_10-cr.ensures ∙ ap line_cr c.has_crlf-crlf.ensures
-
-style_is_5 : (c : goal.After-slice_known-2-1) → c.style_of-style.result ≡ style_of (crlf c.args.version) c.in-Complete.item.command
-style_is_5 c = c.style_of-style.ensures ∙ ap (λ w. style_of w c.in-Complete.item.command) c.has_crlf-crlf.ensures
-
--- what is known of them, whatever is measured
-settles_4 : (c : goal.After-slice_known-2-1) (total : ℕ) → total ≡ length (image ((line_entries c.style_of-style.result (front_lines c.or_10-cr.result c.in-Complete.item.headers (drop c.first_line-from.result c.args.frame.now)))))
-    → let a = c.args in Settled a.version a.frame.now a.block.now ((line_entries c.style_of-style.result (front_lines c.or_10-cr.result c.in-Complete.item.headers (drop c.first_line-from.result c.args.frame.now)))) total
-settles_4 c = settled _ (one_6 c) c.or_10-cr.result c.style_of-style.result c.first_line-from.result (cr_is_5 c) (style_is_5 c) c.first_line-from.ensures.1 _
-
--- its entries are measured
-measured_3 : (c : goal.After-slice_known-2-1) → let a = c.args in
-    Settled a.version a.frame.now a.block.now ((line_entries c.style_of-style.result (front_lines c.or_10-cr.result c.in-Complete.item.headers (drop c.first_line-from.result c.args.frame.now)))) c.measure.result
-measured_3 c = settles_4 c c.measure.result c.measure.ensures
+    (c.first_line-from.ensures.0, (measured (goal.at.put_records-requires-2 c).After-measure).room c.if-block-measure.false, shorts (goal.at.put_records-requires-2 c).After-first_line-from)
 
 pub returns : goal.returns
 returns c =
-    let fits = (measured_3 c).room c.if-block-measure.false in
-    (settles_4 c c.put_records-2.result c.put_records-2.ensures.0).whole (omega (arith, fits, c.put_records-2.ensures.0)) _ c.put_records-2.ensures.1
+    let fits = (measured (goal.at.returns c).After-measure).room c.if-block-measure.false in
+    (settles_1 (goal.at.returns c).After-first_line-from c.put_records-2.result c.put_records-2.ensures.0).whole (omega (arith, fits, c.put_records-2.ensures.0)) _ c.put_records-2.ensures.1

@@ -22,7 +22,7 @@ use Rattle.frames.proofs.Writing.{entries_listed, says_told, total_of}
 use Rattle.frames.proofs.Sums.{sums_many, sums_few, sums_unwritable, sums_writable}
 use Rattle.frames.proofs.Settled.{known_command, settle_of, says_of, settles, refuses_52, refuses_53, refuses_54, refuses_55, refuses_56, accepts}
 use Rattle.frames.proofs.encode.answer_of.Goals as goal
-use Rattle.frames.proofs.encode.answer_of.Goals.{else-adds, else-declared, then-adds, then-declared+else-not-says_length}
+use Rattle.frames.proofs.encode.answer_of.Goals.{After-image_length-total, Else-lines-gt-LINES, Else-most_of-body, Else-sums, Joined-adds, Joined-declared, else-adds, else-declared, then-adds, then-declared+else-not-says_length}
 
 sums_1 : (c : goal.After-struct_known-1) → Sums (style_of (crlf c.args.version) c.args.command) ((listed (entries c.args.block.now))) c.args.sums
 sums_1 c = c.requires.3
@@ -30,10 +30,10 @@ sums_1 c = c.requires.3
 pub overflow_add-lines : goal.overflow_add-lines
 overflow_add-lines c = omega (arith, (sums_1 c).few)
 
-abbrev Added_1 : goal.Then-lines-gt-LINES → Bool → Type 0
+abbrev Added_1 : (c : goal.Then-lines-gt-LINES) → Bool → Type 0
 Added_1 c counted = is_block c.args.block.now ≡ true → c.args.adds ≡ adds_length ((listed (entries c.args.block.now))) c.args.body.now counted
 
-abbrev call_of_1 : goal.Then-lines-gt-LINES → Bool → Call
+abbrev call_of_1 : (c : goal.Then-lines-gt-LINES) → Bool → Call
 call_of_1 c counted = record { command = c.args.command; block = c.args.block.now; body = c.args.body.now; counted = counted }
 
 answered_1 : (c : goal.Then-lines-gt-LINES) (r : Answer) → (settle_of c.args.version c.args.command ((listed (entries c.args.block.now))) c.args.adds c.args.body.now c.args.room) ≡ r → (counted : Bool) → Added_1 c counted
@@ -51,36 +51,39 @@ sums_2 : (c : goal.Then-lines-gt-LINES) → Sums (style_of (crlf c.args.version)
 sums_2 c = c.requires.3
 
 -- the added one counted
-lines_at_1 : (c : goal.Then-lines-gt-LINES) → c.if-adds.lines ≡ c.args.sums.count + cond c.args.adds 1 0
+lines_at_1 : (c : Joined-adds) → c.if-adds.lines ≡ c.args.sums.count + cond c.args.adds 1 0
 lines_at_1 c =
     let n = c.args.sums.count in
     (elim c.if-adds.branch [ then-adds w ↦ w.lines-is ∙ ap (λ t. n + cond t 1 0) (sym w.if-adds.true) | else-adds w ↦ let z : n ≡ n + 0 = omega arith in w.lines-is ∙ z ∙ ap (λ t. n + cond t 1 0) (sym w.if-adds.false) ])
 
 pub returns-then-lines-gt-LINES : goal.returns-then-lines-gt-LINES
 returns-then-lines-gt-LINES c = (
-  answered_1 c (refused 52) (refuses_52 _ _ _ _ _ _ (sums_many _ _ _ (sums_2 c) (cond c.args.adds 1 0) (omega (arith, lines_at_1 c)))),
+  answered_1 c (refused 52) (refuses_52 _ _ _ _ _ _ (sums_many _ _ _ (sums_2 c) (cond c.args.adds 1 0) (omega (arith, lines_at_1 (goal.at.returns-then-lines-gt-LINES c).Joined-adds)))),
   λ n h. absurd (let z : ◌≡◌ {A = ℕ} 0 1 = cc in omega arith),
 )
 
 sums_3 : (c : goal.Then-sums) → Sums (style_of (crlf c.args.version) c.args.command) ((listed (entries c.args.block.now))) c.args.sums
 sums_3 c = c.requires.3
 
+sums_4 : (c : Else-lines-gt-LINES) → Sums (style_of (crlf c.args.version) c.args.command) ((listed (entries c.args.block.now))) c.args.sums
+sums_4 c = c.requires.3
+
 -- the added one counted
-lines_at_2 : (c : goal.Then-sums) → c.if-adds.lines ≡ c.args.sums.count + cond c.args.adds 1 0
+lines_at_2 : (c : Else-lines-gt-LINES) → c.if-adds.lines ≡ c.args.sums.count + cond c.args.adds 1 0
 lines_at_2 c =
     let n = c.args.sums.count in
     (elim c.if-adds.branch [ then-adds w ↦ w.lines-is ∙ ap (λ t. n + cond t 1 0) (sym w.if-adds.true) | else-adds w ↦ let z : n ≡ n + 0 = omega arith in w.lines-is ∙ z ∙ ap (λ t. n + cond t 1 0) (sym w.if-adds.false) ])
 
-few_at_1 : (c : goal.Then-sums) → length ((listed (entries c.args.block.now))) + cond c.args.adds 1 0 ≤ 32
-few_at_1 c = sums_few _ _ _ (sums_3 c) (cond c.args.adds 1 0) (omega (arith, lines_at_2 c))
+few_at_1 : (c : Else-lines-gt-LINES) → length ((listed (entries c.args.block.now))) + cond c.args.adds 1 0 ≤ 32
+few_at_1 c = sums_few _ _ _ (sums_4 c) (cond c.args.adds 1 0) (omega (arith, lines_at_2 c))
 
-all_few_1 : (c : goal.Then-sums) → length ((listed (entries c.args.block.now))) ≤ 32
+all_few_1 : (c : Else-lines-gt-LINES) → length ((listed (entries c.args.block.now))) ≤ 32
 all_few_1 c = omega (arith, few_at_1 c)
 
-abbrev Added_2 : goal.Then-sums → Bool → Type 0
+abbrev Added_2 : (c : goal.Then-sums) → Bool → Type 0
 Added_2 c counted = is_block c.args.block.now ≡ true → c.args.adds ≡ adds_length ((listed (entries c.args.block.now))) c.args.body.now counted
 
-abbrev call_of_2 : goal.Then-sums → Bool → Call
+abbrev call_of_2 : (c : goal.Then-sums) → Bool → Call
 call_of_2 c counted = record { command = c.args.command; block = c.args.block.now; body = c.args.body.now; counted = counted }
 
 answered_2 : (c : goal.Then-sums) (r : Answer) → (settle_of c.args.version c.args.command ((listed (entries c.args.block.now))) c.args.adds c.args.body.now c.args.room) ≡ r → (counted : Bool) → Added_2 c counted
@@ -96,15 +99,15 @@ answered_2 c r e counted added =
 
 pub returns-then-sums : goal.returns-then-sums
 returns-then-sums c = (
-  λ counted added. ap (refusal 53) ((sums_3 c).writable (all_few_1 c))
-      ∙ answered_2 c (refused 53) (refuses_53 _ _ _ _ _ _ (few_at_1 c) (sums_unwritable _ _ _ (sums_3 c) (all_few_1 c) c.if-sums.true)) counted added,
+  λ counted added. ap (refusal 53) ((sums_3 c).writable (all_few_1 (goal.at.returns-then-sums c).Else-lines-gt-LINES))
+      ∙ answered_2 c (refused 53) (refuses_53 _ _ _ _ _ _ (few_at_1 (goal.at.returns-then-sums c).Else-lines-gt-LINES) (sums_unwritable _ _ _ (sums_3 c) (all_few_1 (goal.at.returns-then-sums c).Else-lines-gt-LINES) c.if-sums.true)) counted added,
   λ n h. absurd (let z : ◌≡◌ {A = ℕ} 0 1 = cc in omega arith),
 )
 
-abbrev Added_3 : goal.Then-most_of-body → Bool → Type 0
+abbrev Added_3 : (c : goal.Then-most_of-body) → Bool → Type 0
 Added_3 c counted = is_block c.args.block.now ≡ true → c.args.adds ≡ adds_length ((listed (entries c.args.block.now))) c.args.body.now counted
 
-abbrev call_of_3 : goal.Then-most_of-body → Bool → Call
+abbrev call_of_3 : (c : goal.Then-most_of-body) → Bool → Call
 call_of_3 c counted = record { command = c.args.command; block = c.args.block.now; body = c.args.body.now; counted = counted }
 
 answered_3 : (c : goal.Then-most_of-body) (r : Answer) → (settle_of c.args.version c.args.command ((listed (entries c.args.block.now))) c.args.adds c.args.body.now c.args.room) ≡ r → (counted : Bool) → Added_3 c counted
@@ -118,28 +121,28 @@ answered_3 c r e counted added =
     ∙ ap (λ t. indexed (settle_of c.args.version c.args.command es t c.args.body.now c.args.room) i) (sym (added c.requires.1))
     ∙ ap (λ a. indexed a i) e)
 
-sums_4 : (c : goal.Then-most_of-body) → Sums (style_of (crlf c.args.version) c.args.command) ((listed (entries c.args.block.now))) c.args.sums
-sums_4 c = c.requires.3
+sums_5 : (c : Else-sums) → Sums (style_of (crlf c.args.version) c.args.command) ((listed (entries c.args.block.now))) c.args.sums
+sums_5 c = c.requires.3
 
 -- the added one counted
-lines_at_3 : (c : goal.Then-most_of-body) → c.if-adds.lines ≡ c.args.sums.count + cond c.args.adds 1 0
+lines_at_3 : (c : Else-sums) → c.if-adds.lines ≡ c.args.sums.count + cond c.args.adds 1 0
 lines_at_3 c =
     let n = c.args.sums.count in
     (elim c.if-adds.branch [ then-adds w ↦ w.lines-is ∙ ap (λ t. n + cond t 1 0) (sym w.if-adds.true) | else-adds w ↦ let z : n ≡ n + 0 = omega arith in w.lines-is ∙ z ∙ ap (λ t. n + cond t 1 0) (sym w.if-adds.false) ])
 
-few_at_2 : (c : goal.Then-most_of-body) → length ((listed (entries c.args.block.now))) + cond c.args.adds 1 0 ≤ 32
-few_at_2 c = sums_few _ _ _ (sums_4 c) (cond c.args.adds 1 0) (omega (arith, lines_at_3 c))
+few_at_2 : (c : Else-sums) → length ((listed (entries c.args.block.now))) + cond c.args.adds 1 0 ≤ 32
+few_at_2 c = sums_few _ _ _ (sums_5 c) (cond c.args.adds 1 0) (omega (arith, lines_at_3 c))
 
-all_few_2 : (c : goal.Then-most_of-body) → length ((listed (entries c.args.block.now))) ≤ 32
+all_few_2 : (c : Else-sums) → length ((listed (entries c.args.block.now))) ≤ 32
 all_few_2 c = omega (arith, few_at_2 c)
 
-each_at_1 : (c : goal.Then-most_of-body) → every (can_write (style_of (crlf c.args.version) c.args.command)) ((listed (entries c.args.block.now))) ≡ true
-each_at_1 c = sums_writable _ _ _ (sums_4 c) (all_few_2 c) c.if-sums.false
+each_at : (c : Else-sums) → every (can_write (style_of (crlf c.args.version) c.args.command)) ((listed (entries c.args.block.now))) ≡ true
+each_at c = sums_writable _ _ _ (sums_5 c) (all_few_2 c) c.if-sums.false
 
 pub returns-then-most_of-body : goal.returns-then-most_of-body
 returns-then-most_of-body c = (
   answered_3 c (refused 54)
-      (refuses_54 _ _ _ _ _ _ (few_at_2 c) (each_at_1 c) (omega (arith, c.if-most_of-body.true, c.most_of.ensures))),
+      (refuses_54 _ _ _ _ _ _ (few_at_1 (goal.at.returns-then-most_of-body c).Else-lines-gt-LINES) (each_at (goal.at.returns-then-most_of-body c).Else-sums) (omega (arith, c.if-most_of-body.true, c.most_of.ensures))),
   λ n h. absurd (let z : ◌≡◌ {A = ℕ} 0 1 = cc in omega arith),
 )
 
@@ -147,19 +150,19 @@ returns-then-most_of-body c = (
 pub slice_bounds-says_length-count : goal.slice_bounds-says_length-count
 slice_bounds-says_length-count c = omega (arith, c.requires.0.inside)
 
-fits_at_1 : (c : goal.After-says_length-arg-1) → length c.args.body.now ≤ most_of c.args.command
-fits_at_1 c = omega (arith, c.if-most_of-body.false, c.most_of.ensures)
+fits_at : (c : Else-most_of-body) → length c.args.body.now ≤ most_of c.args.command
+fits_at c = omega (arith, c.if-most_of-body.false, c.most_of.ensures)
 
-small_at_1 : (c : goal.After-says_length-arg-1) → length c.args.body.now ≤ 32768
-small_at_1 c = omega (arith, fits_at_1 c, most_small c.args.command)
+small_at : (c : Else-most_of-body) → length c.args.body.now ≤ 32768
+small_at c = omega (arith, fits_at c, most_small c.args.command)
 
 pub says_length-requires : goal.says_length-requires
-says_length-requires c = small_at_1 c
+says_length-requires c = small_at (goal.at.says_length-requires c).Else-most_of-body
 
-abbrev Added_4 : goal.Then-not-says_length → Bool → Type 0
+abbrev Added_4 : (c : goal.Then-not-says_length) → Bool → Type 0
 Added_4 c counted = is_block c.args.block.now ≡ true → c.args.adds ≡ adds_length ((listed (entries c.args.block.now))) c.args.body.now counted
 
-abbrev call_of_4 : goal.Then-not-says_length → Bool → Call
+abbrev call_of_4 : (c : goal.Then-not-says_length) → Bool → Call
 call_of_4 c counted = record { command = c.args.command; block = c.args.block.now; body = c.args.body.now; counted = counted }
 
 answered_4 : (c : goal.Then-not-says_length) (r : Answer) → (settle_of c.args.version c.args.command ((listed (entries c.args.block.now))) c.args.adds c.args.body.now c.args.room) ≡ r → (counted : Bool) → Added_4 c counted
@@ -173,29 +176,8 @@ answered_4 c r e counted added =
     ∙ ap (λ t. indexed (settle_of c.args.version c.args.command es t c.args.body.now c.args.room) i) (sym (added c.requires.1))
     ∙ ap (λ a. indexed a i) e)
 
-sums_5 : (c : goal.Then-not-says_length) → Sums (style_of (crlf c.args.version) c.args.command) ((listed (entries c.args.block.now))) c.args.sums
-sums_5 c = c.requires.3
-
--- the added one counted
-lines_at_4 : (c : goal.Then-not-says_length) → c.if-adds.lines ≡ c.args.sums.count + cond c.args.adds 1 0
-lines_at_4 c =
-    let n = c.args.sums.count in
-    (elim c.if-adds.branch [ then-adds w ↦ w.lines-is ∙ ap (λ t. n + cond t 1 0) (sym w.if-adds.true) | else-adds w ↦ let z : n ≡ n + 0 = omega arith in w.lines-is ∙ z ∙ ap (λ t. n + cond t 1 0) (sym w.if-adds.false) ])
-
-few_at_3 : (c : goal.Then-not-says_length) → length ((listed (entries c.args.block.now))) + cond c.args.adds 1 0 ≤ 32
-few_at_3 c = sums_few _ _ _ (sums_5 c) (cond c.args.adds 1 0) (omega (arith, lines_at_4 c))
-
-all_few_3 : (c : goal.Then-not-says_length) → length ((listed (entries c.args.block.now))) ≤ 32
-all_few_3 c = omega (arith, few_at_3 c)
-
-each_at_2 : (c : goal.Then-not-says_length) → every (can_write (style_of (crlf c.args.version) c.args.command)) ((listed (entries c.args.block.now))) ≡ true
-each_at_2 c = sums_writable _ _ _ (sums_5 c) (all_few_3 c) c.if-sums.false
-
-fits_at_2 : (c : goal.Then-not-says_length) → length c.args.body.now ≤ most_of c.args.command
-fits_at_2 c = omega (arith, c.if-most_of-body.false, c.most_of.ensures)
-
 -- what it says of the body, by whether it is there
-said_1 : (c : goal.Then-not-says_length) (p : Bool) → c.args.declared.present ≡ p
+said_1 : (c : Else-most_of-body) (p : Bool) → c.args.declared.present ≡ p
     → says_length (length c.args.body.now) (first_length ((listed (entries c.args.block.now))))
     ≡ says_length (length c.args.body.now) (cond p (some (value_at c.args.block.now c.args.declared)) none)
 said_1 c = says_told c.args.block.now c.args.declared c.requires.0 c.requires.1 (length c.args.body.now)
@@ -203,30 +185,24 @@ said_1 c = says_told c.args.block.now c.args.declared c.requires.0 c.requires.1 
 pub returns-then-not-says_length : goal.returns-then-not-says_length
 returns-then-not-says_length c = (
   answered_4 c (refused 55)
-      (refuses_55 _ _ _ _ _ _ (few_at_3 c) (each_at_2 c) (fits_at_2 c)
-      (said_1 c true c.if-declared.true ∙ sym c.says_length.ensures ∙ c.if-not-says_length.true)),
+      (refuses_55 _ _ _ _ _ _ (few_at_1 (goal.at.returns-then-not-says_length c).Else-lines-gt-LINES) (each_at (goal.at.returns-then-not-says_length c).Else-sums) (fits_at (goal.at.returns-then-not-says_length c).Else-most_of-body)
+      (said_1 (goal.at.returns-then-not-says_length c).Else-most_of-body true c.if-declared.true ∙ sym c.says_length.ensures ∙ c.if-not-says_length.true)),
   λ n h. absurd (let z : ◌≡◌ {A = ℕ} 0 1 = cc in omega arith),
 )
 
 sums_6 : (c : goal.Joined-declared) → Sums (style_of (crlf c.args.version) c.args.command) ((listed (entries c.args.block.now))) c.args.sums
 sums_6 c = c.requires.3
 
-fits_at_3 : (c : goal.Joined-declared) → length c.args.body.now ≤ most_of c.args.command
-fits_at_3 c = omega (arith, c.if-most_of-body.false, c.most_of.ensures)
-
-small_at_2 : (c : goal.Joined-declared) → length c.args.body.now ≤ 32768
-small_at_2 c = omega (arith, fits_at_3 c, most_small c.args.command)
-
 -- ## The image's length
 pub image_length-total-requires : goal.image_length-total-requires
 image_length-total-requires c =
     let n = c.args.command in
-    (ltb-false 15 n (or_false_right (eqb n 0) (ltb 15 n) c.requires.2), (sums_6 c).small, small_at_2 c)
+    (ltb-false 15 n (or_false_right (eqb n 0) (ltb 15 n) c.requires.2), (sums_6 c).small, small_at (goal.at.image_length-total-requires c).Else-most_of-body)
 
-abbrev Added_5 : goal.Then-room-total → Bool → Type 0
+abbrev Added_5 : (c : goal.Then-room-total) → Bool → Type 0
 Added_5 c counted = is_block c.args.block.now ≡ true → c.args.adds ≡ adds_length ((listed (entries c.args.block.now))) c.args.body.now counted
 
-abbrev call_of_5 : goal.Then-room-total → Bool → Call
+abbrev call_of_5 : (c : goal.Then-room-total) → Bool → Call
 call_of_5 c counted = record { command = c.args.command; block = c.args.block.now; body = c.args.body.now; counted = counted }
 
 answered_5 : (c : goal.Then-room-total) (r : Answer) → (settle_of c.args.version c.args.command ((listed (entries c.args.block.now))) c.args.adds c.args.body.now c.args.room) ≡ r → (counted : Bool) → Added_5 c counted
@@ -240,74 +216,48 @@ answered_5 c r e counted added =
     ∙ ap (λ t. indexed (settle_of c.args.version c.args.command es t c.args.body.now c.args.room) i) (sym (added c.requires.1))
     ∙ ap (λ a. indexed a i) e)
 
-sums_7 : (c : goal.Then-room-total) → Sums (style_of (crlf c.args.version) c.args.command) ((listed (entries c.args.block.now))) c.args.sums
-sums_7 c = c.requires.3
-
--- the added one counted
-lines_at_5 : (c : goal.Then-room-total) → c.if-adds.lines ≡ c.args.sums.count + cond c.args.adds 1 0
-lines_at_5 c =
-    let n = c.args.sums.count in
-    (elim c.if-adds.branch [ then-adds w ↦ w.lines-is ∙ ap (λ t. n + cond t 1 0) (sym w.if-adds.true) | else-adds w ↦ let z : n ≡ n + 0 = omega arith in w.lines-is ∙ z ∙ ap (λ t. n + cond t 1 0) (sym w.if-adds.false) ])
-
-few_at_4 : (c : goal.Then-room-total) → length ((listed (entries c.args.block.now))) + cond c.args.adds 1 0 ≤ 32
-few_at_4 c = sums_few _ _ _ (sums_7 c) (cond c.args.adds 1 0) (omega (arith, lines_at_5 c))
-
-all_few_4 : (c : goal.Then-room-total) → length ((listed (entries c.args.block.now))) ≤ 32
-all_few_4 c = omega (arith, few_at_4 c)
-
-each_at_3 : (c : goal.Then-room-total) → every (can_write (style_of (crlf c.args.version) c.args.command)) ((listed (entries c.args.block.now))) ≡ true
-each_at_3 c = sums_writable _ _ _ (sums_7 c) (all_few_4 c) c.if-sums.false
-
-fits_at_4 : (c : goal.Then-room-total) → length c.args.body.now ≤ most_of c.args.command
-fits_at_4 c = omega (arith, c.if-most_of-body.false, c.most_of.ensures)
-
 -- what it says of the body, by whether it is there
-said_2 : (c : goal.Then-room-total) (p : Bool) → c.args.declared.present ≡ p
+said_2 : (c : Joined-declared) (p : Bool) → c.args.declared.present ≡ p
     → says_length (length c.args.body.now) (first_length ((listed (entries c.args.block.now))))
     ≡ says_length (length c.args.body.now) (cond p (some (value_at c.args.block.now c.args.declared)) none)
 said_2 c = says_told c.args.block.now c.args.declared c.requires.0 c.requires.1 (length c.args.body.now)
 
-says_at_1 : (c : goal.Then-room-total) → says_length (length c.args.body.now) (first_length ((listed (entries c.args.block.now)))) ≡ true
-says_at_1 c =
+says_at : (c : Joined-declared) → says_length (length c.args.body.now) (first_length ((listed (entries c.args.block.now)))) ≡ true
+says_at c =
     (elim c.if-declared.branch [ then-declared+else-not-says_length w ↦ said_2 c true w.if-declared.true ∙ sym w.says_length.ensures ∙ w.if-not-says_length.false | else-declared w ↦ said_2 c false w.if-declared.false ])
 
-long_at_1 : (c : goal.Then-room-total) → c.image_length-total.result ≡ (total_of (crlf c.args.version) c.args.command ((listed (entries c.args.block.now))) c.args.adds c.args.body.now)
-long_at_1 c =
+sums_7 : (c : After-image_length-total) → Sums (style_of (crlf c.args.version) c.args.command) ((listed (entries c.args.block.now))) c.args.sums
+sums_7 c = c.requires.3
+
+-- the added one counted
+lines_at_4 : (c : After-image_length-total) → c.if-adds.lines ≡ c.args.sums.count + cond c.args.adds 1 0
+lines_at_4 c =
+    let n = c.args.sums.count in
+    (elim c.if-adds.branch [ then-adds w ↦ w.lines-is ∙ ap (λ t. n + cond t 1 0) (sym w.if-adds.true) | else-adds w ↦ let z : n ≡ n + 0 = omega arith in w.lines-is ∙ z ∙ ap (λ t. n + cond t 1 0) (sym w.if-adds.false) ])
+
+few_at_3 : (c : After-image_length-total) → length ((listed (entries c.args.block.now))) + cond c.args.adds 1 0 ≤ 32
+few_at_3 c = sums_few _ _ _ (sums_7 c) (cond c.args.adds 1 0) (omega (arith, lines_at_4 c))
+
+all_few_3 : (c : After-image_length-total) → length ((listed (entries c.args.block.now))) ≤ 32
+all_few_3 c = omega (arith, few_at_3 c)
+
+long_at : (c : After-image_length-total) → c.image_length-total.result ≡ (total_of (crlf c.args.version) c.args.command ((listed (entries c.args.block.now))) c.args.adds c.args.body.now)
+long_at c =
     c.image_length-total.ensures
-    ∙ ap (λ n. lengths_of c.args.command n c.args.adds (length c.args.body.now)) ((sums_7 c).summed (all_few_4 c) c.if-sums.false)
+    ∙ ap (λ n. lengths_of c.args.command n c.args.adds (length c.args.body.now)) ((sums_7 c).summed (all_few_3 c) c.if-sums.false)
 
 pub returns-then-room-total : goal.returns-then-room-total
 returns-then-room-total c = (
   answered_5 c (refused 56)
-      (refuses_56 _ _ _ _ _ _ (few_at_4 c) (each_at_3 c) (fits_at_4 c) (says_at_1 c)
-      (omega (arith, long_at_1 c, c.if-room-total.true))),
+      (refuses_56 _ _ _ _ _ _ (few_at_1 (goal.at.returns-then-room-total c).Else-lines-gt-LINES) (each_at (goal.at.returns-then-room-total c).Else-sums) (fits_at (goal.at.returns-then-room-total c).Else-most_of-body) (says_at (goal.at.returns-then-room-total c).Joined-declared)
+      (omega (arith, long_at (goal.at.returns-then-room-total c).After-image_length-total, c.if-room-total.true))),
   λ n h. absurd (let z : ◌≡◌ {A = ℕ} 0 1 = cc in omega arith),
 )
 
-sums_8 : (c : goal.Else-room-total) → Sums (style_of (crlf c.args.version) c.args.command) ((listed (entries c.args.block.now))) c.args.sums
-sums_8 c = c.requires.3
-
--- the added one counted
-lines_at_6 : (c : goal.Else-room-total) → c.if-adds.lines ≡ c.args.sums.count + cond c.args.adds 1 0
-lines_at_6 c =
-    let n = c.args.sums.count in
-    (elim c.if-adds.branch [ then-adds w ↦ w.lines-is ∙ ap (λ t. n + cond t 1 0) (sym w.if-adds.true) | else-adds w ↦ let z : n ≡ n + 0 = omega arith in w.lines-is ∙ z ∙ ap (λ t. n + cond t 1 0) (sym w.if-adds.false) ])
-
-few_at_5 : (c : goal.Else-room-total) → length ((listed (entries c.args.block.now))) + cond c.args.adds 1 0 ≤ 32
-few_at_5 c = sums_few _ _ _ (sums_8 c) (cond c.args.adds 1 0) (omega (arith, lines_at_6 c))
-
-all_few_5 : (c : goal.Else-room-total) → length ((listed (entries c.args.block.now))) ≤ 32
-all_few_5 c = omega (arith, few_at_5 c)
-
-long_at_2 : (c : goal.Else-room-total) → c.image_length-total.result ≡ (total_of (crlf c.args.version) c.args.command ((listed (entries c.args.block.now))) c.args.adds c.args.body.now)
-long_at_2 c =
-    c.image_length-total.ensures
-    ∙ ap (λ n. lengths_of c.args.command n c.args.adds (length c.args.body.now)) ((sums_8 c).summed (all_few_5 c) c.if-sums.false)
-
-abbrev Added_6 : goal.Else-room-total → Bool → Type 0
+abbrev Added_6 : (c : goal.Else-room-total) → Bool → Type 0
 Added_6 c counted = is_block c.args.block.now ≡ true → c.args.adds ≡ adds_length ((listed (entries c.args.block.now))) c.args.body.now counted
 
-abbrev call_of_6 : goal.Else-room-total → Bool → Call
+abbrev call_of_6 : (c : goal.Else-room-total) → Bool → Call
 call_of_6 c counted = record { command = c.args.command; block = c.args.block.now; body = c.args.body.now; counted = counted }
 
 answered_6 : (c : goal.Else-room-total) (r : Answer) → (settle_of c.args.version c.args.command ((listed (entries c.args.block.now))) c.args.adds c.args.body.now c.args.room) ≡ r → (counted : Bool) → Added_6 c counted
@@ -321,27 +271,11 @@ answered_6 c r e counted added =
     ∙ ap (λ t. indexed (settle_of c.args.version c.args.command es t c.args.body.now c.args.room) i) (sym (added c.requires.1))
     ∙ ap (λ a. indexed a i) e)
 
-each_at_4 : (c : goal.Else-room-total) → every (can_write (style_of (crlf c.args.version) c.args.command)) ((listed (entries c.args.block.now))) ≡ true
-each_at_4 c = sums_writable _ _ _ (sums_8 c) (all_few_5 c) c.if-sums.false
-
-fits_at_5 : (c : goal.Else-room-total) → length c.args.body.now ≤ most_of c.args.command
-fits_at_5 c = omega (arith, c.if-most_of-body.false, c.most_of.ensures)
-
--- what it says of the body, by whether it is there
-said_3 : (c : goal.Else-room-total) (p : Bool) → c.args.declared.present ≡ p
-    → says_length (length c.args.body.now) (first_length ((listed (entries c.args.block.now))))
-    ≡ says_length (length c.args.body.now) (cond p (some (value_at c.args.block.now c.args.declared)) none)
-said_3 c = says_told c.args.block.now c.args.declared c.requires.0 c.requires.1 (length c.args.body.now)
-
-says_at_2 : (c : goal.Else-room-total) → says_length (length c.args.body.now) (first_length ((listed (entries c.args.block.now)))) ≡ true
-says_at_2 c =
-    (elim c.if-declared.branch [ then-declared+else-not-says_length w ↦ said_3 c true w.if-declared.true ∙ sym w.says_length.ensures ∙ w.if-not-says_length.false | else-declared w ↦ said_3 c false w.if-declared.false ])
-
 pub returns : goal.returns
 returns c = (
-  λ counted added. ap image_length (long_at_2 c)
+  λ counted added. ap image_length (long_at (goal.at.returns c).After-image_length-total)
       ∙ answered_6 c (accepted ((total_of (crlf c.args.version) c.args.command ((listed (entries c.args.block.now))) c.args.adds c.args.body.now) ∷ []))
-      (accepts _ _ _ _ _ _ (few_at_5 c) (each_at_4 c) (fits_at_5 c) (says_at_2 c)
-      (omega (arith, long_at_2 c, c.if-room-total.false))) counted added,
-  λ n h. (all_few_5 c, c.if-sums.false),
+      (accepts _ _ _ _ _ _ (few_at_1 (goal.at.returns c).Else-lines-gt-LINES) (each_at (goal.at.returns c).Else-sums) (fits_at (goal.at.returns c).Else-most_of-body) (says_at (goal.at.returns c).Joined-declared)
+      (omega (arith, long_at (goal.at.returns c).After-image_length-total, c.if-room-total.false))) counted added,
+  λ n h. (all_few_1 (goal.at.returns c).Else-lines-gt-LINES, c.if-sums.false),
 )

@@ -10,6 +10,7 @@ use Rattle.headers.proofs.Stretches.{span_part}
 use Rattle.frames.proofs.Gliding.{calm_plain}
 use Rattle.frames.proofs.WholeLines.{name_found}
 use Rattle.frames.proofs.lines.name_at.Goals as goal
+use Rattle.frames.proofs.lines.name_at.Goals.{After-text_span-k}
 
 pub returns-then-s-i-eq99 : goal.returns-then-s-i-eq99
 returns-then-s-i-eq99 c = λ n. absurd (n refl)
@@ -18,11 +19,11 @@ pub text_span-k-requires : goal.text_span-k-requires
 text_span-k-requires c = calm_plain c.args.style in_name c.name_stops.ensures
 
 -- the name ends where it may
-inside_1 : (c : goal.After-text_span-k) → c.args.i + c.text_span-k.result ≤ c.upto-e.result
-inside_1 c = span_part _ _ _ _ _ (omega arith) (omega arith) c.text_span-k.ensures
+inside : (c : After-text_span-k) → c.args.i + c.text_span-k.result ≤ c.upto-e.result
+inside c = span_part _ _ _ _ _ (omega arith) (omega arith) c.text_span-k.ensures
 
 pub overflow_add-colon : goal.overflow_add-colon
-overflow_add-colon c = omega (arith, inside_1 c)
+overflow_add-colon c = omega (arith, inside c)
 
 pub returns-then-k-e : goal.returns-then-k-e
 returns-then-k-e c = λ n. absurd (n refl)
@@ -36,12 +37,8 @@ bounds-s-colon c =
 pub returns-then-s-colon-ne58 : goal.returns-then-s-colon-ne58
 returns-then-s-colon-ne58 c = λ n. absurd (n refl)
 
--- the name ends where it may
-inside_2 : (c : goal.Else-s-colon-ne58) → c.args.i + c.text_span-k.result ≤ c.upto-e.result
-inside_2 c = span_part _ _ _ _ _ (omega arith) (omega arith) c.text_span-k.ensures
-
 pub overflow_add-result : goal.overflow_add-result
-overflow_add-result c = omega (arith, inside_2 c)
+overflow_add-result c = omega (arith, inside (goal.at.overflow_add-result c).After-text_span-k)
 
 pub returns : goal.returns
 returns c =

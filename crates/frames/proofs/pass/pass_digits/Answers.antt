@@ -11,6 +11,7 @@ use Prim.Native.Nat.{◌≤◌}
 use native.Mathlib.Omega.{arith}
 use mathlib.Core.Path.{refl, sym, ◌∙◌, ap}
 use Rattle.frames.proofs.pass.pass_digits.Goals as goal
+use Rattle.frames.proofs.pass.pass_digits.Goals.{Else-x}
 
 pub overflow_sub-begin : goal.overflow_sub-begin
 overflow_sub-begin c = let p = c.requires in line_short p.1 p.2
@@ -22,34 +23,28 @@ loop-i-init c =
     (passed_none p.0 p.1, p.2, refl, omega arith)
 
 -- the octet is a digit
-digit_1 : (c : goal.After-struct_known-in-loop-i-1) → let x = get_or c.args.s.now c.loop-i.i 0 in (48 ≤ x) × (x ≤ 57)
-digit_1 c =
+digit : (c : Else-x) → let x = get_or c.args.s.now c.loop-i.i 0 in (48 ≤ x) × (x ≤ 57)
+digit c =
     let x = get_or c.args.s.now c.loop-i.i 0 in
     (ltb-false x 48 (or_false_left (ltb x 48) (ltb 57 x) c.if-x.false), ltb-false 57 x (or_false_right (ltb x 48) (ltb 57 x) c.if-x.false))
 
 pub overflow_sub-size : goal.overflow_sub-size
-overflow_sub-size c = omega (arith, digit_1 c)
+overflow_sub-size c = omega (arith, digit (goal.at.overflow_sub-size c).Else-x)
 
 pub overflow_cast-size : goal.overflow_cast-size
-overflow_cast-size c = omega (arith, digit_1 c)
+overflow_cast-size c = omega (arith, digit (goal.at.overflow_cast-size c).Else-x)
 
 pub overflow_add-size : goal.overflow_add-size
-overflow_add-size c = omega (arith, digit_1 c)
+overflow_add-size c = omega (arith, digit (goal.at.overflow_add-size c).Else-x)
 
 pub in_line-st-requires : goal.in_line-st-requires
 in_line-st-requires c = bounded _ c.loop-i.invariant.0.0.kept
-
--- the octet is a digit
-digit_2 : (c : goal.After-in_line-st) → let x = get_or c.args.s.now c.loop-i.i 0 in (48 ≤ x) × (x ≤ 57)
-digit_2 c =
-    let x = get_or c.args.s.now c.loop-i.i 0 in
-    (ltb-false x 48 (or_false_left (ltb x 48) (ltb 57 x) c.if-x.false), ltb-false 57 x (or_false_right (ltb x 48) (ltb 57 x) c.if-x.false))
 
 pub loop-i-preserved : goal.loop-i-preserved
 loop-i-preserved c =
     let l = c.loop-i in
     let e = c.in_line-st.ensures in
-    let (low, high) = digit_2 c in
+    let (low, high) = digit (goal.at.loop-i-preserved c).Else-x in
     let most = c.most_of-most.ensures in
     let step = digit_on l.st _ l.invariant.1 (omega arith) low high (rw l.invariant.2 (omega (arith, most))) in (
       passed_step l.invariant.0 (omega arith) (e ∙ sym step) (ap (λ (z : Scan). z.at) e),

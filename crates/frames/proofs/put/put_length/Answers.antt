@@ -10,46 +10,29 @@ use Rattle.headers.proofs.Settling.{decimal_length, decimal_never}
 use Rattle.frames.proofs.Putting.{said_never, said_put}
 use borrow.Enum.Refused.{opened}
 use Rattle.frames.proofs.put.put_length.Goals as goal
+use Rattle.frames.proofs.put.put_length.Goals.{In-Length}
 
 pub returns-in_default : goal.returns-in_default
 returns-in_default c = absurd (decimal_never 20 c.args.body 56 (shortest_twenty c.args.body c.ranges.body.fits) (sym (ap decimal_says c.in_default.is) ∙ c.write_decimal.ensures.0))
 
 -- as many digits as write_decimal says, where it says so
-abbrev All_1 : goal.After-write_encoded-arg-3-1 → Type 0
-All_1 c = let digits = shortest c.args.body in (length digits ≤ 20) × (c.in-Length.k ≡ length digits)
+abbrev All : (c : In-Length) → Type 0
+All c = let digits = shortest c.args.body in (length digits ≤ 20) × (c.in-Length.k ≡ length digits)
 
-all_1 : (c : goal.After-write_encoded-arg-3-1) → All_1 c
-all_1 c =
+all : (c : In-Length) → All c
+all c =
     let few = shortest_twenty c.args.body c.ranges.body.fits in
     (few, decimal_length 20 c.args.body c.in-Length.k few (sym (ap decimal_says c.in-Length.is) ∙ c.write_decimal.ensures.0))
 
 pub slice_bounds-write_encoded-end-2 : goal.slice_bounds-write_encoded-end-2
-slice_bounds-write_encoded-end-2 c = omega (arith, all_1 c)
-
--- as many digits as write_decimal says, where it says so
-abbrev All_2 : goal.In_default-write_encoded → Type 0
-All_2 c = let digits = shortest c.args.body in (length digits ≤ 20) × (c.in-Length.k ≡ length digits)
-
-all_2 : (c : goal.In_default-write_encoded) → All_2 c
-all_2 c =
-    let few = shortest_twenty c.args.body c.ranges.body.fits in
-    (few, decimal_length 20 c.args.body c.in-Length.k few (sym (ap decimal_says c.in-Length.is) ∙ c.write_decimal.ensures.0))
+slice_bounds-write_encoded-end-2 c = omega (arith, all (goal.at.slice_bounds-write_encoded-end-2 c).In-Length)
 
 pub returns-in_default-write_encoded : goal.returns-in_default-write_encoded
 returns-in_default-write_encoded c = let n = c.write_decimal in
     let w = c.write_encoded in
-    absurd (said_never c.args.style c.args.body c.in-Length.k (replicate 20 0) n.new.d (all_2 c).0 n.ensures.1 (all_2 c).1 c.args.d.now c.requires w.result w.ensures.0 (opened c.in_default-write_encoded.in_default-write_encoded-own.keys2))
-
--- as many digits as write_decimal says, where it says so
-abbrev All_3 : goal.In-Length-write_encoded → Type 0
-All_3 c = let digits = shortest c.args.body in (length digits ≤ 20) × (c.in-Length.k ≡ length digits)
-
-all_3 : (c : goal.In-Length-write_encoded) → All_3 c
-all_3 c =
-    let few = shortest_twenty c.args.body c.ranges.body.fits in
-    (few, decimal_length 20 c.args.body c.in-Length.k few (sym (ap decimal_says c.in-Length.is) ∙ c.write_decimal.ensures.0))
+    absurd (said_never c.args.style c.args.body c.in-Length.k (replicate 20 0) n.new.d (all (goal.at.returns-in_default-write_encoded c).In-Length).0 n.ensures.1 (all (goal.at.returns-in_default-write_encoded c).In-Length).1 c.args.d.now c.requires w.result w.ensures.0 (opened c.in_default-write_encoded.in_default-write_encoded-own.keys2))
 
 pub returns : goal.returns
 returns c = let n = c.write_decimal in
     let w = c.write_encoded in
-    said_put c.args.style c.args.body c.in-Length.k (replicate 20 0) n.new.d (all_3 c).0 n.ensures.1 (all_3 c).1 c.args.d.now c.requires w.result w.ensures.0 c.in-Length-write_encoded.n c.in-Length-write_encoded.is w.new.d w.ensures.1
+    said_put c.args.style c.args.body c.in-Length.k (replicate 20 0) n.new.d (all (goal.at.returns c).In-Length).0 n.ensures.1 (all (goal.at.returns c).In-Length).1 c.args.d.now c.requires w.result w.ensures.0 c.in-Length-write_encoded.n c.in-Length-write_encoded.is w.new.d w.ensures.1

@@ -9,6 +9,7 @@ use Rattle.frames.specs.Scanning.{Valid, scan}
 use Rattle.frames.proofs.Passing.{front_on}
 use Rattle.frames.proofs.Running.{scan_end}
 use Rattle.frames.proofs.run.run_on.Goals as goal
+use Rattle.frames.proofs.run.run_on.Goals.{After-skip-next}
 
 pub body_front-k-requires : goal.body_front-k-requires
 body_front-k-requires c =
@@ -16,25 +17,15 @@ body_front-k-requires c =
     (c.requires, ltb-false p 12 (or_false_left (ltb p 12) (ltb 13 p) c.if-begin.false), ltb-false 13 p (or_false_right (ltb p 12) (ltb 13 p) c.if-begin.false))
 
 -- the state after the body's octets
-passed_1 : (c : goal.Then-s-k) → let a = c.args in
+passed : (c : After-skip-next) → let a = c.args in
     (c.body_front-k.result ≤ length a.s.now) × Valid c.skip-next.result × (scan c.skip-next.result (drop c.body_front-k.result a.s.now) ≡ scan a.begin a.s.now)
-passed_1 c = front_on _ _ _ _ c.body_front-k.ensures c.skip-next.ensures
+passed c = front_on _ _ _ _ c.body_front-k.ensures c.skip-next.ensures
 
 pub returns-then-s-k : goal.returns-then-s-k
-returns-then-s-k c = let p = passed_1 c in (sym (scan_end _ _ c.skip-next.result c.if-s-k.true) ∙ p.2, p.1)
-
--- the state after the body's octets
-passed_2 : (c : goal.Else-s-k) → let a = c.args in
-    (c.body_front-k.result ≤ length a.s.now) × Valid c.skip-next.result × (scan c.skip-next.result (drop c.body_front-k.result a.s.now) ≡ scan a.begin a.s.now)
-passed_2 c = front_on _ _ _ _ c.body_front-k.ensures c.skip-next.ensures
+returns-then-s-k c = let p = passed (goal.at.returns-then-s-k c).After-skip-next in (sym (scan_end _ _ c.skip-next.result c.if-s-k.true) ∙ p.2, p.1)
 
 pub run-requires-2 : goal.run-requires-2
-run-requires-2 c = let p = passed_2 c in (p.0, p.1)
-
--- the state after the body's octets
-passed_3 : (c : goal.After-run-2) → let a = c.args in
-    (c.body_front-k.result ≤ length a.s.now) × Valid c.skip-next.result × (scan c.skip-next.result (drop c.body_front-k.result a.s.now) ≡ scan a.begin a.s.now)
-passed_3 c = front_on _ _ _ _ c.body_front-k.ensures c.skip-next.ensures
+run-requires-2 c = let p = passed (goal.at.run-requires-2 c).After-skip-next in (p.0, p.1)
 
 pub returns : goal.returns
-returns c = (c.run-2.ensures.0 ∙ (passed_3 c).2, c.run-2.ensures.1)
+returns c = (c.run-2.ensures.0 ∙ (passed (goal.at.returns c).After-skip-next).2, c.run-2.ensures.1)

@@ -12,6 +12,7 @@ use Rattle.frames.specs.Streams.{replied, is_resumable, is_whole}
 use Rattle.frames.proofs.Counting.{scan_counts}
 use Rattle.frames.proofs.Resuming.{resumed, gives_short, gives_invalid, gives_reply}
 use Rattle.frames.proofs.stream.feed.Goals as goal
+use Rattle.frames.proofs.stream.feed.Goals.{After-least-n, After-run_on-next, Else-not-is_resumable}
 
 pub returns-then-buffer-lt-FRAME : goal.returns-then-buffer-lt-FRAME
 returns-then-buffer-lt-FRAME c = let a = c.args in gives_short a.parser.scan a.buffer.now a.piece.now c.if-buffer-lt-FRAME.true
@@ -22,14 +23,14 @@ returns-then-not-is_resumable c =
     gives_invalid a.parser.scan a.buffer.now a.piece.now c.if-buffer-lt-FRAME.false (sym c.is_resumable.ensures ∙ c.if-not-is_resumable.true)
 
 -- the record passes its rule
-passed_1 : (c : goal.Else-not-is_resumable) → let st = c.args.parser.scan in is_resumable st ≡ true
+passed_1 : (c : Else-not-is_resumable) → let st = c.args.parser.scan in is_resumable st ≡ true
 passed_1 c = sym c.is_resumable.ensures ∙ c.if-not-is_resumable.false
 
 pub run_on-next-requires : goal.run_on-next-requires
 run_on-next-requires c = (resumed _ (passed_1 c)).0
 
 -- how far the run went
-counted_1 : (c : goal.After-struct_known-1) → let a = c.args in
+counted_1 : (c : After-run_on-next) → let a = c.args in
     (a.parser.scan.at ≤ c.run_on-next.result.at) × (c.run_on-next.result.at ≤ a.parser.scan.at + length a.piece.now)
 counted_1 c =
     let a = c.args in
@@ -37,17 +38,13 @@ counted_1 c =
     (omega (arith, n.onward, ap (λ z. z.at) c.run_on-next.ensures.0), omega (arith, n.most, ap (λ z. z.at) c.run_on-next.ensures.0))
 
 pub overflow_sub-octets : goal.overflow_sub-octets
-overflow_sub-octets c = (counted_1 c).0
-
--- the record passes its rule
-passed_2 : (c : goal.After-struct_known-1) → let st = c.args.parser.scan in is_resumable st ≡ true
-passed_2 c = sym c.is_resumable.ensures ∙ c.if-not-is_resumable.false
+overflow_sub-octets c = (counted_1 (goal.at.overflow_sub-octets c).After-run_on-next).0
 
 pub overflow_sub-buffer : goal.overflow_sub-buffer
-overflow_sub-buffer c = omega (arith, (resumed _ (passed_2 c)).1, c.if-buffer-lt-FRAME.false)
+overflow_sub-buffer c = omega (arith, (resumed _ (passed_1 (goal.at.overflow_sub-buffer c).Else-not-is_resumable)).1, c.if-buffer-lt-FRAME.false)
 
 -- how far the run went
-counted_2 : (c : goal.After-copy-arg-1) → let a = c.args in
+counted_2 : (c : After-least-n) → let a = c.args in
     (a.parser.scan.at ≤ c.run_on-next.result.at) × (c.run_on-next.result.at ≤ a.parser.scan.at + length a.piece.now)
 counted_2 c =
     let a = c.args in
@@ -55,45 +52,27 @@ counted_2 c =
     (omega (arith, n.onward, ap (λ z. z.at) c.run_on-next.ensures.0), omega (arith, n.most, ap (λ z. z.at) c.run_on-next.ensures.0))
 
 -- the record passes its rule
-passed_3 : (c : goal.After-copy-arg-1) → let st = c.args.parser.scan in is_resumable st ≡ true
-passed_3 c = sym c.is_resumable.ensures ∙ c.if-not-is_resumable.false
+passed_2 : (c : After-least-n) → let st = c.args.parser.scan in is_resumable st ≡ true
+passed_2 c = sym c.is_resumable.ensures ∙ c.if-not-is_resumable.false
 
 -- what was taken has room in the buffer
-fitting_1 : (c : goal.After-copy-arg-1) → let a = c.args in
+fitting : (c : After-least-n) → let a = c.args in
     (c.least-n.result ≤ length a.piece.now) × (a.parser.scan.at + c.least-n.result ≤ length a.buffer.now)
-fitting_1 c =
-    (omega (arith, c.least-n.ensures, counted_2 c), omega (arith, c.least-n.ensures, (resumed _ (passed_3 c)).1, c.if-buffer-lt-FRAME.false))
+fitting c =
+    (omega (arith, c.least-n.ensures, counted_2 c), omega (arith, c.least-n.ensures, (resumed _ (passed_2 c)).1, c.if-buffer-lt-FRAME.false))
 
 pub slice_bounds-copy-end : goal.slice_bounds-copy-end
-slice_bounds-copy-end c = (fitting_1 c).0
-
--- the record passes its rule
-passed_4 : (c : goal.After-next_item-scan) → let st = c.args.parser.scan in is_resumable st ≡ true
-passed_4 c = sym c.is_resumable.ensures ∙ c.if-not-is_resumable.false
-
--- how far the run went
-counted_3 : (c : goal.After-next_item-scan) → let a = c.args in
-    (a.parser.scan.at ≤ c.run_on-next.result.at) × (c.run_on-next.result.at ≤ a.parser.scan.at + length a.piece.now)
-counted_3 c =
-    let a = c.args in
-    let n = scan_counts a.piece.now a.parser.scan in
-    (omega (arith, n.onward, ap (λ z. z.at) c.run_on-next.ensures.0), omega (arith, n.most, ap (λ z. z.at) c.run_on-next.ensures.0))
-
--- what was taken has room in the buffer
-fitting_2 : (c : goal.After-next_item-scan) → let a = c.args in
-    (c.least-n.result ≤ length a.piece.now) × (a.parser.scan.at + c.least-n.result ≤ length a.buffer.now)
-fitting_2 c =
-    (omega (arith, c.least-n.ensures, counted_3 c), omega (arith, c.least-n.ensures, (resumed _ (passed_4 c)).1, c.if-buffer-lt-FRAME.false))
+slice_bounds-copy-end c = (fitting (goal.at.slice_bounds-copy-end c).After-least-n).0
 
 pub returns : goal.returns
 returns c =
     let a = c.args in
     let n = c.least-n.result in
     let all : n - 0 ≡ n = omega arith in
-    let fits = fitting_2 c in
+    let fits = fitting (goal.at.returns c).After-least-n in
     let next = c.run_on-next.result in
     let same : next.crlf ≡ a.parser.scan.crlf = ap (λ z. z.crlf) c.run_on-next.ensures.0 ∙ (scan_counts a.piece.now a.parser.scan).same_ends in
-    let g = gives_reply a.parser.scan a.buffer.now a.piece.now c.if-buffer-lt-FRAME.false (passed_4 c) c.run_on-next.result c.run_on-next.ensures.0 in (
+    let g = gives_reply a.parser.scan a.buffer.now a.piece.now c.if-buffer-lt-FRAME.false (passed_1 (goal.at.returns c).Else-not-is_resumable) c.run_on-next.result c.run_on-next.ensures.0 in (
       ap (λ z. replied z (c.run_on-next.result.at - a.parser.scan.at)) c.reply-reply.ensures ∙ g.0,
       c.next_item-scan.ensures ∙ ap (λ w. cond (is_whole next) (nothing_read w) next) same ∙ g.1,
       c.copy.ensures ∙ ap (λ m. copied a.buffer.now a.parser.scan.at (take m a.piece.now)) all

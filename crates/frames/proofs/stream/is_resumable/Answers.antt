@@ -6,6 +6,7 @@ use Rattle.frames.specs.Validity.{is_valid}
 use Rattle.frames.specs.Streams.{is_resumable}
 use Rattle.frames.proofs.Resuming.{valid_test}
 use Rattle.frames.proofs.stream.is_resumable.Goals as goal
+use Rattle.frames.proofs.stream.is_resumable.Goals.{Else-not-is_valid}
 
 pub returns-then-not-is_valid : goal.returns-then-not-is_valid
 unfolding is_resumable
@@ -14,56 +15,38 @@ returns-then-not-is_valid c =
     rw (sym (valid_test c.args.st v.result v.ensures) ∙ c.if-not-is_valid.true)
 
 -- past the first test the state is valid
-valid_1 : (c : goal.Then-st-gt-HELD) → is_valid c.args.st ≡ true
-valid_1 c =
+valid : (c : Else-not-is_valid) → is_valid c.args.st ≡ true
+valid c =
     let v = c.is_valid in
     sym (valid_test c.args.st v.result v.ensures) ∙ c.if-not-is_valid.false
 
 pub returns-then-st-gt-HELD : goal.returns-then-st-gt-HELD
 unfolding is_resumable
-returns-then-st-gt-HELD c = rw (valid_1 c, lt-leb _ _ c.if-st-gt-HELD.true)
-
--- past the first test the state is valid
-valid_2 : (c : goal.Then-not-fits_version) → is_valid c.args.st ≡ true
-valid_2 c =
-    let v = c.is_valid in
-    sym (valid_test c.args.st v.result v.ensures) ∙ c.if-not-is_valid.false
+returns-then-st-gt-HELD c = rw (valid (goal.at.returns-then-st-gt-HELD c).Else-not-is_valid, lt-leb _ _ c.if-st-gt-HELD.true)
 
 pub returns-then-not-fits_version : goal.returns-then-not-fits_version
 unfolding is_resumable
 returns-then-not-fits_version c =
     let w = c.fits_version in
-    rw (valid_2 c, le-leb _ _ c.if-st-gt-HELD.false, sym w.ensures ∙ c.if-not-fits_version.true)
-
--- past the first test the state is valid
-valid_3 : (c : goal.Then-st-lt-HEART_BEAT_READ) → is_valid c.args.st ≡ true
-valid_3 c =
-    let v = c.is_valid in
-    sym (valid_test c.args.st v.result v.ensures) ∙ c.if-not-is_valid.false
+    rw (valid (goal.at.returns-then-not-fits_version c).Else-not-is_valid, le-leb _ _ c.if-st-gt-HELD.false, sym w.ensures ∙ c.if-not-fits_version.true)
 
 pub returns-then-st-lt-HEART_BEAT_READ : goal.returns-then-st-lt-HEART_BEAT_READ
 unfolding is_resumable
 returns-then-st-lt-HEART_BEAT_READ c =
     let w = c.fits_version in
     rw (
-      valid_3 c,
+      valid (goal.at.returns-then-st-lt-HEART_BEAT_READ c).Else-not-is_valid,
       le-leb _ _ c.if-st-gt-HELD.false,
       sym w.ensures ∙ c.if-not-fits_version.false,
       lt-ltb _ _ c.if-st-lt-HEART_BEAT_READ.true,
     )
-
--- past the first test the state is valid
-valid_4 : (c : goal.After-is_number) → is_valid c.args.st ≡ true
-valid_4 c =
-    let v = c.is_valid in
-    sym (valid_test c.args.st v.result v.ensures) ∙ c.if-not-is_valid.false
 
 pub returns : goal.returns
 unfolding is_resumable
 returns c =
     let w = c.fits_version in
     rw (
-      valid_4 c,
+      valid (goal.at.returns c).Else-not-is_valid,
       le-leb _ _ c.if-st-gt-HELD.false,
       sym w.ensures ∙ c.if-not-fits_version.false,
       le-ltb _ _ c.if-st-lt-HEART_BEAT_READ.false,

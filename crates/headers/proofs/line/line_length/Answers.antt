@@ -11,6 +11,7 @@ use Rattle.headers.specs.declared.text.Field.TheVariants.{Name, Value}
 use Rattle.headers.proofs.Rows.{empty_zero, empty_not}
 use Rattle.headers.proofs.Settling.{told_refused, told_accepted, raw_long, no_name, no_name_text, no_value_text, no_room, no_room_plain, can, length_no, length_yes}
 use Rattle.headers.proofs.line.line_length.Goals as goal
+use Rattle.headers.proofs.line.line_length.Goals.{In-Length-text_length}
 
 pub returns-then-name-eq0 : goal.returns-then-name-eq0
 returns-then-name-eq0 c = let a = c.args in
@@ -40,14 +41,14 @@ returns-in_default-text_length c = let a = c.args in
     sym (length_no a.style e (no_value_text a.style e (told_refused _ _ 53 (sym (ap length_says c.in_default-text_length.is) ∙ c.text_length-2.ensures))))
 
 -- what the two lengths are, and that both texts can be written
-abbrev Told_1 : goal.Then-not-both_fit-2 → Type 0
-Told_1 c =
+abbrev Told : (c : In-Length-text_length) → Type 0
+Told c =
     let a = c.args in
     ((can_stand a.style Name a.name.now ≡ true) × (c.in-Length.n ≡ length (encode a.style a.name.now)))
     × ((can_stand a.style Value a.value.now ≡ true) × (c.in-Length-text_length.v ≡ length (encode a.style a.value.now)))
 
-told_1 : (c : goal.Then-not-both_fit-2) → Told_1 c
-told_1 c = (
+told : (c : In-Length-text_length) → Told c
+told c = (
   told_accepted _ _ _ (sym (ap length_says c.in-Length.is) ∙ c.text_length.ensures),
   told_accepted _ _ _ (sym (ap length_says c.in-Length-text_length.is) ∙ c.text_length-2.ensures),
 )
@@ -57,7 +58,7 @@ returns-then-not-both_fit-2 c = let a = c.args in
     let e = entry_of a.name.now a.value.now in
     sym
     (length_no a.style e
-    (no_room a.style e (omega (arith, raw_long a.style e, told_1 c, leb-false, sym c.both_fit-2.ensures ∙ c.if-not-both_fit-2.true))))
+    (no_room a.style e (omega (arith, raw_long a.style e, told (goal.at.returns-then-not-both_fit-2 c).In-Length-text_length, leb-false, sym c.both_fit-2.ensures ∙ c.if-not-both_fit-2.true))))
 
 pub overflow_add-result : goal.overflow_add-result
 overflow_add-result c = omega (arith, leb-true, sym c.both_fit-2.ensures ∙ c.if-not-both_fit-2.false)
@@ -65,23 +66,10 @@ overflow_add-result c = omega (arith, leb-true, sym c.both_fit-2.ensures ∙ c.i
 pub overflow_add-result-2 : goal.overflow_add-result-2
 overflow_add-result-2 c = omega (arith, leb-true, sym c.both_fit-2.ensures ∙ c.if-not-both_fit-2.false)
 
--- what the two lengths are, and that both texts can be written
-abbrev Told_2 : goal.Else-not-both_fit-2 → Type 0
-Told_2 c =
-    let a = c.args in
-    ((can_stand a.style Name a.name.now ≡ true) × (c.in-Length.n ≡ length (encode a.style a.name.now)))
-    × ((can_stand a.style Value a.value.now ≡ true) × (c.in-Length-text_length.v ≡ length (encode a.style a.value.now)))
-
-told_2 : (c : goal.Else-not-both_fit-2) → Told_2 c
-told_2 c = (
-  told_accepted _ _ _ (sym (ap length_says c.in-Length.is) ∙ c.text_length.ensures),
-  told_accepted _ _ _ (sym (ap length_says c.in-Length-text_length.is) ∙ c.text_length-2.ensures),
-)
-
 pub returns : goal.returns
 returns c = let a = c.args in
     let e = entry_of a.name.now a.value.now in
-    let ((name, n), (value, v)) = told_2 c in
+    let ((name, n), (value, v)) = told (goal.at.returns c).In-Length-text_length in
     let long = raw_long a.style e in
     let ok =
     can a.style e (empty_not a.name.now (λ q. c.if-name-eq0.false (ap length q)))

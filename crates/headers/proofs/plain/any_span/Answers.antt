@@ -5,6 +5,7 @@ use Prim.Native.Nat.{◌+◌}
 use native.Mathlib.Omega.{arith}
 use mathlib.Core.Path.{◌≡◌, sym, ◌∙◌}
 use Rattle.headers.proofs.plain.any_span.Goals as goal
+use Rattle.headers.proofs.plain.any_span.Goals.{Else-k-lt32}
 
 pub returns-then-k-lt32 : goal.returns-then-k-lt32
 returns-then-k-lt32 c =
@@ -12,30 +13,23 @@ returns-then-k-lt32 c =
     block_stop _ _ l.i (l.i + 32) (omega arith) (omega arith) c.first_stop-k.ensures (omega arith) ∙ l.invariant.1
 
 -- no octet of the block stops the stretch
-whole_1 : (c : goal.Else-k-lt32) → c.first_stop-k.result ≡ 32
-whole_1 c =
+whole : (c : Else-k-lt32) → c.first_stop-k.result ≡ 32
+whole c =
     let i = c.loop-i.i in
     let h = span_part _ _ i (i + 32) _ (omega arith) (omega arith) c.first_stop-k.ensures in
     omega arith
 
 pub slice_bounds-plain_blocks-count : goal.slice_bounds-plain_blocks-count
-slice_bounds-plain_blocks-count c = omega (arith, whole_1 c)
+slice_bounds-plain_blocks-count c = omega (arith, whole c)
 
 pub slice_bounds-plain_blocks-start : goal.slice_bounds-plain_blocks-start
-slice_bounds-plain_blocks-start c = omega (arith, whole_1 c)
-
--- no octet of the block stops the stretch
-whole_2 : (c : goal.After-plain_blocks-i) → c.first_stop-k.result ≡ 32
-whole_2 c =
-    let i = c.loop-i.i in
-    let h = span_part _ _ i (i + 32) _ (omega arith) (omega arith) c.first_stop-k.ensures in
-    omega arith
+slice_bounds-plain_blocks-start c = omega (arith, whole c)
 
 pub loop-i-preserved : goal.loop-i-preserved
 loop-i-preserved c =
     let l = c.loop-i in
     let f = c.first_stop-k in
-    let w = whole_2 c in
+    let w = whole (goal.at.loop-i-preserved c).Else-k-lt32 in
     let more = block_more _ _ l.i (l.i + 32) (omega arith) (omega arith) f.ensures (omega arith) in
     let a = c.args in
     let on = span_on (plain_in a.stops) a.s.now (l.i + f.result) (omega arith) c.plain_blocks-i.ensures in

@@ -8,38 +8,30 @@ use native.Mathlib.Omega.{arith}
 use lib.ListN.{length, drop}
 use mathlib.Core.Path.{◌≡◌, ap, ◌∙◌}
 use Rattle.headers.proofs.plain.stretch.Goals as goal
-use Rattle.headers.proofs.plain.stretch.Goals.{then-s-lt16, else-s-lt16}
+use Rattle.headers.proofs.plain.stretch.Goals.{After-far_stretch, Joined-s-lt16, else-s-lt16, then-s-lt16}
 
 -- the octets that are looked at one by one are of s
-near_1 : (c : goal.After-shared_slice_known-in-loop-i-1-unread) → c.if-s-lt16.e ≤ length c.args.s.now
-near_1 c = elim c.if-s-lt16.branch [ then-s-lt16 w ↦ omega arith | else-s-lt16 w ↦ omega arith ]
+near : (c : Joined-s-lt16) → c.if-s-lt16.e ≤ length c.args.s.now
+near c = elim c.if-s-lt16.branch [ then-s-lt16 w ↦ omega arith | else-s-lt16 w ↦ omega arith ]
 
 pub bounds-s-i : goal.bounds-s-i
-bounds-s-i c = omega (arith, near_1 c)
-
--- the octets that are looked at one by one are of s
-near_2 : (c : goal.Then-s-i-eq92) → c.if-s-lt16.e ≤ length c.args.s.now
-near_2 c = elim c.if-s-lt16.branch [ then-s-lt16 w ↦ omega arith | else-s-lt16 w ↦ omega arith ]
+bounds-s-i c = omega (arith, near (goal.at.bounds-s-i c).Joined-s-lt16)
 
 pub returns-then-s-i-eq92 : goal.returns-then-s-i-eq92
 returns-then-s-i-eq92 c =
     let l = c.loop-i in
     let s = c.args.s.now in
-    stretch_at s l.i (span_stop not_back s l.i (omega (arith, near_2 c, c.loop-i-test.true)) (ap not_back c.if-s-i-eq92.true) ∙ l.invariant.1)
-
--- the octets that are looked at one by one are of s
-near_3 : (c : goal.Else-s-i-eq92) → c.if-s-lt16.e ≤ length c.args.s.now
-near_3 c = elim c.if-s-lt16.branch [ then-s-lt16 w ↦ omega arith | else-s-lt16 w ↦ omega arith ]
+    stretch_at s l.i (span_stop not_back s l.i (omega (arith, near (goal.at.returns-then-s-i-eq92 c).Joined-s-lt16, c.loop-i-test.true)) (ap not_back c.if-s-i-eq92.true) ∙ l.invariant.1)
 
 pub loop-i-preserved : goal.loop-i-preserved
 loop-i-preserved c =
     let l = c.loop-i in
     let s = c.args.s.now in
-    let h : l.i < length s = omega (arith, near_3 c, c.loop-i-test.true) in
+    let h : l.i < length s = omega (arith, near (goal.at.loop-i-preserved c).Joined-s-lt16, c.loop-i-test.true) in
     (omega (arith, h), span_more not_back s l.i h (ap not (ne_eqb _ 92 c.if-s-i-eq92.false)) ∙ l.invariant.1)
 
 -- the rest, by blocks
-far : (c : goal.After-far_stretch) → let s = c.args.s.now in
+far : (c : After-far_stretch) → let s = c.args.s.now in
     let i = c.loop-i.i in
     (i + c.far_stretch.result ≡ i + span not_back (drop i s)) × (i + c.far_stretch.result ≤ length s)
 far c = span_rest not_back c.args.s.now c.loop-i.i c.loop-i.invariant.0 c.far_stretch.ensures

@@ -16,6 +16,7 @@ use Rattle.headers.proofs.Rows.{and_left, and_right}
 use Rattle.headers.proofs.Coding.{decode_off, kept_all}
 use Rattle.headers.proofs.Settling.{refusal, acceptance, decoded_short, decoded_over, decoded_yes}
 use Rattle.headers.proofs.record.write_known.Goals as goal
+use Rattle.headers.proofs.record.write_known.Goals.{Else-not-have_record}
 
 -- without escapes the decoded text is the text
 itself : (xs : List ℕ) → length (decode unescaped xs) ≡ length xs
@@ -80,8 +81,8 @@ roomy_2 : (c : goal.After-slice_known-then-name-known-1) → 6 + length (decode 
 roomy_2 c = omega (arith, room_3 c, itself ((kept c.args.known.name c.args.style c.args.name.now)), itself ((kept c.args.known.value c.args.style c.args.value.now)))
 
 -- and where the second does, it has a record
-short_1 : (c : goal.After-slice_known-then-name-known-1) → is_short (decoded_entry unescaped ((kept c.args.known.name c.args.style c.args.name.now)) ((kept c.args.known.value c.args.style c.args.value.now))) ≡ true
-short_1 c =
+short : (c : Else-not-have_record) → is_short (decoded_entry unescaped ((kept c.args.known.name c.args.style c.args.name.now)) ((kept c.args.known.value c.args.style c.args.value.now))) ≡ true
+short c =
     itself_short ((kept c.args.known.name c.args.style c.args.name.now)) ((kept c.args.known.value c.args.style c.args.value.now)) ∙ sym c.have_record.ensures ∙ c.if-not-have_record.false
 
 pub returns-then-name-known : goal.returns-then-name-known
@@ -90,7 +91,7 @@ returns-then-name-known c =
     let put = c.put_plain.ensures in
     let same = ap₂ (λ x y. entry_record (entry_of x y)) (sym (name_known_2 c)) (sym (value_known_2 c)) ∙ as_is ((kept c.args.known.name c.args.style c.args.name.now)) ((kept c.args.known.value c.args.style c.args.value.now)) in
     rw (put.0 ∙ ap length same)
-    (acceptance _ _ _ d _ (decoded_yes unescaped (length d) ((kept c.args.known.name c.args.style c.args.name.now)) ((kept c.args.known.value c.args.style c.args.value.now)) (roomy_2 c) (short_1 c)) (put.1 ∙ ap (λ z. z ++ drop (length z) d) same))
+    (acceptance _ _ _ d _ (decoded_yes unescaped (length d) ((kept c.args.known.name c.args.style c.args.name.now)) ((kept c.args.known.value c.args.style c.args.value.now)) (roomy_2 c) (short (goal.at.returns-then-name-known c).Else-not-have_record)) (put.1 ∙ ap (λ z. z ++ drop (length z) d) same))
 
 room_4 : (c : goal.After-put_record-arg-1) → 6 + length ((kept c.args.known.name c.args.style c.args.name.now)) + length ((kept c.args.known.value c.args.style c.args.value.now)) ≤ length c.args.d.now
 room_4 c = omega (arith, leb-true, sym c.known_fit.ensures ∙ c.if-not-known_fit.false)
@@ -104,15 +105,10 @@ room_5 c = omega (arith, leb-true, sym c.known_fit.ensures ∙ c.if-not-known_fi
 roomy_3 : (c : goal.After-slice_known-2-1) → 6 + length (decode unescaped ((kept c.args.known.name c.args.style c.args.name.now))) + length (decode unescaped ((kept c.args.known.value c.args.style c.args.value.now))) ≤ length c.args.d.now
 roomy_3 c = omega (arith, room_5 c, itself ((kept c.args.known.name c.args.style c.args.name.now)), itself ((kept c.args.known.value c.args.style c.args.value.now)))
 
--- and where the second does, it has a record
-short_2 : (c : goal.After-slice_known-2-1) → is_short (decoded_entry unescaped ((kept c.args.known.name c.args.style c.args.name.now)) ((kept c.args.known.value c.args.style c.args.value.now))) ≡ true
-short_2 c =
-    itself_short ((kept c.args.known.name c.args.style c.args.name.now)) ((kept c.args.known.value c.args.style c.args.value.now)) ∙ sym c.have_record.ensures ∙ c.if-not-have_record.false
-
 pub returns : goal.returns
 returns c =
     let d = c.args.d.now in
     let put = c.put_record.ensures in
     let same = as_is ((kept c.args.known.name c.args.style c.args.name.now)) ((kept c.args.known.value c.args.style c.args.value.now)) in
     rw (put.0 ∙ ap length same)
-    (acceptance _ _ _ d _ (decoded_yes unescaped (length d) ((kept c.args.known.name c.args.style c.args.name.now)) ((kept c.args.known.value c.args.style c.args.value.now)) (roomy_3 c) (short_2 c)) (put.1 ∙ ap (λ z. z ++ drop (length z) d) same))
+    (acceptance _ _ _ d _ (decoded_yes unescaped (length d) ((kept c.args.known.name c.args.style c.args.name.now)) ((kept c.args.known.value c.args.style c.args.value.now)) (roomy_3 c) (short (goal.at.returns c).Else-not-have_record)) (put.1 ∙ ap (λ z. z ++ drop (length z) d) same))

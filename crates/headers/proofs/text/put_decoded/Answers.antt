@@ -9,12 +9,13 @@ use Rattle.headers.proofs.Coding.{decode_on, decode_step, decode_end, width_fits
 use Rattle.headers.proofs.Put.{Partly, partly_none, partly_inside, partly_done, partly_here, partly_store}
 use Rattle.headers.proofs.Copying.{partly_copy}
 use Rattle.headers.proofs.text.put_decoded.Goals as goal
+use Rattle.headers.proofs.text.put_decoded.Goals.{After-copy, After-stretch}
 
 pub loop-style-init : goal.loop-style-init
 loop-style-init c = (omega arith, partly_none _ _ c.requires)
 
 -- where the stretch ends, and what is left to decode there
-ended_1 : (c : goal.After-stretch) → let a = c.args in
+ended_1 : (c : After-stretch) → let a = c.args in
     let i = c.loop-style.i in
     let e = i + c.stretch.result in
     (e ≤ length a.raw.now) × (length (take (e - i) (drop i a.raw.now)) ≡ e - i)
@@ -27,8 +28,11 @@ ended_1 c =
 pub overflow_add-e : goal.overflow_add-e
 overflow_add-e c = omega (arith, (ended_1 c).0)
 
+pub slice_bounds-copy-end : goal.slice_bounds-copy-end
+slice_bounds-copy-end c = omega (arith, (ended_1 (goal.at.slice_bounds-copy-end c).After-stretch).0)
+
 -- where the stretch ends, and what is left to decode there
-ended_2 : (c : goal.After-copy-arg-1) → let a = c.args in
+ended_2 : (c : After-copy) → let a = c.args in
     let i = c.loop-style.i in
     let e = i + c.stretch.result in
     (e ≤ length a.raw.now) × (length (take (e - i) (drop i a.raw.now)) ≡ e - i)
@@ -38,126 +42,43 @@ ended_2 c =
     let l = c.loop-style in
     decode_on a.style a.raw.now l.i c.stretch.result l.invariant.0 c.stretch.ensures
 
-pub slice_bounds-copy-end : goal.slice_bounds-copy-end
-slice_bounds-copy-end c = omega (arith, (ended_2 c).0)
-
--- where the stretch ends, and what is left to decode there
-ended_3 : (c : goal.After-slice_known-in-loop-style-1) → let a = c.args in
-    let i = c.loop-style.i in
-    let e = i + c.stretch.result in
-    (e ≤ length a.raw.now) × (length (take (e - i) (drop i a.raw.now)) ≡ e - i)
-    × (decode a.style (drop i a.raw.now) ≡ take (e - i) (drop i a.raw.now) ++ decode a.style (drop e a.raw.now))
-ended_3 c =
-    let a = c.args in
-    let l = c.loop-style in
-    decode_on a.style a.raw.now l.i c.stretch.result l.invariant.0 c.stretch.ensures
-
 -- the stretch is copied
-copied_1 : (c : goal.After-slice_known-in-loop-style-1) → let a = c.args in
+copied : (c : After-copy) → let a = c.args in
     let l = c.loop-style in
     let e = l.i + c.stretch.result in
     Partly (decode a.style a.raw.now) (decode a.style (drop e a.raw.now)) a.d.now c.copy.new.d (l.n + (e - l.i))
-copied_1 c =
+copied c =
     let a = c.args in
     let l = c.loop-style in
     let e = l.i + c.stretch.result in
-    let s = ended_3 c in
+    let s = ended_2 c in
     partly_copy l.invariant.1 (take (e - l.i) (drop l.i a.raw.now)) (decode a.style (drop e a.raw.now)) c.copy.new.d (e - l.i) s.2 (sym s.1) c.copy.ensures
 
 pub overflow_add-n : goal.overflow_add-n
-overflow_add-n c = let so = copied_1 c in omega (arith, partly_inside so, so.as_long)
-
--- where the stretch ends, and what is left to decode there
-ended_4 : (c : goal.Then-raw-e) → let a = c.args in
-    let i = c.loop-style.i in
-    let e = i + c.stretch.result in
-    (e ≤ length a.raw.now) × (length (take (e - i) (drop i a.raw.now)) ≡ e - i)
-    × (decode a.style (drop i a.raw.now) ≡ take (e - i) (drop i a.raw.now) ++ decode a.style (drop e a.raw.now))
-ended_4 c =
-    let a = c.args in
-    let l = c.loop-style in
-    decode_on a.style a.raw.now l.i c.stretch.result l.invariant.0 c.stretch.ensures
-
--- the stretch is copied
-copied_2 : (c : goal.Then-raw-e) → let a = c.args in
-    let l = c.loop-style in
-    let e = l.i + c.stretch.result in
-    Partly (decode a.style a.raw.now) (decode a.style (drop e a.raw.now)) a.d.now c.copy.new.d (l.n + (e - l.i))
-copied_2 c =
-    let a = c.args in
-    let l = c.loop-style in
-    let e = l.i + c.stretch.result in
-    let s = ended_4 c in
-    partly_copy l.invariant.1 (take (e - l.i) (drop l.i a.raw.now)) (decode a.style (drop e a.raw.now)) c.copy.new.d (e - l.i) s.2 (sym s.1) c.copy.ensures
+overflow_add-n c = let so = copied (goal.at.overflow_add-n c).After-copy in omega (arith, partly_inside so, so.as_long)
 
 pub shape_of-d-then-raw-e : goal.shape_of-d-then-raw-e
-shape_of-d-then-raw-e c = (copied_2 c).as_long
+shape_of-d-then-raw-e c = (copied (goal.at.shape_of-d-then-raw-e c).After-copy).as_long
 
 pub returns-then-raw-e : goal.returns-then-raw-e
 returns-then-raw-e c =
     let a = c.args in
-    partly_done (copied_2 c) (decode_end a.style a.raw.now _ c.if-raw-e.true)
-
--- where the stretch ends, and what is left to decode there
-ended_5 : (c : goal.After-decoded_at) → let a = c.args in
-    let i = c.loop-style.i in
-    let e = i + c.stretch.result in
-    (e ≤ length a.raw.now) × (length (take (e - i) (drop i a.raw.now)) ≡ e - i)
-    × (decode a.style (drop i a.raw.now) ≡ take (e - i) (drop i a.raw.now) ++ decode a.style (drop e a.raw.now))
-ended_5 c =
-    let a = c.args in
-    let l = c.loop-style in
-    decode_on a.style a.raw.now l.i c.stretch.result l.invariant.0 c.stretch.ensures
-
--- the stretch is copied
-copied_3 : (c : goal.After-decoded_at) → let a = c.args in
-    let l = c.loop-style in
-    let e = l.i + c.stretch.result in
-    Partly (decode a.style a.raw.now) (decode a.style (drop e a.raw.now)) a.d.now c.copy.new.d (l.n + (e - l.i))
-copied_3 c =
-    let a = c.args in
-    let l = c.loop-style in
-    let e = l.i + c.stretch.result in
-    let s = ended_5 c in
-    partly_copy l.invariant.1 (take (e - l.i) (drop l.i a.raw.now)) (decode a.style (drop e a.raw.now)) c.copy.new.d (e - l.i) s.2 (sym s.1) c.copy.ensures
+    partly_done (copied (goal.at.returns-then-raw-e c).After-copy) (decode_end a.style a.raw.now _ c.if-raw-e.true)
 
 pub bounds-d-n : goal.bounds-d-n
 bounds-d-n c =
     let a = c.args in
-    partly_here (copied_3 c) _ _ (decode_step a.style a.raw.now _ c.if-raw-e.false)
+    partly_here (copied (goal.at.bounds-d-n c).After-copy) _ _ (decode_step a.style a.raw.now _ c.if-raw-e.false)
 
 pub overflow_add-i : goal.overflow_add-i
 overflow_add-i c =
     let a = c.args in
     omega (arith, width_fits a.style a.raw.now _ c.if-raw-e.false, c.width_at.ensures)
 
--- where the stretch ends, and what is left to decode there
-ended_6 : (c : goal.After-width_at) → let a = c.args in
-    let i = c.loop-style.i in
-    let e = i + c.stretch.result in
-    (e ≤ length a.raw.now) × (length (take (e - i) (drop i a.raw.now)) ≡ e - i)
-    × (decode a.style (drop i a.raw.now) ≡ take (e - i) (drop i a.raw.now) ++ decode a.style (drop e a.raw.now))
-ended_6 c =
-    let a = c.args in
-    let l = c.loop-style in
-    decode_on a.style a.raw.now l.i c.stretch.result l.invariant.0 c.stretch.ensures
-
--- the stretch is copied
-copied_4 : (c : goal.After-width_at) → let a = c.args in
-    let l = c.loop-style in
-    let e = l.i + c.stretch.result in
-    Partly (decode a.style a.raw.now) (decode a.style (drop e a.raw.now)) a.d.now c.copy.new.d (l.n + (e - l.i))
-copied_4 c =
-    let a = c.args in
-    let l = c.loop-style in
-    let e = l.i + c.stretch.result in
-    let s = ended_6 c in
-    partly_copy l.invariant.1 (take (e - l.i) (drop l.i a.raw.now)) (decode a.style (drop e a.raw.now)) c.copy.new.d (e - l.i) s.2 (sym s.1) c.copy.ensures
-
 pub overflow_add-n-in-loop-style : goal.overflow_add-n-in-loop-style
 overflow_add-n-in-loop-style c =
     let a = c.args in
-    let so = copied_4 c in
+    let so = copied (goal.at.overflow_add-n-in-loop-style c).After-copy in
     omega (arith, partly_here so _ _ (decode_step a.style a.raw.now _ c.if-raw-e.false), so.as_long)
 
 pub loop-style-smaller : goal.loop-style-smaller
@@ -170,4 +91,4 @@ loop-style-preserved c =
     let a = c.args in
     let t = c.if-raw-e.false in
     rw (c.width_at.ensures, c.decoded_at.ensures)
-    (width_fits a.style a.raw.now _ t, partly_store (copied_4 c) _ _ (decode_step a.style a.raw.now _ t))
+    (width_fits a.style a.raw.now _ t, partly_store (copied (goal.at.loop-style-preserved c).After-copy) _ _ (decode_step a.style a.raw.now _ t))

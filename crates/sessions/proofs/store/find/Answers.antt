@@ -5,43 +5,34 @@ use Rattle.stores.proofs.Searching.{first_hit, first_miss, first_end}
 use Rattle.stores.proofs.Walking.{first_place}
 use Rattle.sessions.proofs.Walking.{Turn, next_place, room, id_fits, ids_at, ids_end}
 use Rattle.sessions.proofs.store.find.Goals as goal
+use Rattle.sessions.proofs.store.find.Goals.{After-wide}
 
 pub loop-k-init : goal.loop-k-init
 loop-k-init c = (first_place _ _, refl)
 
 -- what a turn knows that has read the place's length
-here_1 : (c : goal.After-wide) → Turn c.requires
+here : (c : After-wide) → Turn c.requires
     c.loop-k.invariant.0 c.wide.result
-here_1 c = record { more = c.loop-k-test.true; read = c.wide.ensures.0 }
+here c = record { more = c.loop-k-test.true; read = c.wide.ensures.0 }
 
 pub overflow_add-end : goal.overflow_add-end
-overflow_add-end c = omega (arith, id_fits (here_1 c))
+overflow_add-end c = omega (arith, id_fits (here c))
 
 pub slice_bounds-is_same-end : goal.slice_bounds-is_same-end
-slice_bounds-is_same-end c = id_fits (here_1 c)
-
--- what a turn knows that has read the place's length
-here_2 : (c : goal.Then-is_same) → Turn c.requires
-    c.loop-k.invariant.0 c.wide.result
-here_2 c = record { more = c.loop-k-test.true; read = c.wide.ensures.0 }
+slice_bounds-is_same-end c = id_fits (here c)
 
 pub returns-then-is_same : goal.returns-then-is_same
 returns-then-is_same c =
-    sym (c.loop-k.invariant.1 ∙ ap (first_from _ _) (ids_at (here_2 c)) ∙ first_hit _ _ _ _
+    sym (c.loop-k.invariant.1 ∙ ap (first_from _ _) (ids_at (here (goal.at.returns-then-is_same c).After-wide)) ∙ first_hit _ _ _ _
     (sym c.is_same.ensures ∙ c.if-is_same.true))
 
--- what a turn knows that has read the place's length
-here_3 : (c : goal.Else-is_same) → Turn c.requires
-    c.loop-k.invariant.0 c.wide.result
-here_3 c = record { more = c.loop-k-test.true; read = c.wide.ensures.0 }
-
 pub overflow_add-at : goal.overflow_add-at
-overflow_add-at c = omega (arith, room (here_3 c))
+overflow_add-at c = omega (arith, room (here (goal.at.overflow_add-at c).After-wide))
 
 pub loop-k-preserved : goal.loop-k-preserved
 loop-k-preserved c = (
-  next_place (here_3 c),
-  c.loop-k.invariant.1 ∙ ap (first_from _ _) (ids_at (here_3 c)) ∙ first_miss _ _ _ _ (sym c.is_same.ensures ∙ c.if-is_same.false),
+  next_place (here (goal.at.loop-k-preserved c).After-wide),
+  c.loop-k.invariant.1 ∙ ap (first_from _ _) (ids_at (here (goal.at.loop-k-preserved c).After-wide)) ∙ first_miss _ _ _ _ (sym c.is_same.ensures ∙ c.if-is_same.false),
 )
 
 pub returns : goal.returns

@@ -21,7 +21,7 @@ use Rattle.sessions.proofs.Delivering.{laid_of}
 use Rattle.sessions.proofs.Using.{fits_of}
 use Rattle.sessions.proofs.Deciding.{used_is}
 use Rattle.sessions.proofs.session.Session.frame.Goals as goal
-use Rattle.sessions.proofs.session.Session.frame.Goals.{After-act-step, In-Use, After-put-self}
+use Rattle.sessions.proofs.session.Session.frame.Goals.{After-act-step, After-put-self, Else-is_unknown-notes, Else-not-numbers-ids, In-Use}
 
 -- what was decided, by the change and the session that it leaves
 changed : (s : Session) (command : ℕ) (block : List ℕ) (time : ℕ) (step : Step) → is_valid s ≡ true → unknown command || not (is_block block) ≡ false
@@ -31,22 +31,38 @@ changed s command block time step v formed d x k after e =
     let (a, b) = frame_gives s command block time (outcome_of s block time step) (gives_on _ _ (ap not v) (gives_on _ _ formed (d.gives time))) in
     (a, e ∙ ap (changed_by s block time step.agreed) (sym k) ∙ b)
 
--- what is known once it is decided
-module _ (c : After-act-step) where
-  valid : is_valid c.args.self ≡ true
-  valid =
-      sym (whole_valid c.args.self _ _ _ c.has_valid_numbers-numbers.ensures c.are_valid_ids-ids.ensures c.are_valid-deliveries.ensures)
-      ∙ c.if-not-numbers-ids.false
+-- it is valid
+valid : (c : Else-not-numbers-ids) → is_valid c.args.self ≡ true
+valid c =
+    sym (whole_valid c.args.self _ _ _ c.has_valid_numbers-numbers.ensures c.are_valid_ids-ids.ensures c.are_valid-deliveries.ensures)
+    ∙ c.if-not-numbers-ids.false
 
-  -- a command that is known, and a block that is well formed
-  formed : unknown c.args.command || not (is_block c.args.block.now) ≡ false
-  formed = ap₂ (λ x y. x || not y) (sym c.is_unknown.ensures) (sym c.note-notes.ensures.well_formed) ∙ c.if-is_unknown-notes.false
+-- a command that is known, and a block that is well formed
+formed : (c : Else-is_unknown-notes) → unknown c.args.command || not (is_block c.args.block.now) ≡ false
+formed c = ap₂ (λ x y. x || not y) (sym c.is_unknown.ensures) (sym c.note-notes.ensures.well_formed) ∙ c.if-is_unknown-notes.false
 
-  decided : (x : Change) → c.act-step.result.change ≡ x → (after : Session)
-      → after ≡ changed_by c.args.self c.args.block.now c.args.time c.act-step.result.agreed x
-      → (answer_says c.act-step.result.answer ≡ frame_answer c.args.self c.args.command c.args.block.now)
-      × (after ≡ frame_session c.args.self c.args.command c.args.block.now c.args.time)
-  decided = changed c.args.self c.args.command c.args.block.now c.args.time c.act-step.result valid formed c.act-step.ensures
+-- a valid session, with the sizes of its arrays
+kept : (c : Else-is_unknown-notes) → is_valid c.args.self ≡ true → Kept c.args.self
+kept c v =
+    kept_of c.args.self
+    (record {
+      subscriptions = record { ids_long = search rules; lens_long = search rules; modes_long = search rules };
+      transactions = record { ids_long = search rules; lens_long = search rules };
+    })
+    (record { labels_long = search rules; lens_long = search rules; places_long = search rules }) v
+
+noted : (c : Else-is_unknown-notes) → AllNoted c.args.block.now c.note-notes.result
+noted c =
+    let notes = c.note-notes.ensures in
+    notes.noted (sym notes.well_formed ∙ not-false _ (or_false_right c.is_unknown.result _ c.if-is_unknown-notes.false))
+
+-- what was decided, once it is
+decided : (c : After-act-step) → is_valid c.args.self ≡ true → unknown c.args.command || not (is_block c.args.block.now) ≡ false
+    → (x : Change) → c.act-step.result.change ≡ x → (after : Session)
+    → after ≡ changed_by c.args.self c.args.block.now c.args.time c.act-step.result.agreed x
+    → (answer_says c.act-step.result.answer ≡ frame_answer c.args.self c.args.command c.args.block.now)
+    × (after ≡ frame_session c.args.self c.args.command c.args.block.now c.args.time)
+decided c v f = changed c.args.self c.args.command c.args.block.now c.args.time c.act-step.result v f c.act-step.ensures
 
 -- what a change of parts asks
 asked : (c : In-Use) → Uses c.args.self c.args.block.now c.in-Use.put c.in-Use.further
@@ -67,73 +83,39 @@ returns-then-not-numbers-ids c =
     frame_gives a.self a.command a.block.now a.time _
     (gives_kept _ 38 _ (ap not (sym w ∙ c.if-not-numbers-ids.true)) refl c.kept.ensures)
 
--- it is valid
-valid_1 : (c : goal.After-kept-then-is_unknown-notes) → is_valid c.args.self ≡ true
-valid_1 c =
-    sym (whole_valid c.args.self _ _ _ c.has_valid_numbers-numbers.ensures c.are_valid_ids-ids.ensures c.are_valid-deliveries.ensures)
-    ∙ c.if-not-numbers-ids.false
-
 pub returns-then-is_unknown-notes : goal.returns-then-is_unknown-notes
 returns-then-is_unknown-notes c =
     let a = c.args in
     let fails = ap₂ (λ x y. x || not y) (sym c.is_unknown.ensures) (sym c.note-notes.ensures.well_formed) ∙ c.if-is_unknown-notes.true in
     frame_gives a.self a.command a.block.now a.time _
-    (gives_on _ _ (ap not (valid_1 c)) (gives_kept _ 39 _ fails refl c.kept-then-is_unknown-notes.ensures))
-
--- it is valid
-valid_2 : (c : goal.After-settle_ids-arg-8-1) → is_valid c.args.self ≡ true
-valid_2 c =
-    sym (whole_valid c.args.self _ _ _ c.has_valid_numbers-numbers.ensures c.are_valid_ids-ids.ensures c.are_valid-deliveries.ensures)
-    ∙ c.if-not-numbers-ids.false
-
--- a valid session, with the sizes of its arrays
-kept_1 : (c : goal.After-settle_ids-arg-8-1) → is_valid c.args.self ≡ true → Kept c.args.self
-kept_1 c v =
-    kept_of c.args.self
-    (record {
-      subscriptions = record { ids_long = search rules; lens_long = search rules; modes_long = search rules };
-      transactions = record { ids_long = search rules; lens_long = search rules };
-    })
-    (record { labels_long = search rules; lens_long = search rules; places_long = search rules }) v
-
-noted_1 : (c : goal.After-settle_ids-arg-8-1) → AllNoted c.args.block.now c.note-notes.result
-noted_1 c =
-    let notes = c.note-notes.ensures in
-    notes.noted (sym notes.well_formed ∙ not-false _ (or_false_right c.is_unknown.result _ c.if-is_unknown-notes.false))
+    (gives_on _ _ (ap not (valid (goal.at.returns-then-is_unknown-notes c).Else-not-numbers-ids)) (gives_kept _ 39 _ fails refl c.kept-then-is_unknown-notes.ensures))
 
 pub settle_ids-named-requires : goal.settle_ids-named-requires
 settle_ids-named-requires c =
-    let v = valid_2 c in
-    let sized = (kept_1 c v).ids.sized in (
+    let v = valid (goal.at.settle_ids-named-requires c).Else-not-numbers-ids in
+    let sized = (kept (goal.at.settle_ids-named-requires c).Else-is_unknown-notes v).ids.sized in (
       fits_of c.args.self sized v Subscriptions,
       fits_of c.args.self sized v Transactions,
-      noted_1 c,
+      noted (goal.at.settle_ids-named-requires c).Else-is_unknown-notes,
     )
-
--- it is valid
-valid_3 : (c : goal.After-settle_ids-named) → is_valid c.args.self ≡ true
-valid_3 c =
-    sym (whole_valid c.args.self _ _ _ c.has_valid_numbers-numbers.ensures c.are_valid_ids-ids.ensures c.are_valid-deliveries.ensures)
-    ∙ c.if-not-numbers-ids.false
-
-noted_2 : (c : goal.After-settle_ids-named) → AllNoted c.args.block.now c.note-notes.result
-noted_2 c =
-    let notes = c.note-notes.ensures in
-    notes.noted (sym notes.well_formed ∙ not-false _ (or_false_right c.is_unknown.result _ c.if-is_unknown-notes.false))
 
 pub act-step-requires : goal.act-step-requires
 act-step-requires c = (
-  valid_3 c,
-  noted_2 c,
+  valid (goal.at.act-step-requires c).Else-not-numbers-ids,
+  noted (goal.at.act-step-requires c).Else-is_unknown-notes,
   c.settle_ids-named.ensures c.args.self
       (record { subs_are = refl; sub_lens_are = refl; txs_are = refl; tx_lens_are = refl }) (sym c.chosen-version.ensures),
 )
 
 pub returns-in-Close : goal.returns-in-Close
-returns-in-Close c = decided (goal.at.returns-in-Close c).After-act-step _ c.in-Close.is _ c.closed.ensures
+returns-in-Close c =
+    let at = goal.at.returns-in-Close c in
+    decided at.After-act-step (valid at.Else-not-numbers-ids) (formed at.Else-is_unknown-notes) _ c.in-Close.is _ c.closed.ensures
 
 pub returns-in-Disconnect : goal.returns-in-Disconnect
-returns-in-Disconnect c = decided (goal.at.returns-in-Disconnect c).After-act-step _ c.in-Disconnect.is _ c.closed-in-Disconnect.ensures
+returns-in-Disconnect c =
+    let at = goal.at.returns-in-Disconnect c in
+    decided at.After-act-step (valid at.Else-not-numbers-ids) (formed at.Else-is_unknown-notes) _ c.in-Disconnect.is _ c.closed-in-Disconnect.ensures
 
 pub put-requires : goal.put-requires
 put-requires c = (asked (goal.at.put-requires c).In-Use).put_fits
@@ -144,77 +126,49 @@ set_mode-self-requires c = (asked (goal.at.set_mode-self-requires c).In-Use).mod
 pub put-self-requires : goal.put-self-requires
 put-self-requires c = (asked (goal.at.put-self-requires c).In-Use).put_fits
 
--- a valid session, with the sizes of its arrays
-kept_2 : (c : goal.After-pending-1) → is_valid c.args.self ≡ true → Kept c.args.self
-kept_2 c v =
-    kept_of c.args.self
-    (record {
-      subscriptions = record { ids_long = search rules; lens_long = search rules; modes_long = search rules };
-      transactions = record { ids_long = search rules; lens_long = search rules };
-    })
-    (record { labels_long = search rules; lens_long = search rules; places_long = search rules }) v
-
--- it is valid
-valid_4 : (c : goal.After-pending-1) → is_valid c.args.self ≡ true
-valid_4 c =
-    sym (whole_valid c.args.self _ _ _ c.has_valid_numbers-numbers.ensures c.are_valid_ids-ids.ensures c.are_valid-deliveries.ensures)
-    ∙ c.if-not-numbers-ids.false
-
 pub dropped-self-requires : goal.dropped-self-requires
 dropped-self-requires c = (
-  laid_of c.args.self (kept_2 c (valid_4 c)),
+  laid_of c.args.self (kept (goal.at.dropped-self-requires c).Else-is_unknown-notes (valid (goal.at.dropped-self-requires c).Else-not-numbers-ids)),
   subst ModeFits c.in-Drop.is (asked (goal.at.dropped-self-requires c).In-Use).mode_fits,
 )
 
 pub slice_bounds-settled-end : goal.slice_bounds-settled-end
 slice_bounds-settled-end c = search rules
 
--- a valid session, with the sizes of its arrays
-kept_3 : (c : goal.After-modes-in-Settle-1) → is_valid c.args.self ≡ true → Kept c.args.self
-kept_3 c v =
-    kept_of c.args.self
-    (record {
-      subscriptions = record { ids_long = search rules; lens_long = search rules; modes_long = search rules };
-      transactions = record { ids_long = search rules; lens_long = search rules };
-    })
-    (record { labels_long = search rules; lens_long = search rules; places_long = search rules }) v
-
--- it is valid
-valid_5 : (c : goal.After-modes-in-Settle-1) → is_valid c.args.self ≡ true
-valid_5 c =
-    sym (whole_valid c.args.self _ _ _ c.has_valid_numbers-numbers.ensures c.are_valid_ids-ids.ensures c.are_valid-deliveries.ensures)
-    ∙ c.if-not-numbers-ids.false
-
 pub settled-self-requires : goal.settled-self-requires
 settled-self-requires c = (
-  laid_of c.args.self (kept_3 c (valid_5 c)),
+  laid_of c.args.self (kept (goal.at.settled-self-requires c).Else-is_unknown-notes (valid (goal.at.settled-self-requires c).Else-not-numbers-ids)),
   (subst (λ f. SettleFits f c.args.self.deliveries) c.in-Settle.is (asked (goal.at.settled-self-requires c).In-Use).settle_fits).number_inside,
 )
 
 pub returns-in-Open : goal.returns-in-Open
-returns-in-Open c = decided (goal.at.returns-in-Open c).After-act-step _ c.in-Open.is _ refl
+returns-in-Open c =
+    let at = goal.at.returns-in-Open c in
+    decided at.After-act-step (valid at.Else-not-numbers-ids) (formed at.Else-is_unknown-notes) _ c.in-Open.is _ refl
 
 pub returns-in-Hear : goal.returns-in-Hear
-returns-in-Hear c = decided (goal.at.returns-in-Hear c).After-act-step _ c.in-Hear.is _ refl
+returns-in-Hear c =
+    let at = goal.at.returns-in-Hear c in
+    decided at.After-act-step (valid at.Else-not-numbers-ids) (formed at.Else-is_unknown-notes) _ c.in-Hear.is _ refl
 
 pub returns-in-Nothing : goal.returns-in-Nothing
 returns-in-Nothing c =
     let at = goal.at.returns-in-Nothing c in
-    decided at.After-act-step _ c.in-Use.is _ (used at.After-put-self _ (ap (λ f. deliveries_by f c.args.self) (sym c.in-Nothing.is)))
+    decided at.After-act-step (valid at.Else-not-numbers-ids) (formed at.Else-is_unknown-notes) _ c.in-Use.is _ (used at.After-put-self _ (ap (λ f. deliveries_by f c.args.self) (sym c.in-Nothing.is)))
 
 pub returns-in-Mode : goal.returns-in-Mode
 returns-in-Mode c =
     let at = goal.at.returns-in-Mode c in
-    decided at.After-act-step _ c.in-Use.is _ (used at.After-put-self _ (ap (λ f. deliveries_by f c.args.self) (sym c.in-Mode.is)))
+    decided at.After-act-step (valid at.Else-not-numbers-ids) (formed at.Else-is_unknown-notes) _ c.in-Use.is _ (used at.After-put-self _ (ap (λ f. deliveries_by f c.args.self) (sym c.in-Mode.is)))
 
 pub returns-in-Drop : goal.returns-in-Drop
 returns-in-Drop c =
     let at = goal.at.returns-in-Drop c in
-    decided at.After-act-step _ c.in-Use.is _ (used at.After-put-self _ (c.dropped-self.ensures ∙ ap (λ f. deliveries_by f c.args.self) (sym c.in-Drop.is)))
+    decided at.After-act-step (valid at.Else-not-numbers-ids) (formed at.Else-is_unknown-notes) _ c.in-Use.is _ (used at.After-put-self _ (c.dropped-self.ensures ∙ ap (λ f. deliveries_by f c.args.self) (sym c.in-Drop.is)))
 
 pub returns-in-Settle : goal.returns-in-Settle
 returns-in-Settle c =
     let at = goal.at.returns-in-Settle c in
     let fits = subst (λ f. SettleFits f c.args.self.deliveries) c.in-Settle.is (asked at.In-Use).settle_fits in
-    decided at.After-act-step _ c.in-Use.is _
+    decided at.After-act-step (valid at.Else-not-numbers-ids) (formed at.Else-is_unknown-notes) _ c.in-Use.is _
     (used at.After-put-self _ (c.settled-self.ensures _ fits.first_labelled ∙ ap (λ f. deliveries_by f c.args.self) (sym c.in-Settle.is)))
