@@ -1,5 +1,5 @@
 // Calls that programs read: numbers of four octets, high first, and rows of octets.
-ghost use Rattle.std.specs.Prelude.{◌≡◌, ◌+◌, ◌*◌, ◌≤◌, ◌<◌, min, length, get_or, take, IfOk};
+ghost use Rattle.std.specs.Prelude.{◌≡◌, true, false, ◌+◌, ◌*◌, ◌≤◌, ◌<◌, min, length, get_or, take, IfOk};
 ghost use Rattle.std.specs.Io.KnownBytes.{Consumes, IsAtEnd};
 
 use std::io;
@@ -60,7 +60,9 @@ pub fn read_full<R: Read>(reader: &mut R, buf: &mut [u8]) -> io::Result<usize>
 
 // n octets at the front of a buffer: whether there were as many, and room for them.
 pub fn read_front<R: Read>(reader: &mut R, buf: &mut [u8], n: usize) -> io::Result<bool>
-    ensures { length buf.new ≡ length buf.old }
+    ensures length { length buf.new ≡ length buf.old }
+    ensures bytes { IfOk result (λ whole. whole ≡ true → Consumes (R.remaining reader.old) (R.remaining reader.new) (take n buf.new)) }
+    ensures end { IfOk result (λ whole. whole ≡ false → n ≤ length buf.old → IsAtEnd (R.remaining reader.new)) }
 {
     if buf.len() < n {
         return Ok(false);
