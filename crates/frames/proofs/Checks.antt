@@ -70,10 +70,6 @@ pub met : (a b : Bool) → a && not b ≡ false → not a || b ≡ true
 met true b h = rw (unlike b h)
 met false b h = refl
 
-pub unmet : (a b : Bool) → a && not b ≡ true → not a || b ≡ false
-unmet true b h = not-true b h
-unmet false b h = sym h
-
 -- the same fact in another form
 turned : {b : Bool} {A B : Type 0} → Decides b A → (A → B) → (B → A) → Decides b B
 turned p f g = record { pass = λ h. f (p.pass h); sure = λ y. p.sure (g y) }
@@ -182,22 +178,6 @@ module _ (st : Scan) where
   rest_clean =
       (eqb st.phase 6 || (eqb st.phase 8 || eqb st.rest 0))
       && (not (eqb st.phase 6 || eqb st.phase 8) || is_begun (style_of st.crlf st.command) st.rest)
-
-  pub rest_outside : not (eqb st.phase 6) && not (eqb st.phase 8) ≡ true → eqb st.rest 0 ≡ rest_clean
-  rest_outside h = by (eqb st.phase 6) (eqb st.phase 8) h
-    where
-      by : (a b : Bool) → not a && not b ≡ true → eqb st.rest 0 ≡ (a || (b || eqb st.rest 0)) && (not (a || b) || is_begun (style_of st.crlf st.command) st.rest)
-      by true b e = no_test e
-      by false true e = no_test e
-      by false false e = sym (and_yes (eqb st.rest 0))
-
-  pub rest_inside : not (eqb st.phase 6) && not (eqb st.phase 8) ≡ false → rest_clean ≡ is_begun (style_of st.crlf st.command) st.rest
-  rest_inside h = by (eqb st.phase 6) (eqb st.phase 8) h
-    where
-      by : (a b : Bool) → not a && not b ≡ false → (a || (b || eqb st.rest 0)) && (not (a || b) || is_begun (style_of st.crlf st.command) st.rest) ≡ is_begun (style_of st.crlf st.command) st.rest
-      by true b e = refl
-      by false true e = refl
-      by false false e = no_test (sym e)
 
   abbrev others : Bool
   others = (st.sized || (eqb st.phase 9 || eqb st.size 0)) && (not (eqb st.phase 12) || not st.sized)

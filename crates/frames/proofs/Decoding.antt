@@ -1,5 +1,5 @@
 -- Decoding, line by line: the places of a line's parts, what is left to decode behind it, and what decode replies. Assumes nothing.
---     on_drop, stop_place, on_behind, line_cut     the places that the code computes
+--     on_drop, stop_place, line_cut                the places that the code computes
 --     back_..                                      one search for the end of a text and for a backslash in it
 --     Parted, entries_left, left_all, left_none    the entries of the lines that are left to decode
 --     Adds, adds                                   what the next line adds to the measure
@@ -11,7 +11,7 @@ use mathlib.Core.Bool.{Bool, true, false, ◌&&◌, ◌||◌, not}
 use mathlib.Core.Logic.{◌⊎◌, inl, inr, ⊎_elim}
 use mathlib.Core.Option.{Option, none, some}
 use mathlib.Core.List.{List, [], ◌∷◌, ◌++◌}
-use Prim.Native.Nat.{ℕ, suc, ◌+◌, ◌-◌, ◌≤◌, ◌<◌}
+use Prim.Native.Nat.{ℕ, suc, ◌+◌, ◌-◌, ◌≤◌, ◌<◌, min}
 use native.Mathlib.Omega.{arith}
 use native.Mathlib.Nat.{add-zero}
 use lib.ListN.{length, take, drop, get_or, length-append, length-take, length-drop, drop_of_length-le, get_or-eq_default}
@@ -24,7 +24,7 @@ use Rattle.headers.specs.Escapes.{decode}
 use Rattle.headers.specs.Block.{Entry, image, Short}
 use Rattle.headers.specs.Lines.{decoded_entry}
 use Rattle.headers.specs.Answers.{Answer, accepted, refused, left_in, written_record, decoded_answer, record_says}
-use Rattle.headers.specs.declared.record.RecordWritten.{RecordWritten}
+use Rattle.headers.specs.declared.octets.TooShort.{TooShort}
 use Rattle.headers.specs.declared.text.Style.{Style}
 use Rattle.headers.proofs.Rows.{and_left, and_right, and_no, and_yes, or_false_left, or_false_right}
 use Rattle.headers.proofs.Put.{put_length, put_more, put_kept}
@@ -33,8 +33,11 @@ use Rattle.headers.proofs.Answers.{record_once}
 use Rattle.headers.proofs.Coding.{decode_short}
 use Rattle.headers.proofs.Blocks.{length_image}
 use Rattle.frames.specs.declared.layout.LineAt.{LineAt}
+use Rattle.std.specs.Prelude as option
+use Rattle.std.specs.Prelude.{Some, None, Result, Ok, Err}
+use Rattle.frames.specs.declared.parse.Frame.{Frame}
 use Rattle.frames.specs.declared.parse.Item.{Item}
-use Rattle.frames.specs.declared.parse.Parsed.{Parsed}
+use Rattle.frames.specs.declared.parse.Refusal.{Refusal}
 use Rattle.frames.specs.Grammar.{crlf, style as style_in, frame, octets}
 use Rattle.frames.specs.declared.version.Version.{Version}
 use Rattle.frames.specs.Layout.{line_cr, line_stops, stop_span, end_width, behind_end, front_name, behind_colon, front_value, at_end, behind_line, front_lines, behind_word, back_stops}
@@ -49,14 +52,14 @@ use Rattle.frames.proofs.Readings.{Other, OneFrame, NoFrame}
 -- ---- Places
 
 -- k places on, or at the end
-pub on_drop : (xs : List ℕ) (i k r : ℕ) → (i + k ≤ length xs → r ≡ i + k) → (length xs < i + k → r ≡ length xs) → drop r xs ≡ drop k (drop i xs)
-on_drop xs i k r f g = by (leb (i + k) (length xs)) refl ∙ sym (drop-drop k i xs)
+pub on_drop : (xs : List ℕ) (i k r : ℕ) → r ≡ min (i + k) (length xs) → drop r xs ≡ drop k (drop i xs)
+on_drop xs i k r e = by (leb (i + k) (length xs)) refl ∙ sym (drop-drop k i xs)
   where
     by : (t : Bool) → leb (i + k) (length xs) ≡ t → drop r xs ≡ drop (i + k) xs
-    by true t = ap (λ n. drop n xs) (f (leb-true (i + k) (length xs) t))
+    by true t = let far : r ≡ i + k = omega (arith, leb-true (i + k) (length xs) t) in ap (λ n. drop n xs) far
     by false t =
         let past = leb-false (i + k) (length xs) t in
-        drop_of_length-le xs {i = r} (omega (arith, g past)) ∙ sym (drop_of_length-le xs {i = i + k} (omega arith))
+        drop_of_length-le xs {i = r} (omega (arith, past)) ∙ sym (drop_of_length-le xs {i = i + k} (omega arith))
 
 -- the first 10, cr or colon from i on
 pub stop_place : (cr : ℕ) (colon : ℕ) (xs : List ℕ) (i k : ℕ) → i ≤ length xs → k ≡ stop_span cr colon (take (length xs - i) (drop i xs))
@@ -165,23 +168,6 @@ module _ (cr : ℕ) (colon : ℕ) where
         text_stretch (drop i xs) (stop_span cr colon (drop i xs)) k text_inside (span_le loose (drop i xs)) back_clear
         (⊎_elim (λ e. inl (omega (arith, e))) (λ e. inr (get_or-drop i xs k 0 ∙ e)) q)
 
--- behind the line end at i, which has two octets where it begins with 13
-module _ (xs : List ℕ) (i : ℕ) where
-  at_front : get_or (drop i xs) 0 0 ≡ get_or xs i 0
-  at_front = get_or-drop i xs 0 0 ∙ ap (λ n. get_or xs n 0) (add-zero i)
-
-  pub end_two : get_or xs i 0 ≡ 13 → end_width (drop i xs) ≡ 2
-  end_two h = rw (eq-eqb (get_or (drop i xs) 0 0) 13 (at_front ∙ h))
-
-  pub end_one : (get_or xs i 0 ≡ 13 → ⊥) → end_width (drop i xs) ≡ 1
-  end_one h = rw (ne_eqb (get_or (drop i xs) 0 0) 13 (λ e. h (sym at_front ∙ e)))
-
-  pub end_none : length xs ≤ i → get_or xs i 0 ≡ 13 → ⊥
-  end_none h e = omega (arith, get_or-eq_default xs 0 h)
-
-  pub on_behind : (k r : ℕ) → end_width (drop i xs) ≡ k → (i + k ≤ length xs → r ≡ i + k) → (length xs < i + k → r ≡ length xs) → drop r xs ≡ behind_end (drop i xs)
-  on_behind k r wide f g = on_drop xs i k r f g ∙ ap (λ n. drop n (drop i xs)) (sym wide)
-
 -- up to the first 10, cr or colon, and from it on
 module _ (cr : ℕ) (stop : ℕ) (xs : List ℕ) (i r : ℕ) (is : r ≡ i + stop_span cr stop (drop i xs)) where
   cut_name : take (r - i) (drop i xs) ≡ take (stop_span cr stop (drop i xs)) (drop i xs)
@@ -238,9 +224,9 @@ module _ (cr : ℕ) (style : Style) (xs : List ℕ) (n : ℕ) where
     pub kept : (d₀ : List ℕ) → drop used d ≡ drop used d₀ → drop (used + k) e ≡ drop (used + k) d₀
 
   -- a callee that is given that part of d answers r and leaves after in it
-  pub record Asked (i at next : ℕ) (d after : List ℕ) (used : ℕ) (r : RecordWritten) : Type 0 where
-    pub accepts : (k : ℕ) × (r ≡ RecordWritten.Length k)
-    pub writes : (k : ℕ) → r ≡ RecordWritten.Length k → Written i at next d (put_mid used (length d - used) d after) used k
+  pub record Asked (i at next : ℕ) (d after : List ℕ) (used : ℕ) (r : Result ℕ TooShort) : Type 0 where
+    pub accepts : (k : ℕ) × (r ≡ Ok k)
+    pub writes : (k : ℕ) → r ≡ Ok k → Written i at next d (put_mid used (length d - used) d after) used k
     pub rest_short : All Short (entries_left (i + 1) next)
 
   module _ (i at : ℕ) (l : LineAt) (more : i < n) (p : Parted cr xs at l) where
@@ -270,7 +256,7 @@ module _ (cr : ℕ) (style : Style) (xs : List ℕ) (n : ℕ) where
         }
 
     -- where every line that is left has a record, and the part of d that is left has room for all their records
-    module _ (d after : List ℕ) (used : ℕ) (r : RecordWritten) (ok : All Short (entries_left i at)) (fits : used + length (image (entries_left i at)) ≤ length d)
+    module _ (d after : List ℕ) (used : ℕ) (r : Result ℕ TooShort) (ok : All Short (entries_left i at)) (fits : used + length (image (entries_left i at)) ≤ length d)
         (says : record_says r ≡ decoded_answer style (length (mid_of used (length d - used) d)) raw_name raw_value)
         (leaves : after ≡ left_in (decoded_answer style (length (mid_of used (length d - used) d)) raw_name raw_value) next_record (mid_of used (length d - used) d)) where
       sum : Adds i at l.next (length (decode style raw_name)) (length (decode style raw_value))
@@ -285,10 +271,10 @@ module _ (cr : ℕ) (style : Style) (xs : List ℕ) (n : ℕ) where
           (omega (arith, sum.octets, length-take (length d - used) (drop used d), length-drop used d))
           (short_is (decoded_entry style raw_name raw_value) apart.0)
 
-      its_length : r ≡ RecordWritten.Length (length next_record)
-      its_length = record_once r (RecordWritten.Length (length next_record)) (says ∙ accepted_so)
+      its_length : r ≡ Ok (length next_record)
+      its_length = record_once r (Ok (length next_record)) (says ∙ accepted_so)
 
-      module _ (k : ℕ) (e : r ≡ RecordWritten.Length k) where
+      module _ (k : ℕ) (e : r ≡ Ok k) where
         took : length next_record ≡ k
         took = cc its_length
 
@@ -320,11 +306,12 @@ module _ (cr : ℕ) (style : Style) (xs : List ℕ) (n : ℕ) where
 
 -- ---- What decode replies
 
--- an answer of parse that tells of no item
-pub not_complete : (m : ℕ) (p : Parsed) → ((i : Item) → p ≡ Parsed.Complete i → ⊥) → Other m (parsed_says p)
-not_complete m (Parsed.Complete i) h = absurd (h i refl)
-not_complete m Parsed.Incomplete h = tt
-not_complete m (Parsed.Invalid r) h = tt
+-- an answer of parse that tells of no frame
+pub not_complete : (m : ℕ) (p : Result (option.Option Item) Refusal) → ((f : Frame) → p ≡ Ok (Some (Item.Frame f)) → ⊥) → Other m (parsed_says p)
+not_complete m (Ok (Some (Item.HeartBeat n))) h = λ e. refl
+not_complete m (Ok (Some (Item.Frame f))) h = absurd (h f refl)
+not_complete m (Ok None) h = tt
+not_complete m (Err r) h = tt
 
 module _ (room : ℕ) where
   answer_none : (o : Option (List Entry)) → o ≡ none → decode_answer room o ≡ refused 20

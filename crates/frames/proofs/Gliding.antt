@@ -108,29 +108,6 @@ plain_octet s f x k =
       lt-ltb x 128 (omega (arith, leb-true x 127 (and_right (not (eqb x 10 || eqb x cr || eqb x colon || eqb x back)) (leb x 127) k))),
     )
 
--- calm octets below 128 are plain in any text: what its stops are
-pub calm_plain : (s : Style) (f : Field) {t : Stops} → t ≡ text_stops s f → (t.top ≡ 127) × ((x : ℕ) → calm 127 x ≡ true → plain_in t x ≡ true)
-calm_plain s f e = rw e (refl, λ x h. calm_in s f x h)
-  where
-    either : (b : Bool) (x n : ℕ) → 14 ≤ x → eqb x n ≡ false → eqb x (cond b n 10) ≡ false
-    either true x n l h = h
-    either false x n l h = ne_eqb x 10 (λ z. absurd (omega arith))
-
-    calm_in : (s : Style) (f : Field) (x : ℕ) → calm 127 x ≡ true → plain_in (text_stops s f) x ≡ true
-    calm_in s f x k =
-        let d = and_left (leb 14 x && leb x 127 && not (eqb x 58)) (not (eqb x 92)) k in
-        let b = and_left (leb 14 x && leb x 127) (not (eqb x 58)) d in
-        let low = leb-true 14 x (and_left (leb 14 x) (leb x 127) b) in
-        let n58 = not-true (eqb x 58) (and_right (leb 14 x && leb x 127) (not (eqb x 58)) d) in
-        let n92 = not-true (eqb x 92) (and_right (leb 14 x && leb x 127 && not (eqb x 58)) (not (eqb x 92)) k) in
-        rw (
-          ne_eqb x 10 (λ z. absurd (omega arith)),
-          either s.crlf x 13 low (ne_eqb x 13 (λ z. absurd (omega arith))),
-          either (divides s f) x 58 low n58,
-          either s.escapes x 92 low n92,
-          and_right (leb 14 x) (leb x 127) b,
-        )
-
 pub reads_plain : (s : Style) (f : Field) (x : ℕ) → plain_in (text_stops s f) x ≡ true → reads s f fresh x ≡ into fresh
 reads_plain s f x k =
     let (p, a) = plain_octet s f x k in

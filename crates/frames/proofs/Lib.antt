@@ -15,6 +15,7 @@ pub mod Exact
 pub mod Examples
 pub mod Scanning
 pub mod Upto
+pub mod Parts
 pub mod Bounds
 pub mod Steps
 pub mod Words
@@ -48,6 +49,7 @@ pub mod Telling
 pub mod Agreement
 pub mod Repeating
 pub mod Resuming
+pub mod Numbers
 pub mod Records
 pub mod Kept
 pub mod EndToEnd

@@ -4,7 +4,7 @@ use mathlib.Core.Bool.{Bool, true, false, cond}
 use mathlib.Core.List.{List}
 use Prim.Native.Nat.{ℕ, ◌+◌, ◌-◌, ◌*◌, ◌≤◌, ◌<◌}
 use native.Mathlib.Omega.{arith}
-use lib.ListN.{length, drop, get_or}
+use lib.ListN.{length, take, drop, get_or}
 use lib.Dec.{eqb}
 use borrow.Author.Tests.{eq-eqb, ne_eqb, le-leb, lt-ltb}
 use Rattle.headers.specs.Lines.{content_length}
@@ -14,6 +14,7 @@ use Rattle.headers.proofs.Decimals.{digit_apart}
 use Rattle.frames.specs.declared.state.Scan.{Scan}
 use Rattle.headers.specs.Stretches.{plain_in}
 use Rattle.frames.specs.Scanning.{style_of, most_of, next_command, to_phase, in_line, on_word, on_name, on_length, scan_step, scan, Valid, text_stops, skip, Ahead, Passed}
+use Rattle.frames.proofs.Parts.{octet_at}
 use Rattle.frames.proofs.Upto.{upto_at}
 use Rattle.frames.proofs.Steps.{room, room_name}
 use Rattle.frames.proofs.Validity.{valid_step}
@@ -31,6 +32,9 @@ module _ {s : List ℕ} {i : ℕ} {st : Scan} where
   passed_none h v =
       let here : i ≡ i + (st.at - st.at) = omega arith in
       (record { onward = omega arith; within = omega arith; kept = v; same_end = ap (λ n. scan st (drop n s)) here }, here)
+
+  pub passed_start : i ≤ length s → Valid st → Gone s i st st (i + 0)
+  passed_start h v = ((passed_none h v).0, omega arith)
 
   -- a stretch
   pub passed_ahead : {k : ℕ} {st' : Scan} → Ahead s i st k → st' ≡ skip k st → Passed s i st st'
@@ -57,6 +61,14 @@ module _ {s : List ℕ} {i : ℕ} {st : Scan} where
         },
         next,
       )
+
+-- an octet more of a part of the row that begins where the stretch does
+pub passed_more : {s : List ℕ} {i : ℕ} {st : Scan} (n k : ℕ) {st' st'' : Scan} → Gone s i st st' (i + k) → k < length (take n (drop i s))
+    → st'' ≡ scan_step st' (get_or (take n (drop i s)) k 0) → st''.at ≡ st'.at + 1 → Gone s i st st'' (i + (k + 1))
+passed_more {s} {i} {st} n k {st'} {st''} p h e a =
+    let (inside, octet) = octet_at n s i k h in
+    let on : i + k + 1 ≡ i + (k + 1) = omega arith in
+    subst (Gone s i st st'') on (passed_step p inside (e ∙ ap (scan_step st') octet) a)
 
 -- two stretches, one after the other
 pub passed_then : {s : List ℕ} {i j : ℕ} {st st' st'' : Scan} → Passed s i st st' → j ≡ i + (st'.at - st.at) → Passed s j st' st'' → Passed s i st st''
@@ -109,9 +121,3 @@ module _ (st : Scan) (x : ℕ) where
   digit_on e h l u m =
       let y = style_of st.crlf st.command in
       simp (e, reads_plain y in_value x (digit_plain y.crlf y.escapes y.escapes x l u), room 0 512 st.len refl, lt-ltb st.len 512 h, le-leb 48 x l, le-leb x 57 u, le-leb (st.size * 10 + (x - 48)) (most_of st.command) m)
-
--- octets at the front of a row that lie ahead: the state after them, and the rest from there
-pub front_on : (s : List ℕ) (st next : Scan) (k : ℕ) → Ahead s 0 st k → next ≡ skip k st → (k ≤ length s) × Valid next × (scan next (drop k s) ≡ scan st s)
-front_on s st next k a is =
-    let none : 0 + k ≡ k = omega arith in
-    (omega (arith, a.within), subst Valid (sym is) a.kept, ap (λ z. scan z (drop k s)) is ∙ ap (λ j. scan (skip k st) (drop j s)) (sym none) ∙ sym a.same_end)

@@ -16,13 +16,13 @@ use Rattle.headers.specs.Rows.{every, is_octet}
 use Rattle.headers.proofs.Rows.{cond_case}
 use Rattle.frames.specs.declared.version.Version.{Version}
 use Rattle.frames.specs.Replies.{Reply, Complete, Incomplete, Invalid}
-use Rattle.frames.specs.Refusals.{Reason, numbered, no_command, no_10, not_utf8, wrong_escape, nameless, second_colon, no_colon, long_line, many_lines, bad_length, past_body}
 use Rattle.frames.specs.Parsing.{parsed}
 use Rattle.frames.specs.Exactness.{Claims}
 use Rattle.frames.specs.Scanning.{scan, nothing_read}
 use Rattle.frames.specs.Validity.{is_valid}
 use Rattle.frames.specs.declared.state.Scan.{Scan}
 use Rattle.frames.proofs.Exact.{exact}
+use Rattle.frames.proofs.Numbers.{number_known}
 use Rattle.frames.proofs.Running.{scan_ended}
 use Rattle.frames.proofs.Sizes.{viable_short}
 use Rattle.frames.proofs.Checks.{first_run_passes}
@@ -32,10 +32,6 @@ use Rattle.frames.proofs.Counting.{scan_counts}
 use Rattle.frames.proofs.Endings.{first_fits}
 use Rattle.frames.proofs.Telling.{not_taken, inside_untold, told_inside, stands_told}
 use Rattle.frames.proofs.Feeding.{Stands, stands_fresh, resumable, more_stands, item_stands, refused_state, so_far_octets}
-
--- the numbers of the table are known
-number_known : (r : Reason) → is_number (numbered r) ≡ true
-number_known = elim [ no_command ↦ refl | no_10 ↦ refl | not_utf8 ↦ refl | wrong_escape ↦ refl | nameless ↦ refl | second_colon ↦ refl | no_colon ↦ refl | long_line ↦ refl | many_lines ↦ refl | bad_length ↦ refl | past_body ↦ refl ]
 
 -- stopped at a refusal
 pub record Stopped (st : Scan) (k n : ℕ) : Type 0 where

@@ -4,9 +4,10 @@ use mathlib.Core.Bool.{Bool, true, false, cond, ◌&&◌, ◌||◌, not}
 use Prim.Native.Nat.{ℕ, ◌+◌, ◌-◌, ◌≤◌}
 use native.Mathlib.Omega.{arith}
 use lib.Dec.{eqb, leb, ltb}
+use Rattle.std.specs.Prelude.{Some, None}
 use borrow.Author.Tests.{eqb-true, eqb-false, leb-true, leb-false, ltb-true, ltb-false, le-leb, lt-leb, lt-ltb, le-ltb}
 use Rattle.headers.specs.Text.{ascii, missing, starts, starts_with, of_utf8, fresh, back, led, tails, owes, Into, into, bad, stop, of_escape, stops, opens, is_letter, utf8_reads, reads}
-use Rattle.headers.specs.Characters.{utf8_part, text_part, into_number}
+use Rattle.headers.specs.Characters.{utf8_part, text_part, part_after}
 use Rattle.headers.specs.declared.text.Style.{Style}
 use Rattle.headers.specs.declared.text.Field.{Field}
 use Rattle.headers.specs.declared.text.Field.TheVariants.{Name as in_name, Value as in_value}
@@ -16,7 +17,7 @@ use Rattle.headers.proofs.Rows.{never as no_test, cond_case, or_false_left, or_f
 use Rattle.frames.specs.declared.state.Scan.{Scan}
 use Rattle.frames.specs.Grammar.{lines_max}
 use Rattle.frames.specs.Refusals.{numbered, long_line, many_lines, not_utf8, wrong_escape}
-use Rattle.frames.specs.Scanning.{style_of, advance, in_line, in_part, in_character, on_digit, on_length_by, on_more, invalid, on_start, on_word, on_begin, on_name_by, on_name, on_value_by, on_value, scan_step, line_ends, nameless_at}
+use Rattle.frames.specs.Scanning.{style_of, advance, in_line, in_part, in_character, on_digit, on_length_by, on_more, invalid, on_start, on_word, on_begin, on_name_by, on_name, on_value_by, on_value, on_text, text_most, text_between, text_inside, text_matched, scan_step, line_ends, nameless_at}
 
 -- an octet where a character begins: a stop, the backslash of an escape, or itself
 module _ (f : Field) (x : ℕ) {s t : Style} (e : s ≡ t) where
@@ -48,6 +49,11 @@ module _ (o m n : ℕ) where
 
   pub room_name : m + o ≡ 511 → leb (n + 1 + o + 1) 512 ≡ ltb n m
   room_name e = fits (n + 1 + o + 1) m n (omega arith)
+
+-- one octet more of a line, by other names of its numbers
+pub grown : (st : Scan) {a m p q j k : ℕ} (r : ℕ) → a ≡ m → p ≡ q → j ≡ k
+    → cond (ltb st.len a) (in_part st p j st.size (st.len + 1) r) (invalid st (numbered long_line)) ≡ cond (ltb st.len m) (in_part st q k st.size (st.len + 1) r) (invalid st (numbered long_line))
+grown st r e f g = rw (e, f, g) refl
 
 -- an octet after a backslash, as the code takes it: t where it is the letter of an escape
 module _ (st : Scan) (x : ℕ) where
@@ -97,52 +103,90 @@ module _ (st : Scan) (x : ℕ) where
   unfolding on_name
   name_inside z w = ap (on_name_by st x) (reads_inside (style_of st.crlf st.command) in_name st.rest x z w) ∙ name_in (utf8_reads (utf8_part st.rest) x) (goes8 st.rest x)
 
-  -- by the number that the octet leaves
-  module _ (n m w p k r : ℕ) (is : r ≡ into_number (utf8_reads (utf8_part n) x)) where
+  -- the same of a text of either field
+  pub text_after : (f : Field) → on_text st f back x ≡ after_back st x (is_letter (style_of st.crlf st.command) x) (text_most f) (text_between f) (text_matched st f x)
+  text_after in_name = name_back st x
+  text_after in_value = value_back st x
+
+  pub text_goes : (f : Field) → (st.rest ≡ 0 → ⊥) → (st.rest ≡ 92 → ⊥)
+      → on_text st f (text_part st.rest) x ≡ in_character st (text_most f) (text_between f) (text_inside f) (text_matched st f x) (utf8_reads (utf8_part st.rest) x)
+  text_goes in_name = name_inside
+  text_goes in_value = value_inside
+
+  module _ (f : Field) {s : Style} (e : s ≡ style_of st.crlf st.command) (n : stops (style_of st.crlf st.command) f x ≡ false) where
+    pub text_opens : {b : Bool} → b ≡ opens s x → b ≡ true
+        → on_text st f fresh x ≡ cond (ltb st.len (text_most f - 1)) (in_part st (text_inside f) (text_matched st f x) st.size (st.len + 1) 92) (invalid st (numbered long_line))
+    unfolding on_name on_value
+    text_opens u v = by f n
+      where
+        o : opens (style_of st.crlf st.command) x ≡ true
+        o = ap (λ r. opens r x) (sym e) ∙ sym u ∙ v
+
+        by : (g : Field) → stops (style_of st.crlf st.command) g x ≡ false
+            → on_text st g fresh x ≡ cond (ltb st.len (text_most g - 1)) (in_part st (text_inside g) (text_matched st g x) st.size (st.len + 1) 92) (invalid st (numbered long_line))
+        by in_name m = rw (m, o, room_name 1 510 st.len refl) refl
+        by in_value m = rw (m, o, room 1 511 st.len refl) refl
+
+    pub text_starts : {b : Bool} → b ≡ opens s x → b ≡ false
+        → on_text st f fresh x ≡ in_character st (text_most f) (text_between f) (text_inside f) (text_matched st f x) (starts_with x)
+    unfolding on_name on_value
+    text_starts u v = by f n
+      where
+        o : opens (style_of st.crlf st.command) x ≡ false
+        o = ap (λ r. opens r x) (sym e) ∙ sym u ∙ v
+
+        by : (g : Field) → stops (style_of st.crlf st.command) g x ≡ false
+            → on_text st g fresh x ≡ in_character st (text_most g) (text_between g) (text_inside g) (text_matched st g x) (starts_with x)
+        by in_name m = rw (m, o) (name_in (starts_with x) (goes8 0 x))
+        by in_value m = rw (m, o) (value_in (starts_with x) (goes8 0 x))
+
+  -- by what the octet leaves
+  module _ (n m w p k : ℕ) where
     abbrev Taken : Scan → Type 0
     Taken z = z ≡ in_character st m w p k (utf8_reads (utf8_part n) x)
 
-    pub taken_bad : r ≡ 255 → Taken (invalid st (numbered not_utf8))
-    taken_bad e = by (utf8_reads (utf8_part n) x) (goes8 n x) (sym is ∙ e)
+    pub taken_bad : None ≡ part_after (utf8_reads (utf8_part n) x) → Taken (invalid st (numbered not_utf8))
+    taken_bad e = by (utf8_reads (utf8_part n) x) (goes8 n x) e
       where
-        by : (i : Into) → Goes8 i → into_number i ≡ 255 → invalid st (numbered not_utf8) ≡ in_character st m w p k i
-        by (into q) g e = absurd (omega (arith, g.0))
+        by : (i : Into) → Goes8 i → None ≡ part_after i → invalid st (numbered not_utf8) ≡ in_character st m w p k i
+        by (into q) g e = cc
         by (bad of_utf8) g e = refl
         by (bad of_escape) g e = absurd g
         by stop g e = absurd g
 
-    pub taken_whole : r ≡ 0 → Taken (cond (ltb st.len m) (in_line st w k st.size (st.len + 1)) (invalid st (numbered long_line)))
-    taken_whole e = by (utf8_reads (utf8_part n) x) (goes8 n x) (sym is ∙ e)
-      where
-        by : (i : Into) → Goes8 i → into_number i ≡ 0 → cond (ltb st.len m) (in_line st w k st.size (st.len + 1)) (invalid st (numbered long_line)) ≡ in_character st m w p k i
-        by (into fresh) g e = refl
-        by (into back) g e = absurd (omega arith)
-        by (into (led y)) g e = let z : fresh ≡ led y = sym (ap utf8_part e) ∙ g.1 in absurd (apart z)
-          where
-            apart : {y : ℕ} → fresh ≡ led y → ⊥
-            apart z = let q : ◌≡◌ {A = ℕ} 0 1 = cc in omega arith
-        by (into (tails j)) g e = let z : fresh ≡ tails j = sym (ap utf8_part e) ∙ g.1 in absurd (apart z)
-          where
-            apart : {y : ℕ} → fresh ≡ tails y → ⊥
-            apart z = let q : ◌≡◌ {A = ℕ} 0 1 = cc in omega arith
-        by (bad b) g e = absurd (omega arith)
-        by stop g e = absurd g
+    module _ {r : ℕ} (is : Some r ≡ part_after (utf8_reads (utf8_part n) x)) where
+      pub taken_whole : r ≡ 0 → Taken (cond (ltb st.len m) (in_line st w k st.size (st.len + 1)) (invalid st (numbered long_line)))
+      taken_whole e = by (utf8_reads (utf8_part n) x) (goes8 n x) is
+        where
+          by : (i : Into) → Goes8 i → Some r ≡ part_after i → cond (ltb st.len m) (in_line st w k st.size (st.len + 1)) (invalid st (numbered long_line)) ≡ in_character st m w p k i
+          by (into fresh) g q = refl
+          by (into back) g q = let z : ◌≡◌ {A = ℕ} 92 0 = cc in absurd (omega arith)
+          by (into (led y)) g q = let s : y ≡ 0 = cc in let z : fresh ≡ led y = sym (ap utf8_part s) ∙ g.1 in absurd (apart z)
+            where
+              apart : {y : ℕ} → fresh ≡ led y → ⊥
+              apart z = let q : ◌≡◌ {A = ℕ} 0 1 = cc in omega arith
+          by (into (tails j)) g q = let s : j ≡ 0 = cc in let z : fresh ≡ tails j = sym (ap utf8_part s) ∙ g.1 in absurd (apart z)
+            where
+              apart : {y : ℕ} → fresh ≡ tails y → ⊥
+              apart z = let q : ◌≡◌ {A = ℕ} 0 1 = cc in omega arith
+          by (bad b) g q = cc
+          by stop g q = absurd g
 
-    pub taken_part : (r ≡ 255 → ⊥) → (r ≡ 0 → ⊥) → (o : ℕ) → o ≡ owes (utf8_part r)
-        → Taken (cond (ltb st.len (m - o)) (in_part st p k st.size (st.len + 1) r) (invalid st (numbered long_line))) × (o ≤ 3)
-    taken_part a z o ow = by (utf8_reads (utf8_part n) x) (goes8 n x) is
-      where
-        by : (i : Into) → Goes8 i → r ≡ into_number i
-            → (cond (ltb st.len (m - o)) (in_part st p k st.size (st.len + 1) r) (invalid st (numbered long_line)) ≡ in_character st m w p k i) × (o ≤ 3)
-        by (into fresh) g e = absurd (z e)
-        by (into back) g e = absurd (apart g.1)
-          where
-            apart : led 92 ≡ back → ⊥
-            apart z = let q : ◌≡◌ {A = ℕ} 0 1 = cc in omega arith
-        by (into (led y)) g e = let t : o ≡ missing y = ow ∙ ap (λ r. owes (utf8_part r)) e ∙ ap owes g.1 in (rw (t, e), omega (arith, t, g.2))
-        by (into (tails j)) g e = let t : o ≡ j = ow ∙ ap (λ r. owes (utf8_part r)) e ∙ ap owes g.1 in (rw (t, e), omega (arith, t, g.2))
-        by (bad b) g e = absurd (a e)
-        by stop g e = absurd g
+      pub taken_part : (r ≡ 0 → ⊥) → (o : ℕ) → o ≡ owes (utf8_part r)
+          → Taken (cond (ltb st.len (m - o)) (in_part st p k st.size (st.len + 1) r) (invalid st (numbered long_line))) × (o ≤ 3)
+      taken_part z o ow = by (utf8_reads (utf8_part n) x) (goes8 n x) is
+        where
+          by : (i : Into) → Goes8 i → Some r ≡ part_after i
+              → (cond (ltb st.len (m - o)) (in_part st p k st.size (st.len + 1) r) (invalid st (numbered long_line)) ≡ in_character st m w p k i) × (o ≤ 3)
+          by (into fresh) g q = let s : r ≡ 0 = cc in absurd (z s)
+          by (into back) g q = absurd (apart g.1)
+            where
+              apart : led 92 ≡ back → ⊥
+              apart z = let q : ◌≡◌ {A = ℕ} 0 1 = cc in omega arith
+          by (into (led y)) g q = let e : r ≡ y = cc in let t : o ≡ missing y = ow ∙ ap (λ r. owes (utf8_part r)) e ∙ ap owes g.1 in (rw (t, e), omega (arith, t, g.2))
+          by (into (tails j)) g q = let e : r ≡ j = cc in let t : o ≡ j = ow ∙ ap (λ r. owes (utf8_part r)) e ∙ ap owes g.1 in (rw (t, e), omega (arith, t, g.2))
+          by (bad b) g q = cc
+          by stop g q = absurd g
 
 -- the first content-length, whose octets are no stops and begin no escape
 module _ (st : Scan) (x : ℕ) where
@@ -169,23 +213,6 @@ module _ (st : Scan) (x : ℕ) where
       let a = or_false_left (ascii x) (ltb 0 (missing x)) h in
       let (n, o) = high_text (style_of st.crlf st.command) in_name x a in
       rw (n, o, a, or_false_right (ascii x) (ltb 0 (missing x)) h)
-
--- a number that is not 0
-pub some_eqb : (n : ℕ) → not (eqb n 0) ≡ ltb 0 n
-some_eqb n = by (eqb n 0) refl
-  where
-    by : (t : Bool) → eqb n 0 ≡ t → not t ≡ ltb 0 n
-    by true e = rw (eqb-true n 0 e) refl
-    by false e = sym (lt-ltb 0 n (omega (arith, eqb-false n 0 e)))
-
-pub text_back : {n : ℕ} → n ≡ 92 → text_part n ≡ back
-text_back e = rw e refl
-
-pub inside_name : {p : ℕ} → p ≡ 6 → eqb p 6 || eqb p 8 ≡ true
-inside_name e = rw e refl
-
-pub inside_value : {p : ℕ} → p ≡ 8 → eqb p 6 || eqb p 8 ≡ true
-inside_value e = rw e refl
 
 -- where a line or an item begins: the octets that begin no name or no word, and the others
 module _ (st : Scan) (x : ℕ) where

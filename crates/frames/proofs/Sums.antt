@@ -1,7 +1,7 @@
 -- The sums over the entries of a block (specs/Writing.antt). Assumes nothing.
 --     Summing                                    what holds while entries are left
 --     sum_start, sum_line, sum_none              at the first, and from one entry to the next
---     sum_end, sum_full                          at the end, and where 33 are counted
+--     sum_end                                    at the end
 --     sums_..                                    what the sums say of the lines
 --     sums_plain                                 where they say that no octet is escaped
 use mathlib.Core.Path.{◌≡◌, refl, sym, ◌∙◌, ap, ap₂}
@@ -97,18 +97,6 @@ module _ (s : Style) (es : List Entry) where
         by : (t : Bool) → eqb good count ≡ t → good ≡ first_unwritable s es
         by true t = omega (arith, rw gone at (w.writable (eqb-true good count t)))
         by false t = w.stopped (omega (arith, w.within, eqb-false good count t))
-
-    -- 33 are counted
-    pub sum_full : 33 ≤ count → Sums s es (record { count = count; good = good; total = total })
-    sum_full full =
-        record {
-          many = λ x. omega arith;
-          counted = λ x. absurd (omega (arith, w.counted));
-          writable = λ x. absurd (omega (arith, w.counted));
-          summed = λ x. absurd (omega (arith, w.counted));
-          few = few;
-          small = omega (arith, w.small, w.within);
-        }
 
 -- an entry cannot be written exactly where the first that cannot comes before the end
 unwritable_some : (s : Style) (es : List Entry) → first_unwritable s es < length es → every (can_write s) es ≡ false

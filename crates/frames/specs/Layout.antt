@@ -1,7 +1,10 @@
 -- Where the parts of a frame's head stand, read off its octets: what decoding goes by. That these are the parts of the parse tree is
 -- proofs/Heads.antt. Assumes nothing.
 use Rattle.std.specs.Prelude.{Bool, cond, List, [], ◌∷◌, ℕ, zero, suc, ◌+◌, take, drop, get_or, eqb}
+use Rattle.headers.specs.Block.{Entry}
 use Rattle.frames.specs.Grammar.{Line}
+use Rattle.frames.specs.Decoding.{line_entries}
+use Rattle.frames.specs.declared.decode.HeadLines.{HeadLines}
 use Rattle.headers.specs.Stretches.{span, plain_in}
 use Rattle.headers.specs.declared.plain.Stops.{Stops}
 
@@ -56,3 +59,7 @@ module _ (cr : ℕ) where
   -- what follows the line of the command
   abbrev pub behind_word : List ℕ → List ℕ
   behind_word xs = behind_end (at_end xs)
+
+-- the entries of a frame's lines, decoded, as the code tells of them
+abbrev pub entries_of : HeadLines → List Entry
+entries_of l = line_entries l.style (front_lines l.cr l.count (drop l.from l.frame.now))

@@ -67,6 +67,19 @@ value_phase back = 8
 value_phase (led x) = 8
 value_phase (tails n) = 8
 
+-- of a name, and of a value: the most octets of a line that is in it, and the phases between its characters and inside one
+abbrev pub text_most : Field → ℕ
+text_most in_name = 511
+text_most in_value = 512
+
+abbrev pub text_between : Field → ℕ
+text_between in_name = 5
+text_between in_value = 7
+
+abbrev pub text_inside : Field → ℕ
+text_inside in_name = 6
+text_inside in_value = 8
+
 -- Where an octet leads. It is read, and the next stands at a phase; or it is refused.
 module _ (st : Scan) where
   abbrev pub to_phase : ℕ → ℕ → Scan
@@ -222,6 +235,15 @@ module _ (st : Scan) where
 
   unfoldable pub on_value : Part → ℕ → Scan
   on_value p x = on_value_by x (reads (style_of st.crlf st.command) in_value p x)
+
+  -- an octet of a name or of a value; and how many octets of the line's name match after it
+  abbrev pub on_text : Field → Part → ℕ → Scan
+  on_text in_name = on_name
+  on_text in_value = on_value
+
+  abbrev pub text_matched : Field → ℕ → ℕ
+  text_matched in_name x = advance st.matched x
+  text_matched in_value x = 0
 
   -- one digit more, while the number is not too large
   abbrev pub grows : ℕ → Bool

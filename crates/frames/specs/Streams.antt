@@ -27,6 +27,10 @@ pub data Feeding : Type 0 where
 abbrev pub is_number : ℕ → Bool
 is_number k = any (λ r. eqb k (numbered r)) order
 
+-- a record that is refused has such a number
+abbrev pub is_numbered : Scan → Bool
+is_numbered st = not (eqb st.phase 16) || is_number st.code
+
 -- the phases after a 13 that begins a line end; and a record at one of them, or refused there
 abbrev pub cr_phase : ℕ → Bool
 cr_phase p = eqb p 1 || (eqb p 3 || (eqb p 10 || eqb p 11))

@@ -1,13 +1,13 @@
 // Plain stretches: how many octets header text or a body takes as they stand.
-ghost use Rattle.std.specs.Prelude.{◌≡◌, true, cond, ◌&&◌, ℕ, ◌+◌, ◌≤◌, ◌<◌, length, take, drop};
+ghost use Rattle.std.specs.Prelude.{◌≡◌, true, cond, ◌&&◌, ℕ, ◌+◌, ◌≤◌, ◌<◌, length, take, drop, min};
 ghost use Rattle.headers.specs.Rows.{every};
 ghost use Rattle.headers.specs.Stretches.{span, plain_in, calm};
 ghost use Rattle.headers.specs.Text.{Text};
-ghost use Rattle.frames.specs.Scanning.{Valid, Ahead, text_stops, not_zero, skip};
-ghost use Rattle.headers.specs.declared.text.Field.TheVariants.{Name, Value};
+ghost use Rattle.frames.specs.Scanning.{Ahead, text_stops, not_zero};
+ghost use Rattle.headers.specs.declared.text.Field.TheVariants.{Value};
 
-use crate::state::Scan;
-use headers::{Stops, Style};
+use crate::state::ValidScan;
+use headers::{Field, Stops, Style};
 
 // An octet that ends a stretch, or 10, which ends every one, where it does not.
 pub(crate) fn or_10(ends: bool, x: u8) -> u8
@@ -16,98 +16,34 @@ pub(crate) fn or_10(ends: bool, x: u8) -> u8
     if ends { x } else { 10 }
 }
 
-// The octets that end a stretch of a name.
-pub(crate) fn name_stops(style: Style) -> Stops
-    ensures { result ≡ text_stops style Name }
+// The octets that end a stretch of a name or of a value: a colon is text in a value that has no escapes.
+pub(crate) fn text_stops(style: Style, field: Field) -> Stops
+    ensures { result ≡ text_stops style field }
 {
+    let colon_ends = match field {
+        Field::Name => true,
+        Field::Value => style.escapes,
+    };
     Stops {
         cr: or_10(style.crlf, 13),
-        colon: 58,
+        colon: or_10(colon_ends, 58),
         back: or_10(style.escapes, 92),
         top: 127,
     }
 }
 
-// Those of a value.
-fn value_stops(style: Style) -> Stops
-    ensures { result ≡ text_stops style Value }
-{
-    Stops {
-        cr: or_10(style.crlf, 13),
-        colon: or_10(style.escapes, 58),
-        back: or_10(style.escapes, 92),
-        top: 127,
-    }
-}
+// The octets of a large block.
+const LARGE: usize = 512;
 
 // Whether no octet of a block is 0.
 fn is_clear(s: &[u8]) -> bool
     ensures { result ≡ every not_zero s.now }
 {
     let mut ok = true;
-    let mut i = 0usize;
-    while i < s.len() {
-        ok = ok & (s[i] != 0);
-        i += 1;
+    for x in s {
+        ok = ok & (*x != 0);
     }
     ok
-}
-
-// How far whole blocks without an octet 0 go on from a place of s.
-fn clear_blocks(s: &[u8], from: usize, size: usize) -> usize
-    requires { (from ≤ length s.now) × (0 < size) }
-    ensures { (result ≤ length s.now) × (result + span not_zero (drop result s.now) ≡ from + span not_zero (drop from s.now)) }
-{
-    let mut i = from;
-    while size <= s.len() - i {
-        let e = i + size;
-        if is_clear(&s[i..e]) {
-            i = e;
-        } else {
-            return i;
-        }
-    }
-    i
-}
-
-// How far small blocks and then single octets without an octet 0 go on from a place of s.
-fn clear_rest(s: &[u8], from: usize) -> usize
-    requires { from ≤ length s.now }
-    ensures { result ≡ from + span not_zero (drop from s.now) }
-{
-    let mut i = clear_blocks(s, from, 16);
-    while i < s.len() {
-        if s[i] == 0 {
-            return i;
-        }
-        i += 1;
-    }
-    i
-}
-
-// How many octets at the front of s are not 0: by large blocks, the last of which may begin in the one before it; where an octet 0
-// is near, by small ones.
-pub(crate) fn body_span(s: &[u8]) -> usize
-    ensures { result ≡ span not_zero s.now }
-{
-    if s.len() < 128 {
-        return clear_rest(s, 0);
-    }
-    let far = clear_blocks(s, 0, 128);
-    let e = s.len() - 128;
-    if e <= far {
-        if is_clear(&s[e..]) {
-            return s.len();
-        }
-    }
-    clear_rest(s, far)
-}
-
-// The lesser of two octets.
-fn lesser(a: u8, b: u8) -> u8
-    ensures { not_zero result ≡ not_zero a && not_zero b }
-{
-    if b < a { b } else { a }
 }
 
 // Whether no octet of a large block is 0: the least of them is not.
@@ -115,65 +51,97 @@ fn is_all_clear(s: &[u8]) -> bool
     ensures { result ≡ every not_zero s.now }
 {
     let mut least = 255u8;
-    let mut i = 0usize;
-    while i < s.len() {
-        least = lesser(least, s[i]);
-        i += 1;
+    for x in s {
+        least = least.min(*x);
     }
     least != 0
 }
 
-// How far large blocks without an octet 0 go.
-fn large_blocks(s: &[u8]) -> usize
-    ensures { (result ≤ length s.now) × (result + span not_zero (drop result s.now) ≡ span not_zero s.now) }
+// Whether no octet of a block is 0, as is quicker for blocks of a size.
+fn is_clear_block<const SIZE: usize>(s: &[u8]) -> bool
+    ensures { result ≡ every not_zero s.now }
 {
-    let mut i = 0usize;
-    while 512 <= s.len() - i {
-        let e = i + 512;
-        if is_all_clear(&s[i..e]) {
-            i = e;
-        } else {
-            return i;
-        }
+    if SIZE < LARGE {
+        is_clear(s)
+    } else {
+        is_all_clear(s)
     }
-    i
 }
 
-// The same, or all of s where the last block, which may begin in the one before it, has no octet 0 either. An octet 0 that is near is
-// looked for first.
-fn far_span(s: &[u8]) -> usize
+// How far whole blocks without an octet 0 go on from a place of s.
+fn clear_blocks<const SIZE: usize>(s: &[u8], from: usize) -> usize
+    requires { (from ≤ length s.now) × (0 < SIZE) }
+    ensures { (result ≤ length s.now) × (result + span not_zero (drop result s.now) ≡ from + span not_zero (drop from s.now)) }
+{
+    let count = (s.len() - from) / SIZE;
+    for k in 0..count {
+        let at = from + k * SIZE;
+        if !is_clear_block::<SIZE>(&s[at..at + SIZE]) {
+            return at;
+        }
+    }
+    from + count * SIZE
+}
+
+// How far blocks of a size without an octet 0 go: all of s where the last block, which may begin in the one before it, has none either.
+fn far_span<const SIZE: usize>(s: &[u8]) -> usize
+    requires { 0 < SIZE }
     ensures { (result ≤ length s.now) × (result + span not_zero (drop result s.now) ≡ span not_zero s.now) }
 {
-    if s.len() < 512 {
+    if s.len() < SIZE {
         return 0;
     }
-    if !is_clear(&s[0..16]) {
-        return 0;
-    }
-    let far = large_blocks(s);
-    let e = s.len() - 512;
-    if e <= far {
-        if is_all_clear(&s[e..]) {
+    let far = clear_blocks::<SIZE>(s, 0);
+    let last = s.len() - SIZE;
+    if last <= far {
+        if is_clear_block::<SIZE>(&s[last..]) {
             return s.len();
         }
     }
     far
 }
 
-// The same as body_span, for bodies that are whole: by larger blocks, then by small ones. Parsing has its own, since a body that it
-// looks through may end soon.
+// How far small blocks and then single octets without an octet 0 go on from a place of s.
+fn clear_rest(s: &[u8], from: usize) -> usize
+    requires { from ≤ length s.now }
+    ensures { result ≡ from + span not_zero (drop from s.now) }
+{
+    let far = clear_blocks::<16>(s, from);
+    for (k, x) in s[far..].iter().enumerate() {
+        if *x == 0 {
+            return far + k;
+        }
+    }
+    s.len()
+}
+
+// How many octets at the front of s are not 0: by blocks, and where an octet 0 is near, by small ones.
+pub(crate) fn body_span(s: &[u8]) -> usize
+    ensures { result ≡ span not_zero s.now }
+{
+    clear_rest(s, far_span::<128>(s))
+}
+
+// The same for bodies that are whole: by large blocks, once an octet 0 that is near is looked for. Parsing has its own, since a body
+// that it looks through may end soon.
 pub(crate) fn long_span(s: &[u8]) -> usize
     ensures { result ≡ span not_zero s.now }
 {
-    clear_rest(s, far_span(s))
+    if s.len() < LARGE {
+        return clear_rest(s, 0);
+    }
+    if !is_clear(&s[0..16]) {
+        return clear_rest(s, 0);
+    }
+    clear_rest(s, far_span::<LARGE>(s))
 }
 
-// The end of the octets from i on that fit the room.
+// The end of the octets from i on that fit the room, where there are n.
 pub(crate) fn upto(i: usize, room: usize, n: usize) -> usize
     requires { i ≤ n }
-    ensures { (i ≤ result) × (result ≤ n) × (result ≤ i + room) }
+    ensures { (i ≤ result) × (result ≤ n) × (result ≡ min (i + room) n) }
 {
-    if n - i < room { n } else { i + room }
+    i + room.min(n - i)
 }
 
 // How many octets at the front of s are a whole escape, or whole characters of more than one octet; 0 where none is there.
@@ -205,12 +173,14 @@ fn is_plain(stops: Stops, x: u8) -> bool
 }
 
 // How many octets at the front of s text takes as they stand, where its stops leave calm octets below 128: by blocks up to an octet that
-// may be a stop, then that one by itself.
+// may be a stop, then that one by itself. It is part of the walks that call it: a call takes more than most stretches.
+#[inline(always)]
 pub(crate) fn text_span(s: &[u8], stops: Stops) -> usize
     requires { (stops.top ≡ 127) × ((x : ℕ) → calm 127 x ≡ true → plain_in stops x ≡ true) }
     ensures { result ≡ span (plain_in stops) s.now }
 {
     let mut i = 0usize;
+    // A cursor: each step goes as far as the search.
     while i < s.len() {
         i = headers::calm_from(s, i, 127);
         if s.len() <= i {
@@ -228,8 +198,9 @@ pub(crate) fn text_span(s: &[u8], stops: Stops) -> usize
 pub(crate) fn value_text(s: &[u8], style: Style) -> usize
     ensures { (result ≤ length s.now) × Text style Value (take result s.now) }
 {
-    let stops = value_stops(style);
+    let stops = text_stops(style, Field::Value);
     let mut j = text_span(s, stops);
+    // A cursor: each step goes as far as the characters and the stretch after them.
     while j < s.len() {
         let k = beyond_plain(&s[j..], style);
         if k == 0 {
@@ -242,41 +213,10 @@ pub(crate) fn value_text(s: &[u8], style: Style) -> usize
 }
 
 // How many octets of s from i on a value takes, whole characters among them.
-pub(crate) fn value_span(s: &[u8], i: usize, st: Scan) -> usize
-    requires { (i ≤ length s.now) × Valid st × (st.phase ≡ 7) }
-    ensures { Ahead s.now i st result }
+pub(crate) fn value_span(s: &[u8], i: usize, st: ValidScan) -> usize
+    requires { (i ≤ length s.now) × (st.scan.phase ≡ 7) }
+    ensures { Ahead s.now i st.scan result }
 {
-    let style = crate::word::style_of(st.crlf, st.command);
-    let stops = value_stops(style);
-    let e = upto(i, crate::limits::LINE - st.len, s.len());
-    let mut j = i + text_span(&s[i..e], stops);
-    while j < e {
-        let k = beyond_plain(&s[j..e], style);
-        if k == 0 {
-            return j - i;
-        }
-        let f = j + k;
-        j = f + text_span(&s[f..e], stops);
-    }
-    j - i
-}
-
-// The state k octets on.
-pub(crate) fn skip(st: Scan, k: usize) -> Scan
-    requires { Valid (skip k st) }
-    ensures { result ≡ skip k st }
-{
-    Scan {
-        phase: st.phase,
-        command: st.command,
-        lines: st.lines,
-        matched: st.matched,
-        sized: st.sized,
-        size: st.size,
-        len: st.len + k,
-        at: st.at + k,
-        code: st.code,
-        rest: st.rest,
-        crlf: st.crlf,
-    }
+    let e = upto(i, crate::limits::LINE - st.scan.len, s.len());
+    value_text(&s[i..e], st.style())
 }

@@ -1,52 +1,42 @@
 // Decoding: the entries of a frame, as a header block.
-ghost use Rattle.std.specs.Prelude.{◌≡◌, ◌≤◌, length, drop};
+ghost use Rattle.std.specs.Prelude.{◌≡◌, ◌≤◌, length};
 ghost use Rattle.headers.specs.Rows.{All};
 ghost use Rattle.headers.specs.Stretches.{Stretch};
 ghost use Rattle.headers.specs.Block.{image, Short};
 ghost use Rattle.headers.specs.Answers.{left_in, Puts, written_record, decoded_answer, record_says};
-ghost use Rattle.frames.specs.Layout.{front_lines};
-ghost use Rattle.frames.specs.Decoding.{line_entries, Decodes};
-ghost use Rattle.frames.specs.Answers.{decoded_says};
+ghost use Rattle.frames.specs.Layout.{entries_of};
+ghost use Rattle.frames.specs.Decoding.{Decodes};
+ghost use Rattle.frames.specs.Answers.{decode_number, decoded_says};
 
-use crate::parse::Parsed;
+use crate::parse::Item;
 use crate::version::Version;
-use headers::{Known, RecordWritten, Style};
+use headers::{Known, Style, TooShort};
 
-// What decoding gives: the length used; or that it is not exactly one frame (20), or that the block is too short (21).
+// Why nothing is decoded: it is not exactly one frame (20), or the block is too short (21).
 #[derive(Clone, Copy)]
-pub enum Decoded {
-    Length(usize),
-    NotFrame,
-    TooShort,
+pub enum DecodeError {
+    NotFrame = 20,
+    TooShort = 21,
 }
 
-// The numbers of its refusals.
-impl Decoded {
-    pub const NOT_FRAME: u64 = 20;
-
-    pub const TOO_SHORT: u64 = 21;
-}
-
-// How many octets the records of the n header lines from a place of s on have; cr is the octet that ends text there beside 10.
-fn measure(s: &[u8], from: usize, n: usize, cr: u8, style: Style) -> usize
-    requires { (from ≤ length s.now) × (n ≤ 32) }
-    ensures { result ≡ length (image (line_entries style (front_lines cr n (drop from s.now)))) }
-{
-    let mut total = 0usize;
-    let mut at = from;
-    let mut i = 0usize;
-    while i < n {
-        let l = crate::layout::line_at(s, at, cr);
-        let colon = l.colon;
-        let value = l.value;
-        let end = l.end;
-        let a = headers::decoded_length(&s[at..colon], style);
-        let b = headers::decoded_length(&s[value..end], style);
-        total = total + 6 + a + b;
-        at = l.next;
-        i += 1;
+impl DecodeError {
+    // Its number.
+    pub fn number(self) -> u32
+        ensures { result ≡ decode_number self }
+    {
+        self as u32
     }
-    total
+}
+
+// The header lines of a frame: where the first begins, how many they are, the octet that ends text there beside 10, and how text is
+// decoded.
+#[derive(Clone, Copy)]
+pub(crate) struct HeadLines<'a> {
+    pub frame: &'a [u8],
+    pub from: usize,
+    pub count: usize,
+    pub cr: u8,
+    pub style: Style,
 }
 
 // The record of a line at the front of d, as write_decoded puts it: the stretch without a backslash at the front of each text is known.
@@ -56,7 +46,7 @@ fn write_line_record(
     value: &[u8],
     known: Known,
     style: Style,
-) -> RecordWritten
+) -> Result<usize, TooShort>
     requires { Stretch name.now known.name × Stretch value.now known.value }
     ensures { (record_says result ≡ decoded_answer style (length d.old) name.now value.now)
         × (d.new ≡ left_in (decoded_answer style (length d.old) name.now value.now)
@@ -65,60 +55,74 @@ fn write_line_record(
     headers::write_known(d, name, value, known, style)
 }
 
-// Those records at the front of the block: their octets. Each is written by a call that is given the part of the block that is left.
-fn put_records(s: &[u8], from: usize, n: usize, cr: u8, style: Style, block: &mut [u8]) -> usize
-    requires { (from ≤ length s.now)
-        × (length (image (line_entries style (front_lines cr n (drop from s.now)))) ≤ length block.old)
-        × All Short (line_entries style (front_lines cr n (drop from s.now))) }
-    ensures { Puts (image (line_entries style (front_lines cr n (drop from s.now)))) result block.old block.new }
-{
-    let mut used = 0usize;
-    let mut at = from;
-    let mut i = 0usize;
-    while i < n {
-        let l = crate::layout::line_at(s, at, cr);
-        let colon = l.colon;
-        let value = l.value;
-        let end = l.end;
-        let RecordWritten::Length(k) = write_line_record(
-            &mut block[used..],
-            &s[at..colon],
-            &s[value..end],
-            l.known,
-            style,
-        ) else {
-            return used;
-        };
-        used += k;
-        at = l.next;
-        i += 1;
+impl<'a> HeadLines<'a> {
+    // How many octets the records of the lines have.
+    fn measure(&self) -> usize
+        requires { (self.now.from ≤ length self.now.frame.now) × (self.now.count ≤ 32) }
+        ensures { result ≡ length (image (entries_of self.now)) }
+    {
+        let mut total = 0usize;
+        let mut at = self.from;
+        for i in 0..self.count {
+            let l = crate::layout::line_at(self.frame, at, self.cr);
+            let a = headers::decoded_length(&self.frame[at..l.colon], self.style);
+            let b = headers::decoded_length(&self.frame[l.value..l.end], self.style);
+            total = total + 6 + a + b;
+            at = l.next;
+        }
+        total
     }
-    used
+
+    // The records at the front of the block: their octets. Each is written by a call that is given the part of the block that is left.
+    fn put_records(&self, block: &mut [u8]) -> usize
+        requires { (self.now.from ≤ length self.now.frame.now)
+            × (length (image (entries_of self.now)) ≤ length block.old)
+            × All Short (entries_of self.now) }
+        ensures { Puts (image (entries_of self.now)) result block.old block.new }
+    {
+        let mut used = 0usize;
+        let mut at = self.from;
+        for i in 0..self.count {
+            let l = crate::layout::line_at(self.frame, at, self.cr);
+            let k = write_line_record(
+                &mut block[used..],
+                &self.frame[at..l.colon],
+                &self.frame[l.value..l.end],
+                l.known,
+                self.style,
+            )
+            .unwrap();
+            used += k;
+            at = l.next;
+        }
+        used
+    }
 }
 
 // The entries of exactly one frame of a protocol version, decoded, as records at the front of the block. Every refusal is settled before the first octet
 // is written: 16,544 octets hold the records of any frame, and only a shorter block is measured against them.
-pub fn decode(version: Version, frame: &[u8], block: &mut [u8]) -> Decoded
+pub fn decode(version: Version, frame: &[u8], block: &mut [u8]) -> Result<usize, DecodeError>
     ensures { Decodes version frame.now block.old (decoded_says result) block.new }
 {
-    let Parsed::Complete(item) = crate::parse::parse(version, frame) else {
-        return Decoded::NotFrame;
+    let Ok(Some(Item::Frame(item))) = crate::parse::parse(version, frame) else {
+        return Err(DecodeError::NotFrame);
     };
-    if item.kind == 1 {
-        return Decoded::NotFrame;
-    }
     if item.len != frame.len() {
-        return Decoded::NotFrame;
+        return Err(DecodeError::NotFrame);
     }
     let crlf = crate::version::has_crlf(version);
-    let style = crate::word::style_of(crlf, item.command);
     let cr = crate::ahead::or_10(crlf, 13);
-    let from = crate::layout::first_line(frame, cr);
-    if crate::limits::BLOCK <= block.len() {
-        return Decoded::Length(put_records(frame, from, item.headers, cr, style, block));
+    let lines = HeadLines {
+        frame,
+        from: crate::layout::first_line(frame, cr),
+        count: item.headers,
+        cr,
+        style: crate::word::style_of(crlf, item.command),
+    };
+    if block.len() < crate::limits::BLOCK {
+        if block.len() < lines.measure() {
+            return Err(DecodeError::TooShort);
+        }
     }
-    if block.len() < measure(frame, from, item.headers, cr, style) {
-        return Decoded::TooShort;
-    }
-    Decoded::Length(put_records(frame, from, item.headers, cr, style, block))
+    Ok(lines.put_records(block))
 }

@@ -1,25 +1,22 @@
 // Encoding: the octets of a frame, from a command, a header block and a body.
-ghost use Rattle.std.specs.Prelude.{◌≡◌, true, false, ◌&&◌, ◌||◌, not, ℕ, ◌+◌, ◌*◌, ◌≤◌, ◌<◌, eqb, ltb, length};
-ghost use Rattle.headers.specs.Rows.{empty, any};
+ghost use Rattle.std.specs.Prelude.{◌≡◌, Ok, false, true, ◌&&◌, ◌||◌, ℕ, ◌+◌, ◌*◌, ◌≤◌, eqb, ltb, length};
 ghost use Rattle.headers.specs.Numbers.{decimal, is_amount};
 ghost use Rattle.headers.specs.Block.{entries, listed};
-ghost use Rattle.headers.specs.Stretches.{unescaped};
 ghost use Rattle.headers.specs.Answers.{is_block};
 ghost use Rattle.frames.specs.Grammar.{crlf};
-ghost use Rattle.frames.specs.Encoding.{written_lines, Encodes};
+ghost use Rattle.frames.specs.Encoding.{first_length, adds_length, says_length, Encodes};
 ghost use Rattle.frames.specs.Scanning.{style_of};
-ghost use Rattle.frames.specs.Writing.{Told, Sums, Settles, lengths_of};
-ghost use Rattle.frames.specs.Answers.{encoded_says};
+ghost use Rattle.frames.specs.Writing.{Told, Tells, Sums, Known, Settles, call_answer, lengths_of};
+ghost use Rattle.frames.specs.Answers.{encode_number, encode_entry, encoded_says};
 
 use crate::version::Version;
-use headers::{DecimalRead, DecimalWritten, EntryAt, Found, LineLength, LineWritten, Style};
+use headers::{FirstValue, Malformed, Style};
 
-// What encoding gives: the image's length; or that the command is unknown (50), the block malformed (51), that there are too many
-// lines (52), that the entry of an index cannot be written (53), that the body is not allowed or too long (54), that the first
-// content-length is not the body's (55), or that the target is too short (56).
+// Why no frame is written: the command is unknown (50), the block malformed (51), there are too many lines (52), the entry of an index
+// cannot be written (53), the body is not allowed or too long (54), the first content-length is not the body's (55), or the target is
+// too short (56).
 #[derive(Clone, Copy)]
-pub enum Encoded {
-    Length(usize),
+pub enum EncodeError {
     UnknownCommand,
     Malformed,
     TooManyLines,
@@ -29,30 +26,51 @@ pub enum Encoded {
     TooShort,
 }
 
-// The numbers of its refusals.
-impl Encoded {
-    pub const UNKNOWN_COMMAND: u64 = 50;
+impl EncodeError {
+    // Its number.
+    pub fn number(self) -> u32
+        ensures { result ≡ encode_number self }
+    {
+        match self {
+            EncodeError::UnknownCommand => 50,
+            EncodeError::Malformed => 51,
+            EncodeError::TooManyLines => 52,
+            EncodeError::Unwritable(i) => 53,
+            EncodeError::BadBody => 54,
+            EncodeError::WrongLength => 55,
+            EncodeError::TooShort => 56,
+        }
+    }
 
-    pub const MALFORMED: u64 = 51;
-
-    pub const TOO_MANY_LINES: u64 = 52;
-
-    pub const UNWRITABLE: u64 = 53;
-
-    pub const BAD_BODY: u64 = 54;
-
-    pub const WRONG_LENGTH: u64 = 55;
-
-    pub const TOO_SHORT: u64 = 56;
+    // The index of an entry, which only 53 names.
+    pub fn entry(self) -> usize
+        ensures { result ≡ encode_entry self }
+    {
+        match self {
+            EncodeError::Unwritable(i) => i,
+            _ => 0,
+        }
+    }
 }
 
-// The content-length of a block: whether the block is well formed, whether an entry has the name, and where the first value stands.
+impl From<Malformed> for EncodeError {
+    ghost use Rattle.frames.specs.declared.encode.EncodeError.{EncodeError};
+
+    ghost from_gives = { λ _ e. e ≡ EncodeError.Malformed };
+
+    fn from(_: Malformed) -> EncodeError {
+        EncodeError::Malformed
+    }
+}
+
+// A call: the frame that is asked for, and whether it is to have a length line.
 #[derive(Clone, Copy)]
-pub(crate) struct Declared {
-    pub start: usize,
-    pub end: usize,
-    pub valid: bool,
-    pub present: bool,
+pub(crate) struct Request<'a> {
+    pub version: Version,
+    pub command: u32,
+    pub block: &'a [u8],
+    pub body: &'a [u8],
+    pub counted: bool,
 }
 
 // What the entries of a block come to: how many they are, or 33; how many from the front can be written; the octets of the lines of
@@ -64,36 +82,19 @@ pub(crate) struct Totals {
     pub total: usize,
 }
 
-// The answer of a call, and whether no octet of the block is escaped in its lines.
+// An image: how long it is, whether a length line is added, and whether no octet of the block is escaped in its lines.
 #[derive(Clone, Copy)]
-pub(crate) struct Settled {
-    pub answer: Encoded,
+pub(crate) struct Image {
+    pub len: usize,
+    pub adds: bool,
     pub plain: bool,
 }
 
-fn declared_length(block: &[u8]) -> Declared
-    ensures { Told block.now result }
+// The first value of content-length, where an entry has the name.
+fn declared_length(block: &[u8]) -> Result<Option<FirstValue>, Malformed>
+    ensures { Tells block.now result }
 {
-    match headers::find(block, b"content-length") {
-        Found::Value(p) => Declared {
-            valid: true,
-            present: true,
-            start: p.start,
-            end: p.start + p.len,
-        },
-        Found::Absent => Declared {
-            valid: true,
-            present: false,
-            start: 0,
-            end: 0,
-        },
-        Found::Malformed => Declared {
-            valid: false,
-            present: false,
-            start: 0,
-            end: 0,
-        },
-    }
+    headers::find(block, b"content-length")
 }
 
 // One pass over the entries; it ends at the 33rd.
@@ -101,39 +102,27 @@ fn sum(block: &[u8], style: Style) -> Totals
     requires { is_block block.now ≡ true }
     ensures { Sums style (listed (entries block.now)) result }
 {
-    let mut count = 0usize;
     let mut good = 0usize;
     let mut total = 0usize;
     let mut at = 0usize;
-    while count < 33 {
-        let EntryAt::Entry(l) = headers::entry_at(block, at) else {
+    for count in 0..33 {
+        let Ok(Some(l)) = headers::entry_at(block, at) else {
             return Totals { count, good, total };
         };
         let from = at + 6;
         at = from + l.name + l.value;
         if good == count {
-            if let LineLength::Length(k) = headers::entry_length(&block[from..at], l.name, style) {
+            if let Ok(k) = headers::entry_length(&block[from..at], l.name, style) {
                 good += 1;
                 total = total + k + 1;
             }
         }
-        count += 1;
     }
-    Totals { count, good, total }
-}
-
-// Whether a length line is added: no entry has the name, and the body holds octet 0 or, where the line is asked for, is not empty. The
-// body is looked through only where that decides.
-fn adds_length(declared: Declared, body: &[u8], counted: bool) -> bool
-    ensures { result ≡ not declared.present && (any (eqb 0) body.now || (counted && not (empty body.now))) }
-{
-    if declared.present {
-        return false;
+    Totals {
+        count: 33,
+        good,
+        total,
     }
-    if counted {
-        return body.len() != 0;
-    }
-    crate::ahead::long_span(body) < body.len()
 }
 
 // Whether a value is digits that say n.
@@ -142,8 +131,8 @@ fn says_length(value: &[u8], n: usize) -> bool
     ensures { result ≡ is_amount n value.now && eqb (decimal 0 value.now) n }
 {
     match headers::read_decimal(value, n as u32) {
-        DecimalRead::Number(m) => (m as usize) == n,
-        DecimalRead::Invalid => false,
+        Some(m) => m as usize == n,
+        None => false,
     }
 }
 
@@ -169,87 +158,89 @@ fn is_plain(sums: Totals, block: usize) -> bool
     sums.total + 4 * sums.count == block
 }
 
-// The answer of a call whose command is known and whose block is well formed: each refusal from 52 on in its order, or the image's
-// length, and then the entries are few and all of them can be written.
-fn answer_of(
-    version: Version,
-    command: u32,
-    block: &[u8],
-    declared: Declared,
-    sums: Totals,
-    adds: bool,
-    body: &[u8],
-    room: usize,
-) -> Encoded
-    requires { Told block.now declared
-        × (is_block block.now ≡ true)
-        × ((eqb command 0 || ltb 15 command) ≡ false)
-        × Sums (style_of (crlf version) command) (listed (entries block.now)) sums }
-    ensures { Settles version command block.now body.now adds room (encoded_says result)
-        × ((n : ℕ) → result ≡ Encoded.Length n → (length (listed (entries block.now)) ≤ 32) × (sums.count ≤ sums.good)) }
-{
-    let lines = if adds { sums.count + 1 } else { sums.count };
-    if crate::limits::LINES < lines {
-        return Encoded::TooManyLines;
+impl<'a> Request<'a> {
+    // How its lines are written.
+    pub fn style(&self) -> Style
+        ensures { result ≡ style_of (crlf self.now.version) self.now.command }
+    {
+        crate::word::style_of(crate::version::has_crlf(self.version), self.command)
     }
-    if sums.good < sums.count {
-        return Encoded::Unwritable(sums.good);
+
+    // Whether a length line is added: no entry has the name, and the body holds octet 0 or, where the line is asked for, is not empty.
+    // The body is looked through only where that decides.
+    fn adds_length(&self, declared: Option<FirstValue>) -> bool
+        requires { Told self.now.block.now declared }
+        ensures { result ≡ adds_length (listed (entries self.now.block.now)) self.now.body.now self.now.counted }
+    {
+        if declared.is_some() {
+            return false;
+        }
+        if self.counted {
+            return !self.body.is_empty();
+        }
+        crate::ahead::long_span(self.body) < self.body.len()
     }
-    if crate::word::most_of(command) < body.len() {
-        return Encoded::BadBody;
-    }
-    let start = declared.start;
-    let end = declared.end;
-    if declared.present {
-        if !says_length(&block[start..end], body.len()) {
-            return Encoded::WrongLength;
+
+    // Whether the first content-length, where there is one, says the body's length.
+    fn says_body(&self, declared: Option<FirstValue>) -> bool
+        requires { Told self.now.block.now declared × (length self.now.body.now ≤ 32768) }
+        ensures { result ≡ says_length (length self.now.body.now) (first_length (listed (entries self.now.block.now))) }
+    {
+        match declared {
+            Some(p) => says_length(&self.block[p.start..p.start + p.len], self.body.len()),
+            None => true,
         }
     }
-    let total = image_length(command, sums.total, adds, body.len());
-    if room < total {
-        return Encoded::TooShort;
+
+    // The image's length where the command is known and the block is well formed, or the first refusal from 52 on.
+    fn checked_length(
+        &self,
+        declared: Option<FirstValue>,
+        sums: Totals,
+        adds: bool,
+        room: usize,
+    ) -> Result<usize, EncodeError>
+        requires { Known self.now declared sums adds }
+        ensures { (encoded_says result ≡ call_answer self.now room)
+            × ((n : ℕ) → result ≡ Ok n → (length (listed (entries self.now.block.now)) ≤ 32) × (sums.count ≤ sums.good)) }
+    {
+        if crate::limits::LINES < sums.count + usize::from(adds) {
+            return Err(EncodeError::TooManyLines);
+        }
+        if sums.good < sums.count {
+            return Err(EncodeError::Unwritable(sums.good));
+        }
+        if crate::word::most_of(self.command) < self.body.len() {
+            return Err(EncodeError::BadBody);
+        }
+        if !self.says_body(declared) {
+            return Err(EncodeError::WrongLength);
+        }
+        let total = image_length(self.command, sums.total, adds, self.body.len());
+        if room < total {
+            return Err(EncodeError::TooShort);
+        }
+        Ok(total)
     }
-    Encoded::Length(total)
+
+    // The image, where the call is not refused.
+    fn settle(&self, room: usize) -> Result<Image, EncodeError>
+        ensures { Settles self.now room result }
+    {
+        if (self.command == 0) | (15 < self.command) {
+            return Err(EncodeError::UnknownCommand);
+        }
+        let declared = declared_length(self.block)?;
+        let adds = self.adds_length(declared);
+        let sums = sum(self.block, self.style());
+        let len = self.checked_length(declared, sums, adds, room)?;
+        let plain = is_plain(sums, self.block.len());
+        Ok(Image { len, adds, plain })
+    }
 }
 
-// The answer, and, where it is a length, how the lines are to be written.
-fn settle(
-    version: Version,
-    command: u32,
-    block: &[u8],
-    declared: Declared,
-    adds: bool,
-    body: &[u8],
-    room: usize,
-) -> Settled
-    requires { Told block.now declared }
-    ensures { Settles version command block.now body.now adds room (encoded_says result.answer)
-        × ((n : ℕ) → result.answer ≡ Encoded.Length n → result.plain ≡ true
-        → written_lines (style_of (crlf version) command) (listed (entries block.now))
-        ≡ written_lines unescaped (listed (entries block.now))) }
-{
-    if (command == 0) | (15 < command) {
-        return Settled {
-            answer: Encoded::UnknownCommand,
-            plain: false,
-        };
-    }
-    if !declared.valid {
-        return Settled {
-            answer: Encoded::Malformed,
-            plain: false,
-        };
-    }
-    let style = crate::word::style_of(crate::version::has_crlf(version), command);
-    let s = sum(block, style);
-    Settled {
-        answer: answer_of(version, command, block, declared, s, adds, body, room),
-        plain: is_plain(s, block.len()),
-    }
-}
-
-// The octets of a frame, in a protocol version, at the front of the target; counted asks for a length line, which is added without it only where the body holds
-// octet 0. Every refusal is settled before the first octet is written.
+// The octets of a frame, in a protocol version, at the front of the target; counted asks for a length line, which is added without it
+// only where the body holds octet 0. Every refusal is settled before the first octet is written.
 pub fn encode(
     version: Version,
     command: u32,
@@ -257,17 +248,19 @@ pub fn encode(
     body: &[u8],
     target: &mut [u8],
     counted: bool,
-) -> Encoded
+) -> Result<usize, EncodeError>
     ensures { Encodes version
         (record { command = command; block = block.now; body = body.now; counted = counted })
         target.old (encoded_says result) target.new }
 {
-    let declared = declared_length(block);
-    let adds = adds_length(declared, body, counted);
-    let settled = settle(version, command, block, declared, adds, body, target.len());
-    let answer = settled.answer;
-    if let Encoded::Length(n) = answer {
-        crate::put::put_frame(target, version, command, block, adds, body, settled.plain);
-    }
-    answer
+    let request = Request {
+        version,
+        command,
+        block,
+        body,
+        counted,
+    };
+    let image = request.settle(target.len())?;
+    crate::put::put_frame(target, &request, image);
+    Ok(image.len)
 }

@@ -1,46 +1,40 @@
 // Calls for C: numbers and byte slices, and an answer in one number.
-ghost use Rattle.std.specs.Prelude.{◌≡◌, false, ◌<◌};
+ghost use Rattle.std.specs.Prelude.{◌≡◌, false};
 ghost use Rattle.frames.specs.Grammar.{v1_2};
 ghost use Rattle.frames.specs.Parsing.{parsed};
 ghost use Rattle.frames.specs.Exactness.{Exact};
 ghost use Rattle.headers.specs.Answers.{find_answer};
-ghost use Rattle.frames.specs.Answers.{parsed_says, packed, unpacked, SmallFrame, packed_decode, unpacked_decode};
+ghost use Rattle.frames.specs.Answers.{parsed_says, packed, unpacked, Packs, packed_decode, unpacked_decode};
 ghost use Rattle.frames.specs.Answers.{version_in, packed_encode, unpacked_encode, is_counted, packed_find, unpacked_find};
 ghost use Rattle.frames.specs.Answers.{place_alone, later_alone, packed_later, unpacked_later};
 ghost use Rattle.frames.specs.Decoding.{Decodes};
 ghost use Rattle.frames.specs.Encoding.{Encodes};
 
-use crate::decode::Decoded;
-use crate::encode::Encoded;
-use crate::parse::{Item, Parsed, Refusal};
+use crate::parse::{Item, Refusal};
 use crate::version::Version;
-use headers::Found;
+
+// Each call with options and that without are two, since both are names of the C interface.
 
 // A refusal of decode or encode is this many times its number: no length is as large.
 const REFUSED: u64 = 65536;
 
+// What stomp_later says of a malformed block: 2^63, which no count reaches, and its number.
+const MALFORMED: u64 = (1 << 63) + 22;
+
 // The option of stomp_encode_with that asks for a length line.
 pub const COUNTED: u32 = 1;
 
-// An item in one number.
-fn pack_item(i: Item) -> u64
-    requires { SmallFrame i.len i.command i.headers i.body i.body_len }
-    ensures { result ≡ packed (parsed_says (Parsed.Complete i)) }
+// A reply in one number.
+fn pack(reply: Result<Option<Item>, Refusal>) -> u64
+    requires { Packs (parsed_says reply) }
+    ensures { result ≡ packed (parsed_says reply) }
 {
-    if i.kind == 1 {
-        return 1 + 4 * (i.len as u64);
+    match reply {
+        Ok(Some(Item::HeartBeat(n))) => 1 + 4 * (n as u64),
+        Ok(Some(Item::Frame(frame))) => 2 + 4 * ((frame.len as u64) + 65536 * frame.packed()),
+        Ok(None) => 0,
+        Err(refusal) => 3 + 4 * refusal.packed(),
     }
-    let body = (i.body as u64) + 65536 * (i.body_len as u64);
-    let rest = (i.command as u64) + 16 * ((i.headers as u64) + 64 * body);
-    2 + 4 * ((i.len as u64) + 65536 * rest)
-}
-
-// A refusal in one number.
-fn pack_refusal(r: Refusal) -> u64
-    requires { (r.code < 256) × (r.offset < 65536) }
-    ensures { result ≡ packed (parsed_says (Parsed.Invalid r)) }
-{
-    3 + 4 * ((r.code as u64) + 256 * (r.offset as u64))
 }
 
 // What parse replies in a version, in one number; its fields read back.
@@ -49,11 +43,7 @@ fn parse_packed(version: Version, octets: &[u8]) -> u64
         × (unpacked result ≡ parsed version octets.now)
         × Exact version octets.now (unpacked result) }
 {
-    match crate::parse::parse(version, octets) {
-        Parsed::Complete(i) => pack_item(i),
-        Parsed::Incomplete => 0,
-        Parsed::Invalid(r) => pack_refusal(r),
-    }
+    pack(crate::parse::parse(version, octets))
 }
 
 // The same in the version that the options ask for.
@@ -80,9 +70,9 @@ pub fn stomp_find(block: &[u8], name: &[u8]) -> u64
         × (unpacked_find block.now name.now result ≡ place_alone (find_answer block.now name.now)) }
 {
     match headers::find(block, name) {
-        Found::Value(p) => p.start as u64,
-        Found::Absent => 0,
-        Found::Malformed => 1,
+        Ok(Some(p)) => p.start as u64,
+        Ok(None) => 0,
+        Err(_) => 1,
     }
 }
 
@@ -92,9 +82,9 @@ pub fn stomp_later(block: &[u8], name: &[u8]) -> u64
         × (unpacked_later result ≡ later_alone (find_answer block.now name.now)) }
 {
     match headers::find(block, name) {
-        Found::Value(p) => p.later as u64,
-        Found::Absent => 0,
-        Found::Malformed => 9223372036854775830,
+        Ok(Some(p)) => p.later as u64,
+        Ok(None) => 0,
+        Err(_) => MALFORMED,
     }
 }
 
@@ -104,9 +94,8 @@ fn decode_packed(version: Version, frame: &[u8], block: &mut [u8]) -> u64
         × (result ≡ packed_decode (unpacked_decode result)) }
 {
     match crate::decode::decode(version, frame, block) {
-        Decoded::Length(n) => n as u64,
-        Decoded::NotFrame => REFUSED * Decoded::NOT_FRAME,
-        Decoded::TooShort => REFUSED * Decoded::TOO_SHORT,
+        Ok(n) => n as u64,
+        Err(e) => REFUSED * u64::from(e.number()),
     }
 }
 
@@ -148,14 +137,8 @@ pub fn stomp_encode_with(
         target,
         options % 2 == COUNTED,
     ) {
-        Encoded::Length(n) => n as u64,
-        Encoded::UnknownCommand => REFUSED * Encoded::UNKNOWN_COMMAND,
-        Encoded::Malformed => REFUSED * Encoded::MALFORMED,
-        Encoded::TooManyLines => REFUSED * Encoded::TOO_MANY_LINES,
-        Encoded::Unwritable(i) => REFUSED * Encoded::UNWRITABLE + (i as u64),
-        Encoded::BadBody => REFUSED * Encoded::BAD_BODY,
-        Encoded::WrongLength => REFUSED * Encoded::WRONG_LENGTH,
-        Encoded::TooShort => REFUSED * Encoded::TOO_SHORT,
+        Ok(n) => n as u64,
+        Err(e) => REFUSED * u64::from(e.number()) + (e.entry() as u64),
     }
 }
 

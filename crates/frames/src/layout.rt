@@ -3,6 +3,7 @@ ghost use Rattle.std.specs.Prelude.{◌≡◌, ◌+◌, ◌-◌, ◌≤◌, ◌<
 ghost use Rattle.headers.specs.Stretches.{Stretch};
 ghost use Rattle.frames.specs.Layout.{stop_span, behind_end, front_name, front_value, behind_line, behind_word};
 
+use crate::ahead::upto;
 use headers::{Known, Stops};
 
 // The parts of a header line: its name from the line's start up to colon, its value from value up to end; next is after its line end.
@@ -21,14 +22,6 @@ pub struct LineAt {
 pub struct TextEnd {
     pub at: usize,
     pub known: usize,
-}
-
-// k places on, or n where that is less.
-fn on(i: usize, k: usize, n: usize) -> usize
-    requires { i ≤ n }
-    ensures { (i ≤ result) × (result ≤ n) × (i + k ≤ n → result ≡ i + k) × (n < i + k → result ≡ n) }
-{
-    if n - i < k { n } else { i + k }
 }
 
 // The place of the first 10, cr or colon from i on, or the end; 10 in the place of one that does not count.
@@ -83,10 +76,10 @@ fn behind_end(s: &[u8], i: usize) -> usize
 {
     if i < s.len() {
         if s[i] == 13 {
-            return on(i, 2, s.len());
+            return upto(i, 2, s.len());
         }
     }
-    on(i, 1, s.len())
+    upto(i, 1, s.len())
 }
 
 // Where the header lines begin: behind the line of the command.
@@ -107,7 +100,7 @@ pub(crate) fn line_at(s: &[u8], i: usize, cr: u8) -> LineAt
         × Stretch (front_value cr (drop i s.now)) result.known.value }
 {
     let name = text_end(s, i, cr, 58);
-    let value = on(name.at, 1, s.len());
+    let value = upto(name.at, 1, s.len());
     let text = text_end(s, value, cr, 10);
     LineAt {
         colon: name.at,

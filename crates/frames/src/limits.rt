@@ -7,13 +7,13 @@ pub const LINES: usize = 32;
 pub const LINE: usize = headers::LINE_MAX;
 
 // The octets of a line before a backslash: the escape owes its letter.
-pub const LINE_BEFORE_ESCAPE: usize = 511;
+pub const LINE_BEFORE_ESCAPE: usize = LINE - 1;
 
 // The octets of a name, and of a name and a value together: the line has its colon too.
 pub const NAME: usize = headers::TEXT_MAX;
 
 // The octets of a name before a backslash.
-pub const NAME_BEFORE_ESCAPE: usize = 510;
+pub const NAME_BEFORE_ESCAPE: usize = NAME - 1;
 
 // The octets of a body.
 pub const BODY: usize = 32768;
@@ -25,4 +25,4 @@ pub const BLOCK: usize = 16544;
 pub const FRAME: usize = 49228;
 
 // The octets of an item that is not whole yet.
-pub const HELD: usize = 49227;
+pub const HELD: usize = FRAME - 1;

@@ -1,18 +1,19 @@
 // Header lines passed at once: whole lines, and as much of the last as is there.
-ghost use Rattle.std.specs.Prelude.{◌≡◌, true, cond, ◌<◌, ◌≤◌, eqb, length, get_or};
+ghost use Rattle.std.specs.Prelude.{◌≡◌, true, cond, ◌<◌, ◌≤◌, eqb, length, get_or, IfSome};
 ghost use Rattle.frames.specs.Scanning.{Valid, Passed};
 ghost use Rattle.frames.specs.WholeLines.{in_lines, line_at, Named, Begun};
 
+use crate::ahead::{text_span, text_stops, upto, value_text};
 use crate::limits;
-use crate::state::Scan;
-use headers::Style;
+use crate::state::{Scan, ValidScan};
+use headers::{Field, Style};
 
 // Whether a line begins, or its value goes on, where the state is.
-pub(crate) fn is_in_lines(st: Scan) -> bool
-    ensures { result ≡ in_lines st }
+pub(crate) fn is_in_lines(st: ValidScan) -> bool
+    ensures { result ≡ in_lines st.scan }
 {
-    ((st.phase == Scan::LINE_START) & (st.matched == 0))
-        | ((st.phase == Scan::IN_VALUE) & (st.len != 0))
+    ((st.scan.phase == Scan::LINE_START) & (st.scan.matched == 0))
+        | ((st.scan.phase == Scan::IN_VALUE) & (st.scan.len != 0))
 }
 
 // The phase of a line that has so many octets up to its value, or none.
@@ -27,55 +28,54 @@ fn line_phase(len: usize) -> u8
 }
 
 // The state k octets on, where so many lines are read and the next has len octets.
-fn line_at(st: Scan, lines: usize, len: usize, k: usize) -> Scan
-    requires { Valid (line_at st lines len k) }
-    ensures { result ≡ line_at st lines len k }
+fn line_at(st: ValidScan, lines: usize, len: usize, k: usize) -> ValidScan
+    requires { Valid (line_at st.scan lines len k) }
+    ensures { result.scan ≡ line_at st.scan lines len k }
 {
-    Scan {
-        phase: line_phase(len),
-        command: st.command,
-        lines,
-        matched: 0,
-        sized: st.sized,
-        size: st.size,
-        len,
-        at: st.at + k,
-        code: 0,
-        rest: 0,
-        crlf: st.crlf,
+    ValidScan {
+        scan: Scan {
+            phase: line_phase(len),
+            lines,
+            matched: 0,
+            len,
+            at: st.scan.at + k,
+            code: 0,
+            rest: 0,
+            ..st.scan
+        },
     }
 }
 
-// How many octets a name at i has with its colon; 0 where it is not one that is passed at once.
-fn name_at(s: &[u8], i: usize, style: Style) -> usize
+// How many octets a name at i has with its colon, where it is one that is passed at once.
+fn name_at(s: &[u8], i: usize, style: Style) -> Option<usize>
     requires { i < length s.now }
-    ensures { (result ≡ 0 → ⊥) → Named style s.now i result }
+    ensures { IfSome result (Named style s.now i) }
 {
     if s[i] == 99 {
-        return 0;
+        return None;
     }
-    let e = crate::ahead::upto(i, limits::LINE, s.len());
-    let k = crate::ahead::text_span(&s[i..e], crate::ahead::name_stops(style));
+    let e = upto(i, limits::LINE, s.len());
+    let k = text_span(&s[i..e], text_stops(style, Field::Name));
     let colon = i + k;
     if (k == 0) | (e <= colon) {
-        return 0;
+        return None;
     }
     if s[colon] != 58 {
-        return 0;
+        return None;
     }
-    k + 1
+    Some(k + 1)
 }
 
-// How many octets a line that has len of them before i has where its value goes on; 0 where its name is not passed at once.
-fn begun(s: &[u8], i: usize, style: Style, lines: usize, len: usize) -> usize
+// How many octets a line that has len of them before i has where its value goes on, where its name is passed at once.
+fn begun(s: &[u8], i: usize, style: Style, lines: usize, len: usize) -> Option<usize>
     requires { i < length s.now }
-    ensures { Begun style s.now i lines len result }
+    ensures { IfSome result (λ m. (0 < m) × Begun style s.now i lines len m) }
 {
     if len != 0 {
-        return len;
+        return Some(len);
     }
     if limits::LINES <= lines {
-        return 0;
+        return None;
     }
     name_at(s, i, style)
 }
@@ -91,22 +91,22 @@ fn is_10_at(s: &[u8], i: usize) -> bool
 }
 
 // On through whole lines: name, value and octet 10; then as much of the next line as is passed at once.
-pub(crate) fn pass_lines(s: &[u8], from: usize, st: Scan) -> Scan
-    requires { (from ≤ length s.now) × Valid st × (in_lines st ≡ true) }
-    ensures { Passed s.now from st result }
+pub(crate) fn pass_lines(s: &[u8], from: usize, st: ValidScan) -> ValidScan
+    requires { (from ≤ length s.now) × (in_lines st.scan ≡ true) }
+    ensures { Passed s.now from st.scan result.scan }
 {
-    let style = crate::word::style_of(st.crlf, st.command);
-    let mut lines = st.lines;
-    let mut len = st.len;
+    let style = st.style();
+    let mut lines = st.scan.lines;
+    let mut len = st.scan.len;
     let mut i = from;
+    // A cursor: each step goes as far as the line found there.
     while i < s.len() {
-        let m = begun(s, i, style, lines, len);
-        if m == 0 {
+        let Some(m) = begun(s, i, style, lines, len) else {
             return line_at(st, lines, len, i - from);
-        }
+        };
         let v = i + (m - len);
-        let e = crate::ahead::upto(v, limits::LINE - m, s.len());
-        let k = crate::ahead::value_text(&s[v..e], style);
+        let e = upto(v, limits::LINE - m, s.len());
+        let k = value_text(&s[v..e], style);
         let end = v + k;
         if !is_10_at(s, end) {
             return line_at(st, lines, m + k, end - from);

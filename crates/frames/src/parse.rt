@@ -1,120 +1,170 @@
 // Parsing: the reply to any octets.
-ghost use Rattle.std.specs.Prelude.{◌≡◌, ◌-◌};
+ghost use Rattle.std.specs.Prelude.{◌≡◌, true, is_some, IfSome, ◌+◌, ◌*◌, ◌%◌, ◌≤◌};
 ghost use Rattle.frames.specs.Parsing.{parsed};
+ghost use Rattle.frames.specs.Replies.{used_of};
+ghost use Rattle.frames.specs.Refusals.{numbered};
 ghost use Rattle.frames.specs.Scanning.{scan_reply};
 ghost use Rattle.frames.specs.Exactness.{Exact};
-ghost use Rattle.frames.specs.Answers.{parsed_says};
+ghost use Rattle.frames.specs.Streams.{is_number, is_numbered};
+ghost use Rattle.frames.specs.Answers.{row_of, item_says, parsed_says};
 
 use crate::state::Scan;
 use crate::version::Version;
 
-// The first item: 1 a heart-beat, 2 a frame; the octets used; of a frame its command, the number of its headers, and where its body
-// begins and how long it is.
+// A frame: the octets that it has, its command, the number of its headers, and where its body begins and how long it is.
 #[derive(Clone, Copy)]
-pub struct Item {
-    pub kind: u32,
+pub struct Frame {
     pub len: usize,
+    // A number, and no enum: C gives and gets it, and a stream parser that C made up may have any.
     pub command: u32,
     pub headers: usize,
     pub body: usize,
     pub body_len: usize,
 }
 
-// The number of a refusal, and the first octet that no item can have there.
+// An item: a heart-beat, with the octets that it has, or a frame.
+#[derive(Clone, Copy)]
+pub enum Item {
+    HeartBeat(usize),
+    Frame(Frame),
+}
+
+impl Frame {
+    // What is told of it beside its octets, in one number.
+    pub(crate) fn packed(self) -> u64
+        requires { (self.headers ≤ 64) × (self.body ≤ 70000) × (self.body_len ≤ 70000) }
+        ensures { result ≡ self.command % 16 + 16 * (self.headers + 64 * (self.body + 65536 * self.body_len)) }
+    {
+        let body = (self.body as u64) + 65536 * (self.body_len as u64);
+        u64::from(self.command % 16) + 16 * ((self.headers as u64) + 64 * body)
+    }
+}
+
+impl Item {
+    // The octets that it has.
+    pub fn len(self) -> usize
+        ensures { result ≡ used_of (item_says self) }
+    {
+        match self {
+            Item::HeartBeat(n) => n,
+            Item::Frame(frame) => frame.len,
+        }
+    }
+}
+
+// Why an octet is refused. The numbers are those of the table of refusals.
+#[derive(Clone, Copy)]
+pub enum Reason {
+    // It leaves no command, and does not begin a heart-beat.
+    NoCommand = 1,
+
+    // It follows 13 and is not 10; never in version 1.1.
+    No10 = 2,
+
+    // It is a colon with an empty name.
+    Nameless = 3,
+
+    // It makes the line, with what it still owes, longer than 512.
+    LongLine = 4,
+
+    // It begins a 33rd header line.
+    ManyLines = 5,
+
+    // It spoils the first content-length.
+    BadLength = 6,
+
+    // It is where only octet 0 can be.
+    PastBody = 7,
+
+    // It is a second colon.
+    SecondColon = 8,
+
+    // It begins a line end before the colon.
+    NoColon = 9,
+
+    // It is no escape's letter after a backslash.
+    WrongEscape = 10,
+
+    // An octet that no character has there.
+    NotUtf8 = 11,
+}
+
+impl Reason {
+    // Its number.
+    pub fn number(self) -> u32
+        ensures { result ≡ numbered (row_of self) }
+    {
+        self as u32
+    }
+
+    // The reason that has a number, where it is one of the table.
+    pub(crate) fn of_number(number: u32) -> Option<Reason>
+        ensures { (is_some result ≡ is_number number) × IfSome result (λ r. numbered (row_of r) ≡ number) }
+    {
+        match number {
+            1 => Some(Reason::NoCommand),
+            2 => Some(Reason::No10),
+            3 => Some(Reason::Nameless),
+            4 => Some(Reason::LongLine),
+            5 => Some(Reason::ManyLines),
+            6 => Some(Reason::BadLength),
+            7 => Some(Reason::PastBody),
+            8 => Some(Reason::SecondColon),
+            9 => Some(Reason::NoColon),
+            10 => Some(Reason::WrongEscape),
+            11 => Some(Reason::NotUtf8),
+            _ => None,
+        }
+    }
+}
+
+// A refusal: why, and the first octet that no item can have there.
 #[derive(Clone, Copy)]
 pub struct Refusal {
-    pub code: u32,
+    pub reason: Reason,
     pub offset: usize,
 }
 
-// The numbers of refusals: why the octet at the offset is refused.
 impl Refusal {
-    // It leaves no command, and does not begin a heart-beat.
-    pub const NO_COMMAND: u32 = 1;
-
-    // It follows 13 and is not 10; never in version 1.1.
-    pub const NO_10: u32 = 2;
-
-    // It is no escape's letter after a backslash.
-    pub const WRONG_ESCAPE: u32 = 10;
-
-    // An octet that no character has there.
-    pub const NOT_UTF8: u32 = 11;
-
-    // It is a colon with an empty name.
-    pub const NAMELESS: u32 = 3;
-
-    // It is a second colon.
-    pub const SECOND_COLON: u32 = 8;
-
-    // It begins a line end before the colon.
-    pub const NO_COLON: u32 = 9;
-
-    // It makes the line, with what it still owes, longer than 512.
-    pub const LONG_LINE: u32 = 4;
-
-    // It begins a 33rd header line.
-    pub const MANY_LINES: u32 = 5;
-
-    // It spoils the first content-length.
-    pub const BAD_LENGTH: u32 = 6;
-
-    // It is where only octet 0 can be.
-    pub const PAST_BODY: u32 = 7;
+    // Both in one number.
+    pub(crate) fn packed(self) -> u64
+        requires { self.offset ≤ 70000 }
+        ensures { result ≡ numbered (row_of self.reason) + 256 * self.offset }
+    {
+        u64::from(self.reason.number()) + 256 * (self.offset as u64)
+    }
 }
 
-// What parsing replies.
-#[derive(Clone, Copy)]
-pub enum Parsed {
-    Complete(Item),
-    Incomplete,
-    Invalid(Refusal),
-}
-
-// a less b, or 0.
-fn less(a: usize, b: usize) -> usize
-    ensures { result ≡ a - b }
-{
-    if a < b { 0 } else { a - b }
-}
-
-// The reply that a state has.
-pub(crate) fn reply(st: Scan) -> Parsed
+// The reply that a state has: the item that is read, none yet, or the refusal.
+pub(crate) fn reply(st: Scan) -> Result<Option<Item>, Refusal>
+    requires { is_numbered st ≡ true }
     ensures { parsed_says result ≡ scan_reply st }
 {
     let phase = st.phase;
     if phase == Scan::HEART_BEAT_READ {
-        return Parsed::Complete(Item {
-            kind: 1,
-            len: st.at,
-            command: 0,
-            headers: 0,
-            body: 0,
-            body_len: 0,
-        });
+        return Ok(Some(Item::HeartBeat(st.at)));
     }
     if phase == Scan::FRAME_READ {
-        let body = less(less(st.at, 1), st.len);
-        return Parsed::Complete(Item {
-            kind: 2,
+        let body = st.at.saturating_sub(1).saturating_sub(st.len);
+        return Ok(Some(Item::Frame(Frame {
             len: st.at,
             command: st.command,
             headers: st.lines,
             body,
             body_len: st.len,
-        });
+        })));
     }
     if phase == Scan::REFUSED {
-        return Parsed::Invalid(Refusal {
-            code: st.code,
+        return Err(Refusal {
+            reason: Reason::of_number(st.code).unwrap(),
             offset: st.at,
         });
     }
-    Parsed::Incomplete
+    Ok(None)
 }
 
-// The reply to the octets, in a protocol version: of the item that they begin with, that they can still be finished, or where and why not.
-pub fn parse(version: Version, octets: &[u8]) -> Parsed
+// The reply to the octets, in a protocol version: the item that they begin with, that they can still be finished, or where and why not.
+pub fn parse(version: Version, octets: &[u8]) -> Result<Option<Item>, Refusal>
     ensures { (parsed_says result ≡ parsed version octets.now)
         × Exact version octets.now (parsed_says result) }
 {

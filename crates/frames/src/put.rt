@@ -3,13 +3,12 @@ ghost use Rattle.std.specs.Prelude.{◌≡◌, true, cond, [], ◌∷◌, ◌++�
 ghost use Rattle.headers.specs.Block.{entries, listed};
 ghost use Rattle.headers.specs.Answers.{is_block, Puts};
 ghost use Rattle.headers.specs.Stretches.{unescaped};
-ghost use Rattle.frames.specs.Grammar.{crlf};
-ghost use Rattle.frames.specs.Scanning.{word_of, style_of};
+ghost use Rattle.frames.specs.Scanning.{word_of};
 ghost use Rattle.frames.specs.Encoding.{written_lines};
-ghost use Rattle.frames.specs.Writing.{length_octets, added_octets, image_of};
+ghost use Rattle.frames.specs.Writing.{length_octets, added_octets, octets_of, Bare};
 
-use crate::version::Version;
-use headers::{DecimalWritten, EntryAt, LineWritten, Style};
+use crate::encode::{Image, Request};
+use headers::Style;
 
 // The word of a command and a line end.
 fn put_word(d: &mut [u8], command: u32) -> usize
@@ -18,10 +17,8 @@ fn put_word(d: &mut [u8], command: u32) -> usize
         × (d.new ≡ (word_of command ++ (10 ∷ [])) ++ drop (length (word_of command) + 1) d.old) }
 {
     let n = crate::valid::word_len(command);
-    let mut i = 0usize;
-    while i < n {
+    for i in 0..n {
         d[i] = crate::word::letter(command, i);
-        i += 1;
     }
     d[n] = 10;
     n + 1
@@ -34,24 +31,20 @@ fn put_lines(d: &mut [u8], block: &[u8], style: Style) -> usize
 {
     let mut used = 0usize;
     let mut at = 0usize;
-    loop {
-        let EntryAt::Entry(l) = headers::entry_at(block, at) else {
-            return used;
-        };
+    while let Ok(Some(l)) = headers::entry_at(block, at) {
         let from = at + 6;
         let mid = from + l.name;
         let next = mid + l.value;
-        let LineWritten::Length(k) = headers::write_encoded(
+        let k = headers::write_encoded(
             &mut d[used..],
             &block[from..mid],
             &block[mid..next],
             style,
-        ) else {
-            return used;
-        };
+        ).unwrap();
         used += k;
         at = next;
     }
+    used
 }
 
 // The line that says a body's length.
@@ -60,14 +53,8 @@ fn put_length(d: &mut [u8], body: usize, style: Style) -> usize
     ensures { Puts (length_octets style body) result d.old d.new }
 {
     let mut digits = [0u8; 20];
-    let DecimalWritten::Length(k) = headers::write_decimal(&mut digits, body as u64) else {
-        return 0;
-    };
-    let LineWritten::Length(n) = headers::write_encoded(d, b"content-length", &digits[0..k], style)
-    else {
-        return 0;
-    };
-    n
+    let k = headers::write_decimal(&mut digits, body as u64).unwrap();
+    headers::write_encoded(d, b"content-length", &digits[0..k], style).unwrap()
 }
 
 // The same where it is added, and nothing where it is not.
@@ -104,30 +91,20 @@ fn line_style(style: Style, plain: bool) -> Style
     style
 }
 
-// A whole frame. Where plain is true, no octet of the block is escaped in its lines.
-pub(crate) fn put_frame(
-    d: &mut [u8],
-    version: Version,
-    command: u32,
-    block: &[u8],
-    adds: bool,
-    body: &[u8],
-    plain: bool,
-)
-    requires { (command ≤ 15)
-        × (is_block block.now ≡ true)
-        × (length (image_of (crlf version) command (listed (entries block.now)) adds body.now) ≤ length d.old)
-        × (plain ≡ true
-        → written_lines (style_of (crlf version) command) (listed (entries block.now)) ≡ written_lines unescaped (listed (entries block.now))) }
-    ensures { d.new ≡ image_of (crlf version) command (listed (entries block.now)) adds body.now
-        ++ drop (length (image_of (crlf version) command (listed (entries block.now)) adds body.now)) d.old }
+// A whole frame, as it was settled.
+pub(crate) fn put_frame(d: &mut [u8], request: &Request<'_>, image: Image)
+    requires { (request.now.command ≤ 15)
+        × (is_block request.now.block.now ≡ true)
+        × (length (octets_of request.now image.adds) ≤ length d.old)
+        × (image.plain ≡ true → Bare request.now) }
+    ensures { d.new ≡ octets_of request.now image.adds ++ drop (length (octets_of request.now image.adds)) d.old }
 {
-    let style = crate::word::style_of(crate::version::has_crlf(version), command);
-    let lines = line_style(style, plain);
-    let mut at = put_word(d, command);
-    at += put_lines(&mut d[at..], block, lines);
-    at += put_added(&mut d[at..], adds, body.len(), style);
+    let style = request.style();
+    let lines = line_style(style, image.plain);
+    let mut at = put_word(d, request.command);
+    at += put_lines(&mut d[at..], request.block, lines);
+    at += put_added(&mut d[at..], image.adds, request.body.len(), style);
     d[at] = 10;
     let next = at + 1;
-    put_body(&mut d[next..], body);
+    put_body(&mut d[next..], request.body);
 }

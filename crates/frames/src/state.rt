@@ -1,8 +1,15 @@
 // The state of a scan: what of an item has been read, in numbers, and the moves to the next one.
 ghost use Rattle.std.specs.Prelude.{◌≡◌};
-ghost use Rattle.frames.specs.Scanning.{Bounded, nothing_read, to_phase, in_head, in_line, in_part, frame_read, invalid};
+ghost use Rattle.frames.specs.Scanning.{Valid, style_of, nothing_read, to_phase, in_head, in_line, in_part, frame_read, invalid, skip};
+ghost use Rattle.frames.specs.Refusals.{numbered};
+ghost use Rattle.frames.specs.Answers.{row_of};
+
+use crate::parse::Reason;
+use crate::word::style_of;
+use headers::Style;
 
 // How far an item is read. The small fields stand together at the end, so that the state has no gaps inside, which are slow to copy.
+// Phase, command and code are numbers, and any numbers: C keeps them in a record of octets, and the definitions order the phases.
 #[derive(Clone, Copy)]
 pub struct Scan {
     // Header lines read.
@@ -102,128 +109,106 @@ pub(crate) fn nothing_read(crlf: bool) -> Scan
     }
 }
 
-// One octet on, outside a head.
-pub(crate) fn to_phase(st: Scan, phase: u8, command: u32) -> Scan
-    requires { Bounded st }
-    ensures { result ≡ to_phase st phase command }
-{
-    Scan {
-        phase,
-        command,
-        lines: 0,
-        matched: 0,
-        sized: false,
-        size: 0,
-        len: 0,
-        at: st.at + 1,
-        code: 0,
-        rest: 0,
-        crlf: st.crlf,
-    }
+// A scan that passes the tests for states of a run, as every one that a run leaves does: one octet more overflows none of its numbers.
+#[derive(Clone, Copy)]
+pub(crate) struct ValidScan {
+    pub scan: Scan,
+    ghost valid: { Valid scan },
 }
 
-// One octet on, in a head that has so many lines and that length.
-pub(crate) fn in_head(st: Scan, phase: u8, lines: usize, sized: bool, size: usize) -> Scan
-    requires { Bounded st }
-    ensures { result ≡ in_head st phase lines sized size }
-{
-    Scan {
-        phase,
-        command: st.command,
-        lines,
-        matched: 0,
-        sized,
-        size,
-        len: 0,
-        at: st.at + 1,
-        code: 0,
-        rest: 0,
-        crlf: st.crlf,
+// What the command makes of header text, and the moves to the next state.
+impl ValidScan {
+    // What the command makes of header text.
+    pub(crate) fn style(self) -> Style
+        ensures { result ≡ style_of self.scan.crlf self.scan.command }
+    {
+        style_of(self.scan.crlf, self.scan.command)
     }
-}
 
-// One octet on, in a line or a body.
-pub(crate) fn in_line(st: Scan, phase: u8, matched: usize, size: usize, len: usize) -> Scan
-    requires { Bounded st }
-    ensures { result ≡ in_line st phase matched size len }
-{
-    Scan {
-        phase,
-        command: st.command,
-        lines: st.lines,
-        matched,
-        sized: st.sized,
-        size,
-        len,
-        at: st.at + 1,
-        code: 0,
-        rest: 0,
-        crlf: st.crlf,
+    // One octet on, outside a head.
+    pub(crate) fn to_phase(self, phase: u8, command: u32) -> Scan
+        ensures { result ≡ to_phase self.scan phase command }
+    {
+        Scan {
+            phase,
+            command,
+            at: self.scan.at + 1,
+            ..nothing_read(self.scan.crlf)
+        }
     }
-}
 
-// One octet on, inside a character of a line that is read as far as rest says.
-pub(crate) fn in_part(
-    st: Scan,
-    phase: u8,
-    matched: usize,
-    size: usize,
-    len: usize,
-    rest: u8,
-) -> Scan
-    requires { Bounded st }
-    ensures { result ≡ in_part st phase matched size len rest }
-{
-    Scan {
-        phase,
-        command: st.command,
-        lines: st.lines,
-        matched,
-        sized: st.sized,
-        size,
-        len,
-        at: st.at + 1,
-        code: 0,
-        rest,
-        crlf: st.crlf,
+    // One octet on, in a head that has so many lines and that length.
+    pub(crate) fn in_head(self, phase: u8, lines: usize, sized: bool, size: usize) -> Scan
+        ensures { result ≡ in_head self.scan phase lines sized size }
+    {
+        Scan {
+            lines,
+            sized,
+            size,
+            ..self.to_phase(phase, self.scan.command)
+        }
     }
-}
 
-// A frame is read.
-pub(crate) fn frame_read(st: Scan) -> Scan
-    requires { Bounded st }
-    ensures { result ≡ frame_read st }
-{
-    Scan {
-        phase: Scan::FRAME_READ,
-        command: st.command,
-        lines: st.lines,
-        matched: 0,
-        sized: false,
-        size: 0,
-        len: st.len,
-        at: st.at + 1,
-        code: 0,
-        rest: 0,
-        crlf: st.crlf,
+    // One octet on, inside a character of a line that is read as far as rest says.
+    pub(crate) fn in_part(
+        self,
+        phase: u8,
+        matched: usize,
+        size: usize,
+        len: usize,
+        rest: u8,
+    ) -> Scan
+        ensures { result ≡ in_part self.scan phase matched size len rest }
+    {
+        Scan {
+            matched,
+            len,
+            rest,
+            ..self.in_head(phase, self.scan.lines, self.scan.sized, size)
+        }
     }
-}
 
-// The octet is refused.
-pub(crate) fn refused(st: Scan, code: u32) -> Scan
-    ensures { result ≡ invalid st code }
-{
-    Scan {
-        phase: Scan::REFUSED,
-        command: 0,
-        lines: 0,
-        matched: 0,
-        sized: false,
-        size: 0,
-        len: 0,
-        at: st.at,
-        code,
-        rest: 0,
-        crlf: st.crlf,
+    // One octet on, in a line or a body.
+    pub(crate) fn in_line(self, phase: u8, matched: usize, size: usize, len: usize) -> Scan
+        ensures { result ≡ in_line self.scan phase matched size len }
+    {
+        self.in_part(phase, matched, size, len, 0)
+    }
+
+    // A frame is read.
+    pub(crate) fn frame_read(self) -> Scan
+        ensures { result ≡ frame_read self.scan }
+    {
+        Scan {
+            lines: self.scan.lines,
+            len: self.scan.len,
+            ..self.to_phase(Scan::FRAME_READ, self.scan.command)
+        }
+    }
+
+    // The octet is refused.
+    pub(crate) fn refused(self, reason: Reason) -> Scan
+        ensures { result ≡ invalid self.scan (numbered (row_of reason)) }
+    {
+        Scan {
+            phase: Scan::REFUSED,
+            at: self.scan.at,
+            code: reason.number(),
+            ..nothing_read(self.scan.crlf)
+        }
+    }
+
+    // The state k octets on, in the same phase.
+    pub(crate) fn skip(self, k: usize) -> ValidScan
+        requires { Valid (skip k self.scan) }
+        ensures { result.scan ≡ skip k self.scan }
+    {
+        ValidScan {
+            scan: Scan {
+                len: self.scan.len + k,
+                at: self.scan.at + k,
+                ..self.scan
+            },
+        }
     }
 }

@@ -1,13 +1,13 @@
 // Parsing a stream as it arrives, piece by piece: a record keeps how far the item under way is read, and the caller's buffer its
 // octets.
-ghost use Rattle.std.specs.Prelude.{◌≡◌, true, cond, min};
+ghost use Rattle.std.specs.Prelude.{◌≡◌, true, cond, is_some, unwrap_or};
 ghost use Rattle.frames.specs.Scanning.{nothing_read};
-ghost use Rattle.frames.specs.Streams.{is_number, fits_version, is_resumable, is_whole};
+ghost use Rattle.frames.specs.Streams.{fits_version, is_resumable, is_whole};
 ghost use Rattle.frames.specs.Streams.{feed_answer, feed_state, feed_buffer, by_version, is_taken, tell_state};
-ghost use Rattle.frames.specs.Answers.{fed_says};
+ghost use Rattle.frames.specs.Answers.{feed_number, fed_says};
 
 use crate::limits;
-use crate::parse::{Parsed, Refusal};
+use crate::parse::{Item, Reason, Refusal};
 use crate::state::Scan;
 use crate::version::Version;
 
@@ -20,29 +20,30 @@ pub struct StreamParser {
 // What parsing replies to the octets of the item so far, and how many octets of the piece it takes.
 #[derive(Clone, Copy)]
 pub struct Taken {
-    pub reply: Parsed,
+    pub reply: Result<Option<Item>, Refusal>,
     pub octets: usize,
 }
 
-// What a call answers: a reply; or that the buffer is shorter than 49,228 octets (70), or the record not valid (71).
+// Why a call takes nothing: the buffer is shorter than 49,228 octets (70), or the record not valid (71).
 #[derive(Clone, Copy)]
-pub enum Fed {
-    Replied(Taken),
-    ShortBuffer,
-    InvalidParser,
+pub enum FeedError {
+    ShortBuffer = 70,
+    InvalidParser = 71,
 }
 
-// The numbers of its refusals.
-impl Fed {
-    pub const SHORT_BUFFER: u64 = 70;
-
-    pub const INVALID_PARSER: u64 = 71;
+impl FeedError {
+    // Its number.
+    pub fn number(self) -> u32
+        ensures { result ≡ feed_number self }
+    {
+        self as u32
+    }
 }
 
 // An answer, and the stream parser that is left.
 #[derive(Clone, Copy)]
 pub struct Step {
-    pub answer: Fed,
+    pub answer: Result<Taken, FeedError>,
     pub parser: StreamParser,
 }
 
@@ -54,13 +55,6 @@ pub fn new_stream() -> StreamParser
     StreamParser { scan }
 }
 
-// Whether a number is one of the refusal table.
-fn is_number(code: u32) -> bool
-    ensures { result ≡ is_number code }
-{
-    (Refusal::NO_COMMAND <= code) & (code <= Refusal::NOT_UTF8)
-}
-
 // Whether a state is one that its version can have: only 1.2 is ever after a 13 that begins a line end, or refused there.
 fn fits_version(st: Scan) -> bool
     ensures { result ≡ fits_version st }
@@ -68,10 +62,10 @@ fn fits_version(st: Scan) -> bool
     if st.crlf {
         return true;
     }
-    let phase = st.phase;
-    !(((phase == Scan::HEART_BEAT_CR)
-        | ((phase == Scan::COMMAND_CR) | ((phase == Scan::LINE_CR) | (phase == Scan::BLANK_CR))))
-        | (st.code == Refusal::NO_10))
+    match st.phase {
+        Scan::HEART_BEAT_CR | Scan::COMMAND_CR | Scan::LINE_CR | Scan::BLANK_CR => false,
+        _ => st.code != Reason::No10 as u32,
+    }
 }
 
 // Whether a run can be taken up from a state: the rule of 71, in constant time.
@@ -90,7 +84,7 @@ fn is_resumable(st: Scan) -> bool
     if st.phase < Scan::HEART_BEAT_READ {
         return true;
     }
-    (st.phase == Scan::REFUSED) & is_number(st.code)
+    (st.phase == Scan::REFUSED) & Reason::of_number(st.code).is_some()
 }
 
 // The state itself, or that before the first octet where it has a whole item.
@@ -101,12 +95,6 @@ fn next_item(st: Scan) -> Scan
         return crate::state::nothing_read(st.crlf);
     }
     st
-}
-
-fn least(a: usize, b: usize) -> usize
-    ensures { result ≡ min a b }
-{
-    if a < b { a } else { b }
 }
 
 // One piece: the reply to the octets of the item so far, those that the buffer's front has and the piece; the piece is taken up to the
@@ -120,25 +108,25 @@ pub fn feed(parser: StreamParser, buffer: &mut [u8], piece: &[u8]) -> Step
     let st = parser.scan;
     if buffer.len() < limits::FRAME {
         return Step {
-            answer: Fed::ShortBuffer,
+            answer: Err(FeedError::ShortBuffer),
             parser,
         };
     }
     if !is_resumable(st) {
         return Step {
-            answer: Fed::InvalidParser,
+            answer: Err(FeedError::InvalidParser),
             parser,
         };
     }
     let next = crate::run::run_on(piece, st);
     let at = st.at;
     let octets = next.at - at;
-    let n = least(octets, buffer.len() - at);
+    let n = octets.min(buffer.len() - at);
     headers::copy(buffer, at, &piece[0..n]);
     let reply = crate::parse::reply(next);
     let scan = next_item(next);
     Step {
-        answer: Fed::Replied(Taken { reply, octets }),
+        answer: Ok(Taken { reply, octets }),
         parser: StreamParser { scan },
     }
 }
@@ -148,42 +136,21 @@ fn with_version(st: Scan, version: Version) -> Scan
     ensures { result ≡ by_version version st }
 {
     Scan {
-        phase: st.phase,
-        command: st.command,
-        lines: st.lines,
-        matched: st.matched,
-        sized: st.sized,
-        size: st.size,
-        len: st.len,
-        at: st.at,
-        code: st.code,
-        rest: st.rest,
         crlf: crate::version::has_crlf(version),
+        ..st
     }
 }
 
-// What telling a version gives: whether it was taken, and the stream parser that is left.
-#[derive(Clone, Copy)]
-pub struct Telling {
-    pub taken: bool,
-    pub parser: StreamParser,
-}
-
-// The items from here on are read by a protocol version. It is taken only between items: inside an item, after a refusal or with an
-// invalid record nothing changes.
-pub fn tell(parser: StreamParser, version: Version) -> Telling
-    ensures { (result.taken ≡ is_taken parser.scan) × (result.parser.scan ≡ tell_state version parser.scan) }
+// The items from here on are read by a protocol version: the stream parser that is left where it is taken. It is taken only between
+// items: inside an item, after a refusal or with an invalid record nothing changes.
+pub fn tell(parser: StreamParser, version: Version) -> Option<StreamParser>
+    ensures { (is_some result ≡ is_taken parser.scan)
+        × ((unwrap_or result parser).scan ≡ tell_state version parser.scan) }
 {
     let st = parser.scan;
     if !is_resumable(st) | (st.phase != Scan::START) {
-        return Telling {
-            taken: false,
-            parser,
-        };
+        return None;
     }
     let scan = with_version(st, version);
-    Telling {
-        taken: true,
-        parser: StreamParser { scan },
-    }
+    Some(StreamParser { scan })
 }

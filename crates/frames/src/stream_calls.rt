@@ -1,20 +1,13 @@
 // The stream parser for C: its record as 16 octets that the caller keeps, and an answer in one number.
-ghost use Rattle.std.specs.Prelude.{◌≡◌, ◌+◌, ◌*◌, ◌≤◌, ◌<◌, length};
+ghost use Rattle.std.specs.Prelude.{◌≡◌, ◌+◌, ◌≤◌, ◌<◌, length};
 ghost use Rattle.frames.specs.Answers.{parsed_says, version_in};
 ghost use Rattle.frames.specs.Streams.{feed_answer, feed_state, feed_buffer, is_taken};
 ghost use Rattle.frames.specs.Records.{mark, record_of, is_record, pair_at, fields, read_record, record_left, told_record};
 ghost use Rattle.frames.specs.Records.{packed_taken, packed_feed, Packable};
 
-use crate::parse::{Item, Parsed, Refusal};
+use crate::parse::Item;
 use crate::state::Scan;
-use crate::stream::{Fed, StreamParser, Taken};
-
-// An octet as a wider number.
-fn wide(x: u8) -> usize
-    ensures { (result ≡ x) × (result < 256) }
-{
-    x as usize
-}
+use crate::stream::{StreamParser, Taken};
 
 // A number in two octets, high first. The sum is such that each octet is read by itself: a record that was just written, octet by
 // octet, is not read back sooner than it is in memory if two are read at once.
@@ -23,7 +16,7 @@ fn pair_at(r: &[u8], i: usize) -> usize
     ensures { result ≡ pair_at r.now i }
 {
     let j = i + 1;
-    wide(r[i]) * 255 + (wide(r[i]) + wide(r[j]))
+    usize::from(r[i]) * 255 + (usize::from(r[i]) + usize::from(r[j]))
 }
 
 // Whether octets are a record.
@@ -41,13 +34,13 @@ fn fields(r: &[u8]) -> Scan
     requires { length r.now ≡ 16 }
     ensures { result ≡ fields r.now }
 {
-    let command = wide(r[1]) as u32;
-    let code = wide(r[5]) as u32;
+    let command = u32::from(r[1]);
+    let code = u32::from(r[5]);
     let sized = r[4] == 1;
     let crlf = r[12] == 0;
     Scan {
-        lines: wide(r[2]),
-        matched: wide(r[3]),
+        lines: usize::from(r[2]),
+        matched: usize::from(r[3]),
         size: pair_at(r, 6),
         len: pair_at(r, 8),
         at: pair_at(r, 10),
@@ -60,7 +53,8 @@ fn fields(r: &[u8]) -> Scan
     }
 }
 
-// The state that a record has, or one of no known phase.
+// The state that a record has, or one of no known phase. It is a state, and no Option: the buffer's length is looked at before it (70
+// before 71), as `read_record` of specs/Records says.
 fn read_record(r: &[u8]) -> Scan
     ensures { result ≡ read_record r.now }
 {
@@ -82,20 +76,13 @@ fn read_record(r: &[u8]) -> Scan
     }
 }
 
-// 1 where it is set.
-fn mark(set: bool) -> u8
-    ensures { result ≡ mark set }
-{
-    if set { 1 } else { 0 }
-}
-
 // A state as a record.
 fn write_record(r: &mut [u8], st: Scan)
     requires { length r.old ≡ 16 }
     ensures { r.new ≡ record_of st }
 {
-    let sized = mark(st.sized);
-    let version = mark(!st.crlf);
+    let sized = u8::from(st.sized);
+    let version = u8::from(!st.crlf);
     let octets = [
         st.phase,
         (st.command % 256) as u8,
@@ -117,38 +104,17 @@ fn write_record(r: &mut [u8], st: Scan)
     headers::copy(r, 0, &octets);
 }
 
-// An item and the octets taken in one number.
-fn pack_item(i: Item, n: usize) -> u64
-    requires { Packable (parsed_says (Parsed.Complete i)) × (n ≤ 70000) }
-    ensures { result ≡ packed_taken (parsed_says (Parsed.Complete i)) n }
-{
-    if i.kind == 1 {
-        return 1 + 4 * ((n as u64) + 65536 * (i.len as u64));
-    }
-    let body = (i.body as u64) + 65536 * (i.body_len as u64);
-    let rest = ((i.command % 16) as u64) + 16 * ((i.headers as u64) + 64 * body);
-    2 + 4 * ((n as u64) + 65536 * rest)
-}
-
-// A refusal and the octets taken in one number.
-fn pack_refusal(r: Refusal, n: usize) -> u64
-    requires { (r.offset ≤ 70000) × (n ≤ 70000) }
-    ensures { result ≡ packed_taken (parsed_says (Parsed.Invalid r)) n }
-{
-    3 + 4 * ((n as u64) + 65536 * (((r.code % 256) as u64) + 256 * (r.offset as u64)))
-}
-
 // A reply and the octets taken in one number.
 fn pack_taken(t: Taken) -> u64
     requires { Packable (parsed_says t.reply) × (t.octets ≤ 70000) }
     ensures { result ≡ packed_taken (parsed_says t.reply) t.octets }
 {
-    let n = t.octets;
-    let reply = t.reply;
-    match reply {
-        Parsed::Complete(i) => pack_item(i, n),
-        Parsed::Incomplete => 4 * (n as u64),
-        Parsed::Invalid(r) => pack_refusal(r, n),
+    let n = t.octets as u64;
+    match t.reply {
+        Ok(Some(Item::HeartBeat(len))) => 1 + 4 * (n + 65536 * (len as u64)),
+        Ok(Some(Item::Frame(frame))) => 2 + 4 * (n + 65536 * frame.packed()),
+        Ok(None) => 4 * n,
+        Err(refusal) => 3 + 4 * (n + 65536 * refusal.packed()),
     }
 }
 
@@ -163,15 +129,12 @@ pub fn stomp_feed(state: &mut [u8], buffer: &mut [u8], piece: &[u8]) -> u64
 {
     let scan = read_record(state);
     let step = crate::stream::feed(StreamParser { scan }, buffer, piece);
-    let parser = step.parser;
-    let answer = step.answer;
-    match answer {
-        Fed::Replied(t) => {
-            write_record(state, parser.scan);
+    match step.answer {
+        Ok(t) => {
+            write_record(state, step.parser.scan);
             pack_taken(t)
         }
-        Fed::ShortBuffer => 3 + 4 * (65536 * Fed::SHORT_BUFFER),
-        Fed::InvalidParser => 3 + 4 * (65536 * Fed::INVALID_PARSER),
+        Err(e) => 3 + 4 * (65536 * u64::from(e.number())),
     }
 }
 
@@ -181,11 +144,11 @@ pub fn stomp_feed_tell(state: &mut [u8], options: u32) -> u64
         × (state.new ≡ told_record (version_in options) state.old) }
 {
     let scan = read_record(state);
-    let told = crate::stream::tell(StreamParser { scan }, crate::version::of_options(options));
-    let parser = told.parser;
-    if told.taken {
-        write_record(state, parser.scan);
-        return 1;
+    match crate::stream::tell(StreamParser { scan }, crate::version::of_options(options)) {
+        Some(parser) => {
+            write_record(state, parser.scan);
+            1
+        }
+        None => 0,
     }
-    0
 }

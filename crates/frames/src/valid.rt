@@ -6,6 +6,7 @@ ghost use Rattle.frames.specs.Validity.{leasts, is_reached, is_small, is_so_far,
 
 use crate::limits;
 use crate::state::Scan;
+use crate::word::{most_of, style_of};
 
 // The longest line or body at a phase.
 fn len_max(phase: u8) -> usize
@@ -28,11 +29,7 @@ fn len_max(phase: u8) -> usize
 fn line_open(phase: u8) -> usize
     ensures { result ≡ line_open phase }
 {
-    if (Scan::IN_NAME <= phase) & (phase <= Scan::IN_LENGTH) {
-        1
-    } else {
-        0
-    }
+    usize::from((Scan::IN_NAME <= phase) & (phase <= Scan::IN_LENGTH))
 }
 
 // The octets of an item outside its lines and its body.
@@ -55,14 +52,17 @@ fn outside(phase: u8) -> usize
     }
 }
 
+// Of each command by its number, 0 for none: how many letters tell its word from those of the commands before it, and how many it has.
+const LEASTS: [usize; 16] = [0, 1, 2, 1, 1, 3, 8, 1, 1, 1, 1, 1, 1, 2, 2, 1];
+
+const LENGTHS: [usize; 16] = [0, 5, 3, 5, 6, 7, 9, 10, 5, 7, 4, 7, 4, 5, 9, 11];
+
 // How many letters tell a command's word from those of the commands before it.
 fn least(c: u32) -> usize
     requires { c ≤ 15 }
     ensures { result ≡ get_or leasts c 0 }
 {
-    let table = [0usize, 1, 2, 1, 1, 3, 8, 1, 1, 1, 1, 1, 1, 2, 2, 1];
-    let i = c as usize;
-    table[i]
+    LEASTS[c as usize]
 }
 
 // How many letters a command's word has.
@@ -70,9 +70,7 @@ pub(crate) fn word_len(c: u32) -> usize
     requires { c ≤ 15 }
     ensures { result ≡ length (word_of c) }
 {
-    let table = [0usize, 5, 3, 5, 6, 7, 9, 10, 5, 7, 4, 7, 4, 5, 9, 11];
-    let i = c as usize;
-    table[i]
+    LENGTHS[c as usize]
 }
 
 // Whether c is the first command that begins with the first k letters of its word.
@@ -102,32 +100,17 @@ fn is_small(st: Scan) -> bool
     (st.size <= limits::BODY) & (st.at <= outside(phase) + 514 * st.lines + st.len)
 }
 
-// Whether the word so far is one that a run can have, where one is read: the tables are asked nowhere else.
-fn is_word(st: Scan) -> bool
-    ensures { result ≡ (not (eqb st.phase 2) || is_reached st.command st.at) }
-{
-    let phase = st.phase;
-    if phase != Scan::IN_COMMAND {
-        return true;
-    }
-    is_reached(st.command, st.at)
-}
-
 // Whether the word and the body so far are some that a run can have: what a phase asks is tested there alone.
 fn is_so_far(st: Scan) -> bool
     ensures { result ≡ is_so_far st }
 {
-    let phase = st.phase;
-    if phase == Scan::IN_BODY {
-        return st.len <= crate::word::most_of(st.command);
+    match st.phase {
+        Scan::IN_BODY => st.len <= most_of(st.command),
+        Scan::IN_COUNTED => st.len <= st.size,
+        Scan::START => (st.command == 0) & (st.at == 0),
+        Scan::IN_COMMAND => is_reached(st.command, st.at),
+        _ => true,
     }
-    if phase == Scan::IN_COUNTED {
-        return st.len <= st.size;
-    }
-    if phase == Scan::START {
-        return (st.command == 0) & (st.at == 0);
-    }
-    is_word(st)
 }
 
 // Whether how far a character is read is such as a run can leave inside one, and 0 elsewhere.
@@ -139,7 +122,7 @@ fn is_rest_clean(st: Scan) -> bool
     if (phase != Scan::NAME_PART) & (phase != Scan::VALUE_PART) {
         return st.rest == 0;
     }
-    let style = crate::word::style_of(st.crlf, st.command);
+    let style = style_of(st.crlf, st.command);
     (style.escapes & (st.rest == 92))
         | ((st.rest == 1) | ((st.rest == 2) | (headers::missing_after(st.rest) != 0)))
 }

@@ -23,7 +23,7 @@ pub(crate) fn has_crlf(version: Version) -> bool
 // The option of the calls for C that asks for version 1.1: the bit of value 2. Other bits are not looked at.
 pub const OPTION_1_1: u32 = 2;
 
-// The version that options ask for.
+// The version that options ask for: bits of a number, as the calls for C take them.
 pub(crate) fn of_options(options: u32) -> Version
     ensures { result ≡ version_in options }
 {

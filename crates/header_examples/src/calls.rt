@@ -1,78 +1,43 @@
 // One call of headers, and its answer shown.
-use crate::show::{front, number, number_line, pair, refused, say, written, yes_or_no};
-use headers::{
-    DecimalRead, DecimalWritten, EntryAt, Field, Found, LineLength, LineWritten, RecordWritten,
-    Style,
-};
+use crate::show::{front, written, yes_or_no};
+use headers::{Field, LineError, Malformed, Style, TooShort, Unwritable};
 use std::io;
 use std::io::Write;
 
-// How text is written in version 1.2, with or without escapes.
-fn style(escapes: bool) -> Style {
-    Style {
-        escapes,
-        crlf: true,
-    }
-}
+// How text is written in version 1.2.
+pub(crate) const ESCAPED: Style = Style {
+    escapes: true,
+    crlf: true,
+};
 
-pub(crate) fn escaped() -> Style {
-    style(true)
-}
+// The same without escapes.
+pub(crate) const PLAIN: Style = Style {
+    escapes: false,
+    crlf: true,
+};
 
-// How text is written in version 1.1, with escapes.
-fn older() -> Style {
-    Style {
-        escapes: true,
-        crlf: false,
-    }
-}
+// How text is written in version 1.1.
+pub(crate) const OLDER: Style = Style {
+    escapes: true,
+    crlf: false,
+};
 
-// Writes a record of raw text into room octets of sevens, and shows the answer, the octets written and the next one after them.
+// Writes a record of raw text into room octets, and shows what was written.
 pub(crate) fn record<W: Write>(
     output: &mut W,
     label: &[u8],
     name: &[u8],
     value: &[u8],
-    escapes: bool,
+    style: Style,
     room: usize,
 ) -> io::Result<()> {
-    say(output, label)?;
-    let mut d = [7u8; 600];
-    if room <= 600 {
-        record_in(output, &mut d[0..room], name, value, style(escapes))?;
+    output.write_all(label)?;
+    if !headers::is_raw(name, style, Field::Name) || !headers::is_raw(value, style, Field::Value) {
+        return output.write_all(b"not raw text\n");
     }
-    Ok(())
-}
-
-// The same in version 1.1, with room for any.
-pub(crate) fn older_record<W: Write>(
-    output: &mut W,
-    label: &[u8],
-    name: &[u8],
-    value: &[u8],
-) -> io::Result<()> {
-    say(output, label)?;
-    let mut d = [7u8; 600];
-    record_in(output, &mut d, name, value, older())
-}
-
-fn record_in<W: Write>(
-    output: &mut W,
-    d: &mut [u8],
-    name: &[u8],
-    value: &[u8],
-    style: Style,
-) -> io::Result<()> {
-    if !headers::is_raw(name, style, Field::Name) {
-        return say(output, b"not raw text\n");
-    }
-    if !headers::is_raw(value, style, Field::Value) {
-        return say(output, b"not raw text\n");
-    }
-    match headers::write_decoded(d, name, value, style) {
-        RecordWritten::Length(n) => written(output, d, n),
-        RecordWritten::TooShort => refused(output, d, 21),
-    }
+    written(output, room, |d| {
+        headers::write_decoded(d, name, value, style).map_err(|_| 21)
+    })
 }
 
 // Writes a record where there is room for any, and shows the answer and the first octets of the buffer.
@@ -82,56 +47,36 @@ pub(crate) fn long_record<W: Write>(
     name: &[u8],
     value: &[u8],
 ) -> io::Result<()> {
-    say(output, label)?;
+    output.write_all(label)?;
     let mut d = [7u8; 65600];
-    match headers::write_decoded(&mut d, name, value, escaped()) {
-        RecordWritten::Length(n) => number(output, n as u64)?,
-        RecordWritten::TooShort => number(output, 21)?,
+    match headers::write_decoded(&mut d, name, value, ESCAPED) {
+        Ok(n) => write!(output, "{n}")?,
+        Err(TooShort) => write!(output, "21")?,
     }
     front(output, &d, 8)
 }
 
-// Writes a line into room octets of sevens, and shows the same.
+// The number of a line that is not written.
+fn line_number(e: LineError) -> u32 {
+    match e {
+        LineError::Unwritable => 53,
+        LineError::TooShort => 56,
+    }
+}
+
+// Writes a line into room octets, and shows what was written.
 pub(crate) fn line<W: Write>(
     output: &mut W,
     label: &[u8],
     name: &[u8],
     value: &[u8],
-    escapes: bool,
+    style: Style,
     room: usize,
 ) -> io::Result<()> {
-    say(output, label)?;
-    let mut d = [7u8; 600];
-    if room <= 600 {
-        line_in(output, &mut d[0..room], name, value, style(escapes))?;
-    }
-    Ok(())
-}
-
-// The same in version 1.1, with room for any.
-pub(crate) fn older_line<W: Write>(
-    output: &mut W,
-    label: &[u8],
-    name: &[u8],
-    value: &[u8],
-) -> io::Result<()> {
-    say(output, label)?;
-    let mut d = [7u8; 600];
-    line_in(output, &mut d, name, value, older())
-}
-
-fn line_in<W: Write>(
-    output: &mut W,
-    d: &mut [u8],
-    name: &[u8],
-    value: &[u8],
-    style: Style,
-) -> io::Result<()> {
-    match headers::write_line(d, name, value, style) {
-        LineWritten::Length(n) => written(output, d, n),
-        LineWritten::Unwritable => refused(output, d, 53),
-        LineWritten::TooShort => refused(output, d, 56),
-    }
+    output.write_all(label)?;
+    written(output, room, |d| {
+        headers::write_line(d, name, value, style).map_err(line_number)
+    })
 }
 
 // Looks a name up, and shows its value's start and length, how many later entries of the name follow, and the value's octets.
@@ -141,42 +86,34 @@ pub(crate) fn find<W: Write>(
     block: &[u8],
     name: &[u8],
 ) -> io::Result<()> {
-    say(output, label)?;
+    output.write_all(label)?;
     match headers::find(block, name) {
-        Found::Value(p) => {
-            let start = p.start;
-            let len = p.len;
-            pair(output, start as u64, len as u64)?;
-            say(output, b" ")?;
-            number(output, p.later as u64)?;
-            if start <= block.len() {
-                front(output, &block[start..], len)?;
-            }
-            Ok(())
+        Ok(Some(p)) => {
+            let (start, len, later) = (p.start, p.len, p.later);
+            write!(output, "{start} {len} {later}")?;
+            front(output, block.get(start..).unwrap_or(&[]), len)
         }
-        Found::Absent => say(output, b"none\n"),
-        Found::Malformed => number_line(output, 22),
+        Ok(None) => output.write_all(b"none\n"),
+        Err(Malformed) => output.write_all(b"22\n"),
     }
 }
 
 // Shows the record at a place of a block.
 pub(crate) fn entry<W: Write>(output: &mut W, block: &[u8], at: usize) -> io::Result<()> {
-    say(output, b"at ")?;
-    number(output, at as u64)?;
-    say(output, b": ")?;
+    write!(output, "at {at}: ")?;
     match headers::entry_at(block, at) {
-        EntryAt::Entry(l) => {
-            pair(output, l.name as u64, l.value as u64)?;
-            say(output, b"\n")
+        Ok(Some(l)) => {
+            let (name, value) = (l.name, l.value);
+            writeln!(output, "{name} {value}")
         }
-        EntryAt::End => say(output, b"end\n"),
-        EntryAt::Malformed => number_line(output, 22),
+        Ok(None) => output.write_all(b"end\n"),
+        Err(Malformed) => output.write_all(b"22\n"),
     }
 }
 
 // Whether a block is valid.
 pub(crate) fn valid<W: Write>(output: &mut W, label: &[u8], block: &[u8]) -> io::Result<()> {
-    say(output, label)?;
+    output.write_all(label)?;
     yes_or_no(output, headers::is_valid(block))
 }
 
@@ -185,10 +122,10 @@ pub(crate) fn length<W: Write>(
     output: &mut W,
     label: &[u8],
     value: &[u8],
-    escapes: bool,
+    style: Style,
 ) -> io::Result<()> {
-    say(output, label)?;
-    line_length(output, headers::line_length(b"x", value, style(escapes)))
+    output.write_all(label)?;
+    line_length(output, headers::line_length(b"x", value, style))
 }
 
 // The length of the line of a name and a value in one text.
@@ -197,26 +134,25 @@ pub(crate) fn length_of<W: Write>(
     label: &[u8],
     text: &[u8],
     name: usize,
-    escapes: bool,
+    style: Style,
 ) -> io::Result<()> {
-    say(output, label)?;
-    line_length(output, headers::entry_length(text, name, style(escapes)))
+    output.write_all(label)?;
+    line_length(output, headers::entry_length(text, name, style))
 }
 
-fn line_length<W: Write>(output: &mut W, answer: LineLength) -> io::Result<()> {
+fn line_length<W: Write>(output: &mut W, answer: Result<usize, Unwritable>) -> io::Result<()> {
     match answer {
-        LineLength::Length(n) => number_line(output, n as u64),
-        LineLength::Unwritable => number_line(output, 53),
+        Ok(n) => writeln!(output, "{n}"),
+        Err(Unwritable) => output.write_all(b"53\n"),
     }
 }
 
 // The length of a value encoded, and that of it decoded.
 pub(crate) fn lengths<W: Write>(output: &mut W, label: &[u8], value: &[u8]) -> io::Result<()> {
-    say(output, label)?;
-    let encoded = headers::encoded_length(value, escaped());
-    let decoded = headers::decoded_length(value, escaped());
-    pair(output, encoded as u64, decoded as u64)?;
-    say(output, b"\n")
+    output.write_all(label)?;
+    let encoded = headers::encoded_length(value, ESCAPED);
+    let decoded = headers::decoded_length(value, ESCAPED);
+    writeln!(output, "{encoded} {decoded}")
 }
 
 // The number that the text says, at most the limit.
@@ -226,39 +162,25 @@ pub(crate) fn decimal<W: Write>(
     s: &[u8],
     limit: u32,
 ) -> io::Result<()> {
-    say(output, label)?;
+    output.write_all(label)?;
     match headers::read_decimal(s, limit) {
-        DecimalRead::Number(n) => number_line(output, n as u64),
-        DecimalRead::Invalid => say(output, b"invalid\n"),
+        Some(n) => writeln!(output, "{n}"),
+        None => output.write_all(b"invalid\n"),
     }
 }
 
 // Text that is its own label.
 pub(crate) fn decimal_itself<W: Write>(output: &mut W, s: &[u8], limit: u32) -> io::Result<()> {
-    say(output, s)?;
+    output.write_all(s)?;
     decimal(output, b": ", s, limit)
 }
 
-// Writes a number into room octets of sevens, and shows its length and the same.
+// Writes a number into room octets, and shows its length and what was written.
 pub(crate) fn shortest<W: Write>(output: &mut W, n: u64, room: usize) -> io::Result<()> {
-    number(output, n)?;
     let len = headers::decimal_length(n);
-    if room < len {
-        say(output, b", no room")?;
-    }
-    say(output, b": ")?;
-    number(output, len as u64)?;
-    say(output, b" ")?;
-    let mut d = [7u8; 24];
-    if room <= 24 {
-        shortest_in(output, &mut d[0..room], n)?;
-    }
-    Ok(())
-}
-
-fn shortest_in<W: Write>(output: &mut W, d: &mut [u8], n: u64) -> io::Result<()> {
-    match headers::write_decimal(d, n) {
-        DecimalWritten::Length(k) => written(output, d, k),
-        DecimalWritten::TooShort => refused(output, d, 56),
-    }
+    let no_room = if room < len { ", no room" } else { "" };
+    write!(output, "{n}{no_room}: {len} ")?;
+    written(output, room, |d| {
+        headers::write_decimal(d, n).map_err(|_| 56)
+    })
 }

@@ -7,8 +7,8 @@ mod show; // words, numbers and octets
 
 use crate::again::{characters, every_octet};
 use crate::calls::{
-    decimal, decimal_itself, entry, find, length, length_of, line, long_record, older_line,
-    older_record, record, shortest, valid,
+    ESCAPED, OLDER, PLAIN, decimal, decimal_itself, entry, find, length, length_of, line,
+    long_record, record, shortest, valid,
 };
 use std::io;
 use std::io::Write;
@@ -37,7 +37,7 @@ fn main(rt: HostRuntime) -> io::Result<()> {
 
 // P6, and what stands in its block.
 fn document_blocks<W: Write>(output: &mut W) -> io::Result<()> {
-    record(output, b"P6: ", b"destination", b"/p", true, 600)?;
+    record(output, b"P6: ", b"destination", b"/p", ESCAPED, 600)?;
     let p6: &[u8] = b"HD\x00\x0b\x00\x02destination/p";
     find(output, b"P6 destination: ", p6, b"destination")?;
     find(output, b"P6 run: ", p6, b"run")?;
@@ -46,7 +46,7 @@ fn document_blocks<W: Write>(output: &mut W) -> io::Result<()> {
         b"P6 added line: ",
         b"content-length",
         b"2",
-        true,
+        ESCAPED,
         600,
     )
 }
@@ -54,9 +54,9 @@ fn document_blocks<W: Write>(output: &mut W) -> io::Result<()> {
 // P7 and P13, and what stands in their blocks.
 fn document_lines<W: Write>(output: &mut W) -> io::Result<()> {
     let id: &[u8] = b"id";
-    record(output, b"P7: ", id, b"a\\cb", true, 600)?;
+    record(output, b"P7: ", id, b"a\\cb", ESCAPED, 600)?;
     find(output, b"P7 id: ", b"HD\x00\x02\x00\x03ida:b", id)?;
-    line(output, b"P7 again: ", id, b"a:b", true, 600)?;
+    line(output, b"P7 again: ", id, b"a:b", ESCAPED, 600)?;
     find(
         output,
         b"P13 run: ",
@@ -69,8 +69,8 @@ fn document_lines<W: Write>(output: &mut W) -> io::Result<()> {
 fn one_pass<W: Write>(output: &mut W) -> io::Result<()> {
     let x: &[u8] = b"x";
     let value: &[u8] = b"\\\\c";
-    record(output, b"\\\\c: ", x, value, true, 600)?;
-    record(output, b"\\\\c, no escapes: ", x, value, false, 600)
+    record(output, b"\\\\c: ", x, value, ESCAPED, 600)?;
+    record(output, b"\\\\c, no escapes: ", x, value, PLAIN, 600)
 }
 
 // Octet 13, which 1.2 escapes as \r and 1.1 has in its text as it is: \r is no escape there. The other escapes are those of both.
@@ -78,18 +78,27 @@ fn octet_13<W: Write>(output: &mut W) -> io::Result<()> {
     let id: &[u8] = b"id";
     let plain: &[u8] = b"a\rb";
     let letter: &[u8] = b"a\\rb";
-    record(output, b"\\r: ", id, letter, true, 600)?;
-    older_record(output, b"\\r, in 1.1: ", id, letter)?;
-    record(output, b"13: ", id, plain, true, 600)?;
-    older_record(output, b"13, in 1.1: ", id, plain)?;
-    line(output, b"13 written: ", id, plain, true, 600)?;
-    older_line(output, b"13 written, in 1.1: ", id, plain)?;
-    older_record(output, b"\\n, \\c and \\\\, in 1.1: ", id, b"\\n\\c\\\\")?;
-    older_line(
+    record(output, b"\\r: ", id, letter, ESCAPED, 600)?;
+    record(output, b"\\r, in 1.1: ", id, letter, OLDER, 600)?;
+    record(output, b"13: ", id, plain, ESCAPED, 600)?;
+    record(output, b"13, in 1.1: ", id, plain, OLDER, 600)?;
+    line(output, b"13 written: ", id, plain, ESCAPED, 600)?;
+    line(output, b"13 written, in 1.1: ", id, plain, OLDER, 600)?;
+    record(
+        output,
+        b"\\n, \\c and \\\\, in 1.1: ",
+        id,
+        b"\\n\\c\\\\",
+        OLDER,
+        600,
+    )?;
+    line(
         output,
         b"10, colon and backslash written, in 1.1: ",
         id,
         b"\n:\\",
+        OLDER,
+        600,
     )
 }
 
@@ -97,32 +106,32 @@ fn octet_13<W: Write>(output: &mut W) -> io::Result<()> {
 fn not_raw<W: Write>(output: &mut W) -> io::Result<()> {
     let id: &[u8] = b"id";
     let cut: &[u8] = b"a\\";
-    record(output, b"\\t: ", id, b"a\\t", true, 0)?;
-    record(output, b"cut escape: ", id, cut, true, 600)?;
-    record(output, b"cut escape, no escapes: ", id, cut, false, 600)?;
-    record(output, b"colon in a name: ", b"a:b", b"", false, 600)
+    record(output, b"\\t: ", id, b"a\\t", ESCAPED, 0)?;
+    record(output, b"cut escape: ", id, cut, ESCAPED, 600)?;
+    record(output, b"cut escape, no escapes: ", id, cut, PLAIN, 600)?;
+    record(output, b"colon in a name: ", b"a:b", b"", PLAIN, 600)
 }
 
 // Room for all of a record, and for all but one octet.
 fn rooms<W: Write>(output: &mut W) -> io::Result<()> {
     let id: &[u8] = b"id";
     let value: &[u8] = b"a\\cb";
-    record(output, b"room 10 of 11: ", id, value, true, 10)?;
-    record(output, b"room 11 of 11: ", id, value, true, 11)
+    record(output, b"room 10 of 11: ", id, value, ESCAPED, 10)?;
+    record(output, b"room 11 of 11: ", id, value, ESCAPED, 11)
 }
 
 // A line that cannot be written, and room for all of one, and for all but one octet.
 fn line_rooms<W: Write>(output: &mut W) -> io::Result<()> {
     let id: &[u8] = b"id";
     let value: &[u8] = b"a:b";
-    line(output, b"colon, no escapes: ", id, value, false, 600)?;
-    line(output, b"room 7 of 8: ", id, value, true, 7)?;
-    line(output, b"room 8 of 8: ", id, value, true, 8)
+    line(output, b"colon, no escapes: ", id, value, PLAIN, 600)?;
+    line(output, b"room 7 of 8: ", id, value, ESCAPED, 7)?;
+    line(output, b"room 8 of 8: ", id, value, ESCAPED, 8)
 }
 
 fn empty_names<W: Write>(output: &mut W) -> io::Result<()> {
-    line(output, b"empty name: ", b"", b"v", true, 0)?;
-    record(output, b"empty name, record: ", b"", b"v", true, 600)?;
+    line(output, b"empty name: ", b"", b"v", ESCAPED, 0)?;
+    record(output, b"empty name, record: ", b"", b"v", ESCAPED, 600)?;
     find(output, b"empty name, found: ", b"HD\x00\x00\x00\x01v", b"")
 }
 
@@ -154,12 +163,12 @@ fn entries<W: Write>(output: &mut W) -> io::Result<()> {
 fn long_lines<W: Write>(output: &mut W) -> io::Result<()> {
     let fits: &[u8] = &[97u8; 510];
     let over: &[u8] = &[97u8; 511];
-    record(output, b"line of 512: ", b"x", fits, true, 600)?;
-    record(output, b"line of 513: ", b"x", over, true, 600)?;
-    length(output, b"written, 512: ", fits, true)?;
-    length(output, b"written, 513: ", over, true)?;
-    length(output, b"colons, 512: ", &[58u8; 255], true)?;
-    length(output, b"colons, 514: ", &[58u8; 256], true)
+    record(output, b"line of 512: ", b"x", fits, ESCAPED, 600)?;
+    record(output, b"line of 513: ", b"x", over, ESCAPED, 600)?;
+    length(output, b"written, 512: ", fits, ESCAPED)?;
+    length(output, b"written, 513: ", over, ESCAPED)?;
+    length(output, b"colons, 512: ", &[58u8; 255], ESCAPED)?;
+    length(output, b"colons, 514: ", &[58u8; 256], ESCAPED)
 }
 
 // Texts whose length two octets can say, and those of one octet more; what counts is the length of the decoded text.
@@ -176,14 +185,14 @@ fn long_texts<W: Write>(output: &mut W) -> io::Result<()> {
 
 // Names and values in one text: lines of 512 and of 513, no name, and a name as long as the text or longer.
 fn one_text<W: Write>(output: &mut W) -> io::Result<()> {
-    length_of(output, b"together, 512: ", &[97u8; 511], 1, true)?;
-    length_of(output, b"together, 513: ", &[97u8; 512], 1, true)?;
-    length_of(output, b"together, colon in the name: ", b"a:b", 2, true)?;
-    length_of(output, b"the same, no escapes: ", b"a:b", 2, false)?;
-    length_of(output, b"together, no name: ", b"ab", 0, true)?;
-    length_of(output, b"together, no value: ", b"ab", 2, true)?;
-    length_of(output, b"together, name past the end: ", b"ab", 3, true)?;
-    length_of(output, b"together, nothing: ", b"", 1, true)
+    length_of(output, b"together, 512: ", &[97u8; 511], 1, ESCAPED)?;
+    length_of(output, b"together, 513: ", &[97u8; 512], 1, ESCAPED)?;
+    length_of(output, b"together, colon in the name: ", b"a:b", 2, ESCAPED)?;
+    length_of(output, b"the same, no escapes: ", b"a:b", 2, PLAIN)?;
+    length_of(output, b"together, no name: ", b"ab", 0, ESCAPED)?;
+    length_of(output, b"together, no value: ", b"ab", 2, ESCAPED)?;
+    length_of(output, b"together, name past the end: ", b"ab", 3, ESCAPED)?;
+    length_of(output, b"together, nothing: ", b"", 1, ESCAPED)
 }
 
 fn read_decimals<W: Write>(output: &mut W) -> io::Result<()> {

@@ -2,6 +2,7 @@
 --     utf8_exact                    the test is true of exactly the octets that are UTF-8
 --     utf8_edges                    the first and last characters of each row of RFC 3629's table, and what is next to them
 --     wide_on, wide_off             a character of more than one octet at the front, or none
+use Rattle.std.specs.Prelude.{Option, Some, None}
 use mathlib.Core.Path.{◌≡◌, refl, sym, ◌∙◌, ap, ap₂, subst}
 use mathlib.Core.Bool.{Bool, true, false, cond, ◌&&◌, ◌||◌, not}
 use mathlib.Core.List.{List, [], ◌∷◌, ◌++◌, append_assoc, append-nil}
@@ -12,11 +13,11 @@ use native.Mathlib.Numerals.{add-one}
 use lib.ListN.{length, take, drop, get_or, length-append, length-drop, drop_of_length-le, take-append-drop}
 use lib.Seq.{drop-cons, drop-drop, take-append_seam, drop-append_seam, take-add, length-take-le, get_or-drop}
 use lib.Dec.{eqb, leb, ltb}
-use borrow.Author.Tests.{eqb-true, eqb-false, ne_eqb, leb-true, le-leb, ltb-true, ltb-false, lt-ltb, le-ltb, lt-leb}
+use borrow.Author.Tests.{eq-eqb, eqb-true, eqb-false, ne_eqb, leb-true, le-leb, ltb-true, ltb-false, lt-ltb, le-ltb, lt-leb}
 use Rattle.headers.specs.Rows.{any, every}
 use Rattle.headers.specs.Text.{stops, opens, is_letter, starts, starts_with, reads, missing, tail, second, ascii, Character, itself, escape, wide, Text, none, more, Wide, led_by, Utf8, utf8_none, utf8_ascii, utf8_wide, Part, fresh, back, led, tails, owes, left, of_utf8, of_escape, Into, into, bad, stop, utf8_reads, then_reads, ended, reads_whole, is_text_from, is_utf8_from, is_utf8}
 use Rattle.headers.specs.Escapes.{encode, writable, means, character_means}
-use Rattle.headers.specs.Characters.{part_number, utf8_part, text_part, is_begun, into_number, is_wide, wide_front, front_character, Wides, no_wide, one_wide, WideStretch}
+use Rattle.headers.specs.Characters.{part_number, utf8_part, text_part, is_begun, part_after, whole, is_wide, wide_front, front_character, Wides, no_wide, one_wide, WideStretch}
 use Rattle.headers.specs.declared.text.Style.{Style}
 use Rattle.headers.specs.declared.text.Field.{Field}
 use Rattle.headers.proofs.Rows.{cond_case, and_left, and_right, and_no, refuted, never, every_left, every_right}
@@ -213,6 +214,25 @@ pub utf8_end : (xs : List ℕ) (i : ℕ) → length xs ≤ i → is_utf8 (drop i
 unfolding reads_whole
 utf8_end xs i h = rw (drop_of_length-le xs h)
 
+-- where a character is at a place, the place is in the row; where none is, the rest is UTF-8 exactly if there is no rest
+pub front_end : (xs : List ℕ) (i : ℕ) → length xs ≤ i → front_character (drop i xs) ≡ 0
+unfolding front_character
+front_end xs i h = rw (drop_of_length-le xs h) refl
+
+pub front_inside : (xs : List ℕ) (i : ℕ) {k : ℕ} → k ≡ front_character (drop i xs) → (k ≡ 0 → ⊥) → i < length xs
+front_inside xs i e some = by (ltb i (length xs)) refl
+  where
+    by : (t : Bool) → ltb i (length xs) ≡ t → i < length xs
+    by true h = ltb-true i (length xs) h
+    by false h = absurd (some (e ∙ front_end xs i (ltb-false i (length xs) h)))
+
+pub utf8_rest : (xs : List ℕ) (i : ℕ) → i ≤ length xs → front_character (drop i xs) ≡ 0 → eqb i (length xs) ≡ is_utf8 (drop i xs)
+utf8_rest xs i l gone = by (ltb i (length xs)) refl
+  where
+    by : (t : Bool) → ltb i (length xs) ≡ t → eqb i (length xs) ≡ is_utf8 (drop i xs)
+    by true h = let inside : i < length xs = ltb-true i (length xs) h in ne_eqb i (length xs) (omega arith) ∙ sym (utf8_less xs i inside (sym gone) refl)
+    by false h = let out : length xs ≤ i = ltb-false i (length xs) h in eq-eqb i (length xs) (omega arith) ∙ sym (utf8_end xs i out)
+
 -- ---- the octets that tell how long a character is, as the code looks at them
 
 module _ (xs : List ℕ) (i : ℕ) where
@@ -333,12 +353,24 @@ module _ (xs : List ℕ) (i : ℕ) {k : ℕ} (e : k ≡ wide_front (drop i xs)) 
 pub wides_none : (xs : List ℕ) → Wides (take 0 xs)
 wides_none xs = no_wide
 
-pub wides_stop : (xs : List ℕ) (i : ℕ) {k : ℕ} → i ≤ length xs → Wides (take i xs) → k ≡ wide_front (drop i xs) → k ≡ 0 → WideStretch xs i
-wides_stop xs i h ws e gone = record { within = h; row = ws; ends = sym e ∙ gone }
-
-pub wides_end : (xs : List ℕ) (i : ℕ) → i ≤ length xs → Wides (take i xs) → length xs ≤ i → WideStretch xs i
+pub wide_end : (xs : List ℕ) (i : ℕ) → length xs ≤ i → wide_front (drop i xs) ≡ 0
 unfolding wide_front
-wides_end xs i h ws l = record { within = h; row = ws; ends = rw (drop_of_length-le xs l) refl }
+wide_end xs i l = rw (drop_of_length-le xs l) refl
+
+-- a number of octets, or none
+pub whole_some : (n : ℕ) {k : ℕ} → whole n ≡ Some k → (k ≡ n) × (k ≡ 0 → ⊥)
+whole_some n {k} e = by (eqb n 0) refl e
+  where
+    by : (t : Bool) → eqb n 0 ≡ t → cond t None (Some n) ≡ Some k → (k ≡ n) × (k ≡ 0 → ⊥)
+    by true h e = cc
+    by false h e = let same : n ≡ k = cc in (sym same, λ z. eqb-false n 0 h (same ∙ z))
+
+pub whole_none : (n : ℕ) → whole n ≡ None → n ≡ 0
+whole_none n e = by (eqb n 0) refl e
+  where
+    by : (t : Bool) → eqb n 0 ≡ t → cond t None (Some n) ≡ None → n ≡ 0
+    by true h e = eqb-true n 0 h
+    by false h e = cc
 
 -- ---- how far a character is read, as a number
 
@@ -350,35 +382,6 @@ part_left n h = rw (lt-ltb n 3 h)
 
 part_led : (n : ℕ) → 3 ≤ n → utf8_part n ≡ led n
 part_led n h = rw (ne_eqb n 0 (omega arith), le-ltb n 3 h)
-
-part_tails : (n : ℕ) → (n ≡ 0 → ⊥) → n < 3 → utf8_part n ≡ tails n
-part_tails n z h = rw (ne_eqb n 0 z, lt-ltb n 3 h)
-
--- what the code answers, by its tests
-module _ (n x : ℕ) where
-  abbrev Next : ℕ → Type 0
-  Next r = r ≡ into_number (utf8_reads (utf8_part n) x)
-
-  pub next_ascii : n ≡ 0 → x < 128 → Next 0
-  next_ascii z h = rw (z, lt-ltb x 128 h)
-
-  pub next_none : n ≡ 0 → 128 ≤ x → missing x ≡ 0 → Next 255
-  next_none z h m = rw (z, le-ltb x 128 h, m)
-
-  pub next_led : n ≡ 0 → 128 ≤ x → (missing x ≡ 0 → ⊥) → Next x
-  next_led z h m = rw (z, le-ltb x 128 h, lt-ltb 0 (missing x) (omega arith))
-
-  pub next_tail : (n ≡ 0 → ⊥) → n < 3 → tail x ≡ true → Next (n - 1)
-  next_tail z h t = rw (part_tails n z h, t) (sym (number_left (n - 1)))
-
-  pub next_no_tail : (n ≡ 0 → ⊥) → n < 3 → tail x ≡ false → Next 255
-  next_no_tail z h t = rw (part_tails n z h, t)
-
-  pub next_second : 3 ≤ n → second n x ≡ true → Next (missing n - 1)
-  next_second h t = rw (part_led n h, t) (sym (number_left (missing n - 1)))
-
-  pub next_no_second : 3 ≤ n → second n x ≡ false → Next 255
-  next_no_second h t = rw (part_led n h, t)
 
 -- a number that goes on is that of the part it came from
 abbrev pub Goes : Into → Type 0
@@ -490,52 +493,26 @@ begun_some s n h e = no_zero (ap (is_begun s) (sym e) ∙ h)
 
 -- ---- raw text, octet by octet
 
-module _ (s : Style) (f : Field) (n x : ℕ) where
-  abbrev RawNext : ℕ → Type 0
-  RawNext r = r ≡ into_number (reads s f (text_part n) x)
-
-  pub raw_stop : n ≡ 0 → stops s f x ≡ true → RawNext 255
-  raw_stop z h = rw (z, h)
-
-  pub raw_open : n ≡ 0 → stops s f x ≡ false → opens s x ≡ true → RawNext 92
-  raw_open z h o = rw (z, h, o)
-
-  pub raw_begin : {r : ℕ} → n ≡ 0 → stops s f x ≡ false → opens s x ≡ false → r ≡ into_number (utf8_reads (utf8_part 0) x) → RawNext r
-  raw_begin z h o e = rw (z, h, o) e
-
-  pub raw_letter : n ≡ 92 → is_letter s x ≡ true → RawNext 0
-  raw_letter z h = rw (z, h)
-
-  pub raw_no_letter : n ≡ 92 → is_letter s x ≡ false → RawNext 255
-  raw_no_letter z h = rw (z, h) (cond_case (λ i. 255 ≡ into_number i) (starts x) (λ t. refl) (λ t. refl))
-
-  pub raw_inside : {r : ℕ} → (n ≡ 0 → ⊥) → (n ≡ 92 → ⊥) → r ≡ into_number (utf8_reads (utf8_part n) x) → RawNext r
-  raw_inside {r} z w e = rw (ne_eqb n 92 w, ne_eqb n 0 z) (by (ltb n 3) (rw (ne_eqb n 0 z) at e))
-    where
-      by : (b : Bool) → r ≡ into_number (utf8_reads (cond b (tails n) (led n)) x) → r ≡ into_number (reads s f (cond b (tails n) (led n)) x)
-      by true q = q
-      by false q = q
-
-module _ (s : Style) (f : Field) (xs : List ℕ) (i n r : ℕ) (h : i < length xs) (is : r ≡ into_number (reads s f (text_part n) (get_or xs i 0))) where
+module _ (s : Style) (f : Field) (xs : List ℕ) (i n : ℕ) (h : i < length xs) {r : Option ℕ} (is : r ≡ part_after (reads s f (text_part n) (get_or xs i 0))) where
   raw_step : is_text_from s f (text_part n) (drop i xs) ≡ then_reads (reads s f (text_part n) (get_or xs i 0)) (λ q. is_text_from s f q (drop (i + 1) xs))
   unfolding reads_whole
   raw_step = rw (add-one, drop-cons xs i 0 h)
 
-  pub raw_off : r ≡ 255 → is_text_from s f (text_part n) (drop i xs) ≡ false
-  raw_off e = raw_step ∙ by (reads s f (text_part n) (get_or xs i 0)) (goes_text s f n (get_or xs i 0)) (sym is ∙ e)
+  pub raw_off : r ≡ None → is_text_from s f (text_part n) (drop i xs) ≡ false
+  raw_off e = raw_step ∙ by (reads s f (text_part n) (get_or xs i 0)) (sym is ∙ e)
     where
-      by : (j : Into) → Goes j → into_number j ≡ 255 → then_reads j (λ q. is_text_from s f q (drop (i + 1) xs)) ≡ false
-      by (into p) g k = absurd (omega (arith, g.0))
-      by (bad b) g k = refl
-      by stop g k = refl
+      by : (j : Into) → part_after j ≡ None → then_reads j (λ q. is_text_from s f q (drop (i + 1) xs)) ≡ false
+      by (into p) k = cc
+      by (bad b) k = refl
+      by stop k = refl
 
-  pub raw_on : (r ≡ 255 → ⊥) → is_text_from s f (text_part n) (drop i xs) ≡ is_text_from s f (text_part r) (drop (i + 1) xs)
-  raw_on keep = raw_step ∙ by (reads s f (text_part n) (get_or xs i 0)) (goes_text s f n (get_or xs i 0)) is
+  pub raw_on : {m : ℕ} → r ≡ Some m → is_text_from s f (text_part n) (drop i xs) ≡ is_text_from s f (text_part m) (drop (i + 1) xs)
+  raw_on {m} e = raw_step ∙ by (reads s f (text_part n) (get_or xs i 0)) (goes_text s f n (get_or xs i 0)) (sym is ∙ e)
     where
-      by : (j : Into) → Goes j → r ≡ into_number j → then_reads j (λ q. is_text_from s f q (drop (i + 1) xs)) ≡ is_text_from s f (text_part r) (drop (i + 1) xs)
-      by (into p) g k = rw (k, g.1)
-      by (bad b) g k = absurd (keep k)
-      by stop g k = absurd (keep k)
+      by : (j : Into) → Goes j → part_after j ≡ Some m → then_reads j (λ q. is_text_from s f q (drop (i + 1) xs)) ≡ is_text_from s f (text_part m) (drop (i + 1) xs)
+      by (into p) g k = let same : part_number p ≡ m = cc in rw (← same, g.1)
+      by (bad b) g k = cc
+      by stop g k = cc
 
 pub raw_end : (s : Style) (f : Field) (xs : List ℕ) (i n : ℕ) → length xs ≤ i → is_text_from s f (text_part n) (drop i xs) ≡ eqb n 0
 unfolding reads_whole

@@ -10,7 +10,6 @@
 --     decode_off, encode_off         without escapes text is itself
 --     encode_same                    so is text that is as long encoded
 --     encode_bare, encode_tail       so are octets that no escape concerns, also at the end of a text
---     letter_last                    the last octet that an octet has encoded
 --     encode_text                    what can be written is raw text when encoded
 --     decode_name                    a raw name without escapes, as content-length, is its decoded one, and only it is
 use mathlib.Core.Path.{◌≡◌, refl, sym, ◌∙◌, ap, ap₂, subst}
@@ -32,7 +31,7 @@ use Rattle.headers.specs.Lines.{content_length}
 use Rattle.headers.specs.declared.text.Style.{Style}
 use Rattle.headers.specs.declared.text.Field.{Field}
 use Rattle.headers.specs.declared.text.Field.TheVariants.{Name, Value}
-use Rattle.headers.proofs.Rows.{cond_case, and_left, and_right, and_no, and_yes, and_false, or_no, or_false_left, or_false_right, refuted, every_drop}
+use Rattle.headers.proofs.Rows.{cond_case, and_left, and_right, and_no, and_yes, or_no, refuted, every_drop}
 use Rattle.headers.proofs.Reading.{styled, each_half, missing_high, second_high, tail_high, letter_ascii, high_text, text_is, is_text_text}
 
 -- ---- the table of escapes: each letter is that of its octet, and each octet that of its letter
@@ -81,11 +80,6 @@ contrary : (a b : Bool) → (a ≡ true → b ≡ true) → b ≡ false → a �
 contrary true b h k = let z : ◌≡◌ {A = ℕ} 0 1 = cc (h refl) in absurd (omega arith)
 contrary false b h k = refl
 
--- an octet that no escape stands for has itself for its letter
-other_none : (key to : Escape → ℕ) (x : ℕ) (es : List Escape) → any (λ e. eqb x (key e)) es ≡ false → other_half key to x es ≡ x
-other_none key to x [] h = refl
-other_none key to x (e ∷ es) h = rw (or_false_left (eqb x (key e)) _ h) (other_none key to x es (or_false_right (eqb x (key e)) _ h))
-
 -- the other half, where the escape of 13 is picked by a test
 pub half_is :
     (key to : Escape → ℕ) (s : Style) (x : ℕ)
@@ -110,11 +104,6 @@ escaped_by s x = ap (s.escapes &&◌) (by s.crlf)
         → eqb x (cond c 13 10) || (eqb x 10 || (eqb x 58 || eqb x 92)) ≡ any (λ k. eqb x k.octet) (escape_table (styled s.escapes c))
     by true = rw (or_no (eqb x 92))
     by false = rw (or_no (eqb x 92)) (again (eqb x 10) (eqb x 58 || eqb x 92))
-
-pub letter_last : (s : Style) (x : ℕ) → s.escapes ≡ true → letter_of s x ≡ cond (escaped s x) (letter_of s x) x
-letter_last s x on =
-    cond_case (λ u. letter_of s x ≡ u) (escaped s x) (λ h. refl)
-    (λ h. other_none (λ e. e.octet) (λ e. e.letter) x (escape_table s) (and_false s.escapes _ h on))
 
 -- ---- one step of decoding
 
@@ -142,17 +131,6 @@ no_escape s x (y ∷ ys) h = rw h
 
 -- an escape at place i
 module _ (s : Style) (xs : List ℕ) (i : ℕ) (h : i < length xs) where
-  pub escape_shut : opens s (get_or xs i 0) ≡ false → at_escape s (drop i xs) ≡ false
-  escape_shut k = rw (drop-cons xs i 0) (no_escape s (get_or xs i 0) (drop (suc i) xs) k)
-
-  pub escape_cut : length xs ≤ i + 1 → at_escape s (drop i xs) ≡ false
-  escape_cut k = rw (drop-cons xs i 0, drop_of_length-le xs {i = suc i} (omega arith))
-
-  pub escape_is : opens s (get_or xs i 0) ≡ true → i + 1 < length xs → at_escape s (drop i xs) ≡ is_letter s (get_or xs (i + 1) 0)
-  escape_is k l =
-      let l' : suc i < length xs = omega arith in
-      rw (add-one, drop-cons xs i 0, drop-cons xs (suc i) 0, k)
-
   pub escape_room : at_escape s (drop i xs) ≡ true → i + 1 < length xs
   escape_room k = omega (arith, escape_long s (drop i xs) k, length-drop i xs)
 

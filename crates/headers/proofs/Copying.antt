@@ -1,17 +1,17 @@
 -- Octets copied by blocks. Assumes nothing.
 --     paste_block     a block more, over octets that are copied already
---     paste_through   a block that is read whole before it is written
 --     Upto, upto_..   a copy by blocks, from the first to the last
---     copied_..       what a copy leaves
+--     copied_..       what a copy leaves where it has room
 --     partly_copy, partly_copied   a copy as the next of some parts, and as the first
 --     partly_over     a copy as the last of them, over octets that are written already
-use Prim.Native.Nat.{ℕ, ◌+◌, ◌-◌, ◌≤◌, ◌<◌}
+use Prim.Native.Nat.{ℕ, ◌+◌, ◌-◌, ◌*◌, ◌/◌, ◌≤◌, ◌<◌}
 use mathlib.Core.List.{List, ◌++◌, append_assoc}
 use mathlib.Core.Path.{◌≡◌, refl, ap, sym, subst, ◌∙◌}
-use mathlib.Core.Bool.{true, false, cond}
+use mathlib.Core.Bool.{true, cond}
 use lib.Dec.{leb}
-use lib.ListN.{length, take, drop, length-drop, length-append}
-use lib.Seq.{take_all, take_at, paste, paste-zero, take-paste, drop-paste, take-add, take-take, drop-drop, take-append-le, take-append-add, length-take-le, length_paste_head, length-paste}
+use lib.ListN.{length, take, drop, length-append}
+use lib.Seq.{take_all, take_at, paste, take-paste, drop-paste, take-add, take-take, drop-drop, take-append-le, take-append-add, length-take-le, length_paste_head, length-paste}
+use native.Mathlib.Nat.{add-mul, one-mul, le-div_iff_mul-le, lt-div-mul-add}
 use native.Mathlib.Omega.{arith}
 use borrow.Author.Tests.{le-leb}
 use Rattle.headers.specs.Rows.{copied}
@@ -46,22 +46,6 @@ paste_again d at s k n kn ns fits =
     let none : 0 + n ≡ n = omega arith in
     ap (λ a. paste (paste d at s k) a s n) here ∙ paste_block d at s k 0 n (omega arith) (omega arith) (omega arith) fits ∙ ap (paste d at s) none
 
--- w octets of s from place i on, by way of a row of w octets
-pub paste_through : (d s z block after : List ℕ) (at i w e : ℕ) → length z ≡ w → e ≡ i + w → i + w ≤ length s
-    → block ≡ paste z 0 (take (e - i) (drop i s)) (length (take (e - i) (drop i s))) → after ≡ paste d (at + i) block (length block)
-    → after ≡ paste d (at + i) (drop i s) w
-paste_through d s z block after at i w e long end fits read written =
-    let part = take w (drop i s) in
-    let far : length (drop i s) ≡ length s - i = length-drop i s in
-    let wide : e - i ≡ w = omega arith in
-    let short : length part ≡ w = length-take-le w (drop i s) (omega (arith, far)) in
-    let none : w ≡ 0 + w = omega arith in
-    let is : block ≡ paste z 0 part w = read ∙ ap (λ k. paste z 0 (take k (drop i s)) (length (take k (drop i s)))) wide ∙ ap (paste z 0 part) short in
-    let whole : length block ≡ w = ap length is ∙ length-paste z 0 part w (omega arith) (omega (arith, short)) ∙ long in
-    let same : take w block ≡ part =
-    ap (take w) is ∙ ap (λ k. take k (paste z 0 part w)) none ∙ take-paste z 0 part w (omega arith) (omega (arith, short)) ∙ take-take w w (drop i s) (omega arith) in
-    written ∙ ap (paste d (at + i) block) whole ∙ ap (λ r. take (at + i) d ++ r ++ drop (at + i + w) d) same
-
 -- A copy of s to d₀ by blocks of w: octets up to place i, and perhaps some more, are copied.
 pub record Upto (w : ℕ) (d₀ : List ℕ) (at : ℕ) (s d : List ℕ) (i : ℕ) : Type 0 where
   pub done : ℕ
@@ -71,14 +55,6 @@ pub record Upto (w : ℕ) (d₀ : List ℕ) (at : ℕ) (s d : List ℕ) (i : ℕ
   pub is : d ≡ paste d₀ at s done
 
 module _ (w : ℕ) (d₀ : List ℕ) (at : ℕ) (s : List ℕ) (fits : at + length s ≤ length d₀) where
-  -- before the first block
-  pub upto_none : Upto w d₀ at s d₀ 0
-  upto_none = record { done = 0; onward = omega arith; near = omega arith; most = omega arith; is = paste-zero d₀ at s }
-
-  -- where a block is copied already
-  pub upto_again : (i : ℕ) → w ≤ length s → i ≤ w → d₀ ≡ paste d₀ at s w → Upto w d₀ at s d₀ i
-  upto_again i long early is = record { done = w; onward = early; near = omega arith; most = long; is = is }
-
   pub upto_long : (d : List ℕ) (i : ℕ) → Upto w d₀ at s d i → length d ≡ length d₀
   upto_long d i u = ap length u.is ∙ length-paste d₀ at s u.done (omega (arith, u.most)) u.most
 
@@ -103,13 +79,24 @@ module _ (w : ℕ) (d₀ : List ℕ) (at : ℕ) (s : List ℕ) (fits : at + leng
       ∙ paste_block d₀ at s u.done j w (omega (arith, u.onward)) (omega (arith, u.most)) (omega arith) fits
       ∙ ap (paste d₀ at s) all
 
--- a copy where there is no room, and where there is
-module _ (d : List ℕ) (at : ℕ) (s : List ℕ) where
-  pub copied_none : leb (at + length s) (length d) ≡ false → copied d at s ≡ d
-  copied_none h = ap (λ t. cond t (paste d at s (length s)) d) h
+-- blocks of w octets: where the next begins, that a further one fits, and that none does after the last
+pub block_next : (from k w : ℕ) → from + (k + 1) * w ≡ from + k * w + w
+block_next from k w = omega (arith, add-mul k 1 w, one-mul w)
 
-  pub copied_all : leb (at + length s) (length d) ≡ true → copied d at s ≡ paste d at s (length s)
-  copied_all h = ap (λ t. cond t (paste d at s (length s)) d) h
+pub block_fits : (from k w n : ℕ) → 0 < w → k < (n - from) / w → from + k * w + w ≤ n
+block_fits from k w n some h =
+    let within : (k + 1) * w ≤ n - from = (le-div_iff_mul-le some).0 (omega arith) in
+    omega (arith, block_next from k w)
+
+pub blocks_end : (from k w n : ℕ) → 0 < w → k ≤ (n - from) / w → (n - from) / w ≤ k → n - (from + k * w) < w
+blocks_end from k w n some h g =
+    let last : (n - from) / w ≡ k = omega arith in
+    let short : n - from < k * w + w = subst (λ j. n - from < j * w + w) last (lt-div-mul-add some) in
+    omega arith
+
+-- a copy where there is room
+pub copied_all : (d : List ℕ) (at : ℕ) (s : List ℕ) → leb (at + length s) (length d) ≡ true → copied d at s ≡ paste d at s (length s)
+copied_all d at s h = ap (λ t. cond t (paste d at s (length s)) d) h
 
 -- a copy of the first n octets of s
 pub copied_front : (d : List ℕ) (at : ℕ) (s : List ℕ) (n : ℕ) → n ≤ length s → at + n ≤ length d → copied d at (take n s) ≡ paste d at s n

@@ -4,23 +4,27 @@
 --     FirstStop      the first octet of a block that fails
 --     stretch_..     the stretch at the front of a row: there is exactly one
 use mathlib.Core.Path.{◌≡◌, refl, sym, ◌∙◌, ap}
-use mathlib.Core.Bool.{Bool, true, false, cond, ◌&&◌, ◌||◌, and_assoc, and-true}
+use mathlib.Core.Bool.{Bool, true, false, cond, ◌&&◌, and_assoc, and-true}
 use mathlib.Core.List.{List, [], ◌∷◌, ◌++◌, append-nil}
 use mathlib.Core.Logic.{◌⊎◌, inl, inr, ⊎_elim}
 use Prim.Native.Nat.{ℕ, ◌+◌, ◌-◌, ◌≤◌, ◌<◌, min}
 use native.Mathlib.Numerals.{add-one, one-add}
 use native.Mathlib.Omega.{arith}
-use lib.Dec.{eqb, ltb, leb}
+use lib.Dec.{eqb, ltb}
 use lib.ListN.{length, take, drop, get_or, drop_of_length-le, take-append-drop, length-take, length-drop}
 use lib.Seq.{drop-cons, drop-drop, take_all, take-take, length-take-le}
-use borrow.Author.Tests.{not-true, not-false, eqb-true, ltb-true, ltb-false}
+use borrow.Author.Tests.{not-false, eqb-true, ltb-true, ltb-false}
 use Rattle.headers.specs.Rows.{every}
-use Rattle.headers.specs.Stretches.{span, plain_in, not_back, Stretch}
-use Rattle.headers.proofs.Rows.{cond_case, and_left, and_right, or_false_right, refuted, never, every_step, every_end, every_drop, every_left}
+use Rattle.headers.specs.Stretches.{span, not_back, Stretch}
+use Rattle.headers.proofs.Rows.{cond_case, and_left, and_right, refuted, never, every_step, every_end, every_drop, every_left}
 
 -- a part's length
 pub part_long : (l : List ℕ) (i e : ℕ) → i ≤ e → e ≤ length l → length (take (e - i) (drop i l)) ≡ e - i
 part_long l i e ie el = simp (length-take, length-drop) (omega arith)
+
+-- a row's rest, as it is handed on
+pub part_rest : (l : List ℕ) (i : ℕ) → i ≤ length l → take (length l - i) (drop i l) ≡ drop i l
+part_rest l i h = take_all (length l - i) (drop i l) (simp length-drop (omega arith))
 
 module _ (p : ℕ → Bool) where
   span_every : (xs ys : List ℕ) → every p xs ≡ true → span p (xs ++ ys) ≡ length xs + span p ys
@@ -230,18 +234,6 @@ stretch_span xs =
 
 pub stretch_at : (xs : List ℕ) (n : ℕ) → n ≡ span not_back xs → Stretch xs n
 stretch_at xs n e = rw e (stretch_span xs)
-
--- octets that no stop of header text ends have no backslash where it is one of the stops
-pub back_on : (s : List ℕ) (i : ℕ) {k : ℕ} → i ≤ length s → k ≡ span (plain_in (record { cr = 92; colon = 92; back = 92; top = 255 })) (take (length s - i) (drop i s))
-    → (i + k ≤ length s) × (i + k + span not_back (drop (i + k) s) ≡ i + span not_back (drop i s))
-back_on s i {k} h e =
-    let p : ℕ → Bool = plain_in (record { cr = 92; colon = 92; back = 92; top = 255 }) in
-    let (same, fits) = span_rest p s i h e in
-    let also : (x : ℕ) → p x ≡ true → not_back x ≡ true =
-    λ x t. rw (or_false_right (eqb x 10 || eqb x 92 || eqb x 92) (eqb x 92) (not-true _ (and_left _ (leb x 255) t))) refl in
-    let inside = span_inside p not_back also (drop i s) in
-    let there : drop (span p (drop i s)) (drop i s) ≡ drop (i + k) s = drop-drop (span p (drop i s)) i s ∙ ap (λ n. drop n s) (sym same) in
-    (fits, omega (arith, same, inside, ap (span not_back) there))
 
 stretch_is : (xs : List ℕ) (n : ℕ) → Stretch xs n → n ≡ span not_back xs
 stretch_is xs n s =

@@ -1,6 +1,6 @@
 -- Characters of UTF-8 in numbers, as the code has them: what one octet does to a character that is under way, and whole characters at the
 -- front of a row. Assumes nothing.
-use Rattle.std.specs.Prelude.{◌≡◌, Bool, cond, ◌&&◌, ◌||◌, List, [], ◌∷◌, ◌++◌, ℕ, ◌+◌, ◌-◌, ◌≤◌, length, take, drop, get_or, eqb, leb, ltb}
+use Rattle.std.specs.Prelude.{◌≡◌, Option, Some, None, Bool, cond, ◌&&◌, ◌||◌, List, [], ◌∷◌, ◌++◌, ℕ, ◌+◌, ◌-◌, ◌≤◌, length, take, drop, get_or, eqb, leb, ltb}
 use Rattle.headers.specs.Rows.{every}
 use Rattle.headers.specs.declared.text.Style.{Style}
 use Rattle.headers.specs.Text.{missing, tail, second, ascii, Wide, Part, fresh, back, led, tails, Into, into, bad, stop}
@@ -22,11 +22,11 @@ text_part n = cond (eqb n 92) back (utf8_part n)
 abbrev pub is_begun : Style → ℕ → Bool
 is_begun s n = (s.escapes && eqb n 92) || (eqb n 1 || (eqb n 2 || ltb 0 (missing n)))
 
--- what one octet does, as such a number; 255 where it does not go on
-abbrev pub into_number : Into → ℕ
-into_number (into p) = part_number p
-into_number (bad k) = 255
-into_number stop = 255
+-- what one octet does, as such a number; none where it does not go on
+abbrev pub part_after : Into → Option ℕ
+part_after (into p) = Some (part_number p)
+part_after (bad k) = None
+part_after stop = None
 
 -- a character of more than one octet stands whole at the front of a row
 abbrev pub is_wide : List ℕ → Bool
@@ -43,6 +43,10 @@ wide_front xs = cond (is_wide xs) (missing (get_or xs 0 0) + 1) 0
 unfoldable pub front_character : List ℕ → ℕ
 front_character [] = 0
 front_character (x ∷ xs) = cond (ascii x) 1 (wide_front (x ∷ xs))
+
+-- such a number of octets, or none
+abbrev pub whole : ℕ → Option ℕ
+whole n = cond (eqb n 0) None (Some n)
 
 -- characters of more than one octet, one after another
 pub data Wides : List ℕ → Type 0 where

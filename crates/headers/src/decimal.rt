@@ -1,47 +1,32 @@
 // Decimal numbers.
 ghost use Rattle.std.specs.Prelude.{◌≡◌, ◌++◌, ◌≤◌, length, drop};
 ghost use Rattle.headers.specs.Numbers.{amount, digits, shortest};
-ghost use Rattle.headers.specs.Answers.{left_in, read_says, decimal_answer, decimal_says};
+ghost use Rattle.headers.specs.Answers.{left_in, read_says, decimal_answer, written_says};
 
-// What reading a decimal gives.
-#[derive(Clone, Copy)]
-pub enum DecimalRead {
-    Number(u32),
-    Invalid,
-}
-
-// What writing a decimal gives: its length, or no room for it.
-#[derive(Clone, Copy)]
-pub enum DecimalWritten {
-    Length(usize),
-    TooShort,
-}
+use crate::octets::TooShort;
 
 // The number that s says in decimal, leading zeros allowed, if it is digits alone, at least one, and at most limit.
-pub fn read_decimal(s: &[u8], limit: u32) -> DecimalRead
+pub fn read_decimal(s: &[u8], limit: u32) -> Option<u32>
     ensures { read_says result ≡ amount limit s.now }
 {
     if s.len() == 0 {
-        return DecimalRead::Invalid;
+        return None;
     }
-    let most = limit as u64;
+    let most = u64::from(limit);
     let mut sum: u64 = 0;
-    let mut i = 0;
-    while i < s.len() {
-        let x = s[i];
-        if x < 48 {
-            return DecimalRead::Invalid;
+    for x in s {
+        if *x < 48 {
+            return None;
         }
-        if 57 < x {
-            return DecimalRead::Invalid;
+        if 57 < *x {
+            return None;
         }
-        sum = sum * 10 + ((x - 48) as u64);
+        sum = sum * 10 + u64::from(*x - 48);
         if most < sum {
-            return DecimalRead::Invalid;
+            return None;
         }
-        i += 1;
     }
-    DecimalRead::Number(sum as u32)
+    Some(sum as u32)
 }
 
 // How many octets the shortest decimal of n has.
@@ -63,23 +48,21 @@ fn put_digits(d: &mut [u8], n: u64, k: usize)
     ensures { d.new ≡ digits k n ++ drop k d.old }
 {
     let mut m = n;
-    let mut i = k;
-    while 0 < i {
-        i -= 1;
+    for i in (0..k).rev() {
         d[i] = 48 + ((m % 10) as u8);
         m = m / 10;
     }
 }
 
-// The shortest decimal of n at the front of d.
-pub fn write_decimal(d: &mut [u8], n: u64) -> DecimalWritten
-    ensures { (decimal_says result ≡ decimal_answer (length d.old) n)
+// The shortest decimal of n at the front of d; its length.
+pub fn write_decimal(d: &mut [u8], n: u64) -> Result<usize, TooShort>
+    ensures { (written_says result ≡ decimal_answer (length d.old) n)
         × (d.new ≡ left_in (decimal_answer (length d.old) n) (shortest n) d.old) }
 {
     let k = decimal_length(n);
     if d.len() < k {
-        return DecimalWritten::TooShort;
+        return Err(TooShort);
     }
     put_digits(d, n, k);
-    DecimalWritten::Length(k)
+    Ok(k)
 }

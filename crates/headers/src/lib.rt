@@ -10,15 +10,14 @@ pub mod block; // the header block
 pub mod record; // one entry record, from raw text
 pub mod line; // one raw header line, from an entry
 
-pub use block::{EntryAt, FirstValue, Found, Lengths, Span, entry_at, find, is_valid};
-pub use decimal::{DecimalRead, DecimalWritten, decimal_length, read_decimal, write_decimal};
+pub use block::{FirstValue, Lengths, Malformed, Span, entry_at, find, is_valid};
+pub use decimal::{decimal_length, read_decimal, write_decimal};
 pub use line::{
-    LINE_MAX, LineLength, LineWritten, TEXT_MAX, entry_length, line_length, write_encoded,
-    write_line,
+    LINE_MAX, LineError, TEXT_MAX, Unwritable, entry_length, line_length, write_encoded, write_line,
 };
-pub use octets::{copy, equal};
+pub use octets::{TooShort, copy, equal};
 pub use plain::{Stops, calm_from, plain_span, stretch};
-pub use record::{Known, RecordWritten, write_decoded, write_known};
+pub use record::{Known, write_decoded, write_known};
 pub use text::{
     Field, Style, decoded_length, encoded_length, is_letter, is_open, is_raw, is_stop, is_writable,
 };

@@ -1,14 +1,14 @@
 // One raw header line, written from an entry's name and value.
-ghost use Rattle.std.specs.Prelude.{◌≡◌, true, cond, ◌&&◌, ◌+◌, ◌≤◌, ◌<◌, length, take, drop, leb, ltb};
+ghost use Rattle.std.specs.Prelude.{◌≡◌, cond, ◌&&◌, ◌+◌, ◌≤◌, ◌<◌, length, take, drop, leb, ltb, is_some, IfSome};
 ghost use Rattle.headers.specs.Rows.{every};
 ghost use Rattle.headers.specs.Text.{ascii, is_utf8};
 ghost use Rattle.headers.specs.Escapes.{escaped, writable, encode};
 ghost use Rattle.headers.specs.Stretches.{plain_line};
 ghost use Rattle.headers.specs.Lines.{entry_of, can_stand, written_line};
 ghost use Rattle.headers.specs.declared.text.Field.TheVariants.{Name};
-ghost use Rattle.headers.specs.Answers.{left_in, Puts, writable_answer, length_answer, length_says, encoded_answer, line_answer, line_says};
+ghost use Rattle.headers.specs.Answers.{left_in, Puts, writable_answer, length_answer, length_says, encoded_answer, line_answer, written_says, line_says};
 
-use crate::octets::{both_fit, copy};
+use crate::octets::{TooShort, both_fit, copy};
 use crate::text::{
     Field, Style, can_write, encoded_length, encoded_width, has_escape, is_writable, put_encoded,
 };
@@ -20,26 +20,41 @@ pub const LINE_MAX: usize = 512;
 // The octets of its name and value: the line has its colon too.
 pub const TEXT_MAX: usize = 511;
 
-// The length of an entry's raw line, its line end not counted; or that it cannot be written (53).
+// That an entry, or a text of one, cannot be written (53).
 #[derive(Clone, Copy)]
-pub enum LineLength {
-    Length(usize),
-    Unwritable,
-}
+pub struct Unwritable;
 
-// What writing a line gives: its length with its line end; or that the entry cannot be written (53), or has no room (56).
+// Why a line is not written: the entry cannot be written (53), or has no room (56).
 #[derive(Clone, Copy)]
-pub enum LineWritten {
-    Length(usize),
+pub enum LineError {
     Unwritable,
     TooShort,
 }
 
-// What is known of short text: whether each octet of it can be written; if so, how long it is encoded, and whether every octet is below 128.
+impl From<Unwritable> for LineError {
+    ghost use Rattle.headers.specs.declared.line.LineError.{LineError};
+
+    ghost from_gives = { λ _ e. e ≡ LineError.Unwritable };
+
+    fn from(_: Unwritable) -> LineError {
+        LineError::Unwritable
+    }
+}
+
+impl From<TooShort> for LineError {
+    ghost use Rattle.headers.specs.declared.line.LineError.{LineError};
+
+    ghost from_gives = { λ _ e. e ≡ LineError.TooShort };
+
+    fn from(_: TooShort) -> LineError {
+        LineError::TooShort
+    }
+}
+
+// What is known of short text, each octet of which can be written: how long it is encoded, and whether every octet is below 128.
 #[derive(Clone, Copy)]
 pub(crate) struct Measured {
     pub length: usize,
-    pub writable: bool,
     pub ascii: bool,
 }
 
@@ -54,14 +69,14 @@ pub(crate) struct Tally {
 fn larger(a: u8, b: u8) -> u8
     ensures { ltb result 128 ≡ ltb a 128 && ltb b 128 }
 {
-    if a < b { b } else { a }
+    a.max(b)
 }
 
 // One where the octet is escaped and is to be counted.
 fn escape_count(style: Style, x: u8, counts: bool) -> u8
     ensures { result ≡ cond (escaped style x && counts) 1 0 }
 {
-    if has_escape(style, x) & counts { 1 } else { 0 }
+    u8::from(has_escape(style, x) & counts)
 }
 
 // One pass over a block, in which octets from a place on are counted: every octet is looked at, so that many are at once.
@@ -72,11 +87,9 @@ fn tally_block(block: &[u8], from: usize, style: Style) -> Tally
 {
     let mut escapes = 0u8;
     let mut most = 0u8;
-    let mut i = 0usize;
-    while i < block.len() {
-        escapes += escape_count(style, block[i], from <= i);
-        most = larger(most, block[i]);
-        i += 1;
+    for (i, x) in block.iter().enumerate() {
+        escapes += escape_count(style, *x, from <= i);
+        most = larger(most, *x);
     }
     Tally { escapes, most }
 }
@@ -85,25 +98,22 @@ fn tally_block(block: &[u8], from: usize, style: Style) -> Tally
 // octets that the block before it has too are not counted again.
 fn measure_blocks(text: &[u8], style: Style) -> Measured
     requires { (32 ≤ length text.now) × (length text.now ≤ 511) }
-    ensures { (result.writable ≡ true)
-        × (result.length ≡ length (encode style text.now))
+    ensures { (result.length ≡ length (encode style text.now))
         × (result.ascii ≡ every ascii text.now) }
 {
     let mut n = text.len();
     let mut most = 0u8;
-    let mut i = 0usize;
-    while 32 <= text.len() - i {
+    for k in 0..text.len() / 32 {
+        let i = k * 32;
         let e = i + 32;
         let t = tally_block(&text[i..e], 0, style);
-        n += t.escapes as usize;
+        n += usize::from(t.escapes);
         most = larger(most, t.most);
-        i = e;
     }
     let last = text.len() - 32;
-    let t = tally_block(&text[last..], i - last, style);
+    let t = tally_block(&text[last..], text.len() / 32 * 32 - last, style);
     Measured {
-        length: n + (t.escapes as usize),
-        writable: true,
+        length: n + usize::from(t.escapes),
         ascii: larger(most, t.most) < 128,
     }
 }
@@ -111,62 +121,52 @@ fn measure_blocks(text: &[u8], style: Style) -> Measured
 // The same of text that has no block: as the front of one that is filled with 0, which is not escaped.
 fn measure_short(text: &[u8], style: Style) -> Measured
     requires { length text.now < 32 }
-    ensures { (result.writable ≡ true)
-        × (result.length ≡ length (encode style text.now))
+    ensures { (result.length ≡ length (encode style text.now))
         × (result.ascii ≡ every ascii text.now) }
 {
     let mut block = [0u8; 32];
     copy(&mut block, 0, text);
     let t = tally_block(&block, 0, style);
     Measured {
-        length: text.len() + (t.escapes as usize),
-        writable: true,
+        length: text.len() + usize::from(t.escapes),
         ascii: t.most < 128,
     }
 }
 
-// One pass over short text, octet by octet.
-fn measure_each(text: &[u8], style: Style, field: Field) -> Measured
+// One pass over short text, octet by octet; nothing where an octet cannot be written.
+fn measure_each(text: &[u8], style: Style, field: Field) -> Option<Measured>
     requires { length text.now ≤ 511 }
-    ensures { (result.writable ≡ every (writable style field) text.now)
-        × (result.writable ≡ true → (result.length ≡ length (encode style text.now)) × (result.ascii ≡ every ascii text.now)) }
+    ensures { (is_some result ≡ every (writable style field) text.now)
+        × IfSome result (λ m. (m.length ≡ length (encode style text.now)) × (m.ascii ≡ every ascii text.now)) }
 {
     let mut n = 0u16;
     let mut most = 0u8;
-    let mut i = 0usize;
-    while i < text.len() {
-        let x = text[i];
-        if !can_write(style, field, x) {
-            return Measured {
-                length: 0,
-                writable: false,
-                ascii: false,
-            };
+    for x in text {
+        if !can_write(style, field, *x) {
+            return None;
         }
-        n += encoded_width(style, x);
-        most = larger(most, x);
-        i += 1;
+        n += encoded_width(style, *x);
+        most = larger(most, *x);
     }
-    Measured {
-        length: n as usize,
-        writable: true,
+    Some(Measured {
+        length: usize::from(n),
         ascii: most < 128,
-    }
+    })
 }
 
-// One pass over short text.
-fn measure(text: &[u8], style: Style, field: Field) -> Measured
+// One pass over short text; nothing where an octet cannot be written.
+fn measure(text: &[u8], style: Style, field: Field) -> Option<Measured>
     requires { length text.now ≤ 511 }
-    ensures { (result.writable ≡ every (writable style field) text.now)
-        × (result.writable ≡ true → (result.length ≡ length (encode style text.now)) × (result.ascii ≡ every ascii text.now)) }
+    ensures { (is_some result ≡ every (writable style field) text.now)
+        × IfSome result (λ m. (m.length ≡ length (encode style text.now)) × (m.ascii ≡ every ascii text.now)) }
 {
     if !style.escapes | (text.len() < 4) {
         return measure_each(text, style, field);
     }
     if text.len() < 32 {
-        return measure_short(text, style);
+        return Some(measure_short(text, style));
     }
-    measure_blocks(text, style)
+    Some(measure_blocks(text, style))
 }
 
 // Whether the text is UTF-8, where it is known whether every octet is below 128.
@@ -181,25 +181,17 @@ fn is_known_utf8(text: &[u8], low: bool) -> bool
 }
 
 // How long short text is encoded; or that an octet of it cannot be written, or that it is not UTF-8 (53).
-fn text_length(text: &[u8], style: Style, field: Field) -> LineLength
+fn text_length(text: &[u8], style: Style, field: Field) -> Result<usize, Unwritable>
     requires { length text.now ≤ 511 }
     ensures { length_says result ≡ writable_answer (can_stand style field text.now) (length (encode style text.now)) }
 {
-    let m = measure(text, style, field);
-    if !m.writable {
-        return LineLength::Unwritable;
-    }
+    let Some(m) = measure(text, style, field) else {
+        return Err(Unwritable);
+    };
     if !is_known_utf8(text, m.ascii) {
-        return LineLength::Unwritable;
+        return Err(Unwritable);
     }
-    LineLength::Length(m.length)
-}
-
-// The place a, or the end n where that is less.
-fn place(a: usize, n: usize) -> usize
-    ensures { (result ≤ n) × (a ≤ n → result ≡ a) × (n < a → result ≡ n) }
-{
-    if a < n { a } else { n }
+    Ok(m.length)
 }
 
 // Whether each octet of the name at the front of a text can be written there: where there are escapes, any can.
@@ -209,7 +201,7 @@ fn is_name(text: &[u8], name: usize, style: Style) -> bool
     if style.escapes {
         return true;
     }
-    let e = place(name, text.len());
+    let e = name.min(text.len());
     is_writable(&text[0..e], style, Field::Name)
 }
 
@@ -221,7 +213,7 @@ fn are_utf8(text: &[u8], name: usize, low: bool) -> bool
     if low {
         return true;
     }
-    let e = place(name, text.len());
+    let e = name.min(text.len());
     if !is_utf8(&text[0..e]) {
         return false;
     }
@@ -229,52 +221,47 @@ fn are_utf8(text: &[u8], name: usize, low: bool) -> bool
 }
 
 // How long the raw line of an entry is, its line end not counted.
-pub fn line_length(name: &[u8], value: &[u8], style: Style) -> LineLength
+pub fn line_length(name: &[u8], value: &[u8], style: Style) -> Result<usize, Unwritable>
     ensures { length_says result ≡ length_answer style (entry_of name.now value.now) }
 {
     if name.len() == 0 {
-        return LineLength::Unwritable;
+        return Err(Unwritable);
     }
     if !both_fit(name.len(), value.len(), TEXT_MAX) {
-        return LineLength::Unwritable;
+        return Err(Unwritable);
     }
-    let LineLength::Length(n) = text_length(name, style, Field::Name) else {
-        return LineLength::Unwritable;
-    };
-    let LineLength::Length(v) = text_length(value, style, Field::Value) else {
-        return LineLength::Unwritable;
-    };
+    let n = text_length(name, style, Field::Name)?;
+    let v = text_length(value, style, Field::Value)?;
     if !both_fit(n, v, TEXT_MAX) {
-        return LineLength::Unwritable;
+        return Err(Unwritable);
     }
-    LineLength::Length(n + 1 + v)
+    Ok(n + 1 + v)
 }
 
 // The same of a name and the value after it in one text, the name's length being given: one pass over both, and one more where an octet
 // is 128 or more.
-pub fn entry_length(text: &[u8], name: usize, style: Style) -> LineLength
+pub fn entry_length(text: &[u8], name: usize, style: Style) -> Result<usize, Unwritable>
     ensures { length_says result ≡ length_answer style (entry_of (take name text.now) (drop name text.now)) }
 {
     if (name == 0) | (text.len() == 0) {
-        return LineLength::Unwritable;
+        return Err(Unwritable);
     }
     if TEXT_MAX < text.len() {
-        return LineLength::Unwritable;
+        return Err(Unwritable);
     }
-    let m = measure(text, style, Field::Value);
-    if !m.writable {
-        return LineLength::Unwritable;
-    }
+    let Some(m) = measure(text, style, Field::Value) else {
+        return Err(Unwritable);
+    };
     if !is_name(text, name, style) {
-        return LineLength::Unwritable;
+        return Err(Unwritable);
     }
     if !are_utf8(text, name, m.ascii) {
-        return LineLength::Unwritable;
+        return Err(Unwritable);
     }
     if TEXT_MAX < m.length {
-        return LineLength::Unwritable;
+        return Err(Unwritable);
     }
-    LineLength::Length(m.length + 1)
+    Ok(m.length + 1)
 }
 
 // The raw line of an entry, with octet 10 behind it, at the front of d; its length.
@@ -322,34 +309,37 @@ fn encoded_fit(name: &[u8], value: &[u8], style: Style, most: usize) -> bool
 }
 
 // The raw line of any entry, with octet 10 behind it, at the front of d; or that it has no room (56).
-pub fn write_encoded(d: &mut [u8], name: &[u8], value: &[u8], style: Style) -> LineWritten
-    ensures { (line_says result ≡ encoded_answer style (length d.old) (entry_of name.now value.now))
+pub fn write_encoded(
+    d: &mut [u8],
+    name: &[u8],
+    value: &[u8],
+    style: Style,
+) -> Result<usize, TooShort>
+    ensures { (written_says result ≡ encoded_answer style (length d.old) (entry_of name.now value.now))
         × (d.new ≡ left_in (encoded_answer style (length d.old) (entry_of name.now value.now))
         (written_line style (entry_of name.now value.now)) d.old) }
 {
     if d.len() < 2 {
-        return LineWritten::TooShort;
+        return Err(TooShort);
     }
     if style.escapes {
         if !encoded_fit(name, value, style, d.len() - 2) {
-            return LineWritten::TooShort;
+            return Err(TooShort);
         }
-        return LineWritten::Length(put_line(d, name, value, style));
+        return Ok(put_line(d, name, value, style));
     }
     if !both_fit(name.len(), value.len(), d.len() - 2) {
-        return LineWritten::TooShort;
+        return Err(TooShort);
     }
-    LineWritten::Length(put_plain_line(d, name, value))
+    Ok(put_plain_line(d, name, value))
 }
 
 // The same of an entry that can be written, or that it cannot be (53), or has no room (56).
-pub fn write_line(d: &mut [u8], name: &[u8], value: &[u8], style: Style) -> LineWritten
+pub fn write_line(d: &mut [u8], name: &[u8], value: &[u8], style: Style) -> Result<usize, LineError>
     ensures { (line_says result ≡ line_answer style (length d.old) (entry_of name.now value.now))
         × (d.new ≡ left_in (line_answer style (length d.old) (entry_of name.now value.now))
         (written_line style (entry_of name.now value.now)) d.old) }
 {
-    let LineLength::Length(_) = line_length(name, value, style) else {
-        return LineWritten::Unwritable;
-    };
-    write_encoded(d, name, value, style)
+    line_length(name, value, style)?;
+    Ok(write_encoded(d, name, value, style)?)
 }

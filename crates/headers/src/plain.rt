@@ -1,7 +1,16 @@
 // Stretches of octets: how many go on to the next that is not plain, or to the next backslash.
-ghost use Rattle.std.specs.Prelude.{◌≡◌, ℕ, ◌+◌, ◌≤◌, length, take, drop, true};
+ghost use Rattle.std.specs.Prelude.{◌≡◌, ℕ, Bool, ◌+◌, ◌≤◌, length, drop, true};
 ghost use Rattle.headers.specs.Rows.{every};
 ghost use Rattle.headers.specs.Stretches.{span, plain_in, calm, not_back, Stretch};
+
+// A test of an octet.
+pub(crate) trait OctetTest: Copy {
+    ghost test: { Self → ℕ → Bool };
+
+    // Whether the octet passes.
+    fn passes(self, x: u8) -> bool
+        ensures { result ≡ test self x };
+}
 
 // The octets that end a stretch beside 10: 10 again in the place of one that does not. An octet above top ends it too.
 #[derive(Clone, Copy)]
@@ -13,137 +22,83 @@ pub struct Stops {
 }
 
 // Whether header text takes the octet as it is.
-fn is_plain(stops: Stops, x: u8) -> bool
-    ensures { result ≡ plain_in stops x }
-{
-    !((x == 10) | (x == stops.cr) | (x == stops.colon) | (x == stops.back)) & (x <= stops.top)
+impl OctetTest for Stops {
+    ghost test = { plain_in };
+
+    fn passes(self, x: u8) -> bool {
+        !((x == 10) | (x == self.cr) | (x == self.colon) | (x == self.back)) & (x <= self.top)
+    }
 }
 
-// Whether header text takes every octet of a block as it stands: every octet is looked at, so that many are at once.
-fn is_all_plain(s: &[u8], stops: Stops) -> bool
-    ensures { result ≡ every (plain_in stops) s.now }
+// Octets that are none of what stops have in practice.
+#[derive(Clone, Copy)]
+struct Calm {
+    top: u8,
+}
+
+// One comparison and two for 10, 13, 58, 92 and all above top.
+impl OctetTest for Calm {
+    ghost test = { λ c. calm c.top };
+
+    fn passes(self, x: u8) -> bool {
+        (14 <= x) & (x <= self.top) & (x != 58) & (x != 92)
+    }
+}
+
+// Octets that are no backslash.
+#[derive(Clone, Copy)]
+struct NotBack;
+
+impl OctetTest for NotBack {
+    ghost test = { λ _. not_back };
+
+    fn passes(self, x: u8) -> bool {
+        x != 92
+    }
+}
+
+// Whether every octet passes: every octet is looked at, so that many are at once.
+pub(crate) fn is_all<T: OctetTest>(s: &[u8], test: T) -> bool
+    ensures { result ≡ every (T.test test) s.now }
 {
     let mut ok = true;
-    let mut i = 0usize;
-    while i < s.len() {
-        ok = ok & is_plain(stops, s[i]);
-        i += 1;
+    for x in s {
+        ok = ok & test.passes(*x);
     }
     ok
 }
 
-// How many octets at the front of s are in whole blocks that header text takes as they stand.
-fn plain_blocks(s: &[u8], stops: Stops) -> usize
-    ensures { (result ≤ length s.now) × (result + span (plain_in stops) (drop result s.now) ≡ span (plain_in stops) s.now) }
+// How many octets at the front of s are in whole blocks that pass. The blocks are larger than the first one: where they were as small,
+// the loop over one would be unrolled before it is made one over many octets at once.
+fn whole_blocks<T: OctetTest>(s: &[u8], test: T) -> usize
+    ensures { (result ≤ length s.now) × (result + span (T.test test) (drop result s.now) ≡ span (T.test test) s.now) }
 {
-    let mut i = 0usize;
-    while 32 <= s.len() - i {
-        let e = i + 32;
-        if is_all_plain(&s[i..e], stops) {
-            i = e;
-        } else {
-            return i;
+    for k in 0..s.len() / 64 {
+        let at = k * 64;
+        if !is_all(&s[at..at + 64], test) {
+            return at;
         }
     }
-    i
+    s.len() / 64 * 64
 }
 
-// The place of the first octet of a block that header text does not take as it stands, or 32: every octet is looked at here too.
-fn first_stop(s: &[u8], stops: Stops) -> u8
+// The place of the first octet of a block that does not pass, or 32: every octet is looked at here too.
+fn first_stop<T: OctetTest>(s: &[u8], test: T) -> u8
     requires { length s.now ≡ 32 }
-    ensures { result ≡ span (plain_in stops) s.now }
+    ensures { result ≡ span (T.test test) s.now }
 {
     let mut k = 32u8;
-    let mut i = 0usize;
-    while i < s.len() {
-        let c = if is_plain(stops, s[i]) { 32 } else { i as u8 };
-        k = if c < k { c } else { k };
-        i += 1;
+    for (i, x) in s.iter().enumerate() {
+        let c = if test.passes(*x) { 32 } else { i as u8 };
+        k = c.min(k);
     }
     k
 }
 
-// How many octets at the front of s header text takes as they stand. The first block gives the place at once, as most stretches are
-// short; long ones go on by whole blocks; what is left is less than a block.
-fn any_span(s: &[u8], stops: Stops) -> usize
-    ensures { result ≡ span (plain_in stops) s.now }
-{
-    let mut i = 0usize;
-    while 32 <= s.len() - i {
-        let e = i + 32;
-        let k = first_stop(&s[i..e], stops) as usize;
-        i += k;
-        if k < 32 {
-            return i;
-        }
-        i += plain_blocks(&s[i..], stops);
-    }
-    while i < s.len() {
-        if is_plain(stops, s[i]) {
-            i += 1;
-        } else {
-            return i;
-        }
-    }
-    i
-}
-
-// Whether the octet is none that any stops have in practice: one comparison and two for 10, 13, 58, 92 and all above top.
-fn is_calm(top: u8, x: u8) -> bool
-    ensures { result ≡ calm top x }
-{
-    (14 <= x) & (x <= top) & (x != 58) & (x != 92)
-}
-
-// Whether every octet of a block is such.
-fn is_all_calm(s: &[u8], top: u8) -> bool
-    ensures { result ≡ every (calm top) s.now }
-{
-    let mut ok = true;
-    let mut i = 0usize;
-    while i < s.len() {
-        ok = ok & is_calm(top, s[i]);
-        i += 1;
-    }
-    ok
-}
-
-// How far whole blocks of such octets go on from a place of s. They are larger than the first block: where they were as small, the loop
-// over one would be unrolled before it is made one over many octets at once.
-fn calm_blocks(s: &[u8], from: usize, top: u8) -> usize
-    requires { from ≤ length s.now }
-    ensures { (result ≤ length s.now) × (from ≤ result) × (result + span (calm top) (drop result s.now) ≡ from + span (calm top) (drop from s.now)) }
-{
-    let mut i = from;
-    while 64 <= s.len() - i {
-        let e = i + 64;
-        if is_all_calm(&s[i..e], top) {
-            i = e;
-        } else {
-            return i;
-        }
-    }
-    i
-}
-
-// The place of the first octet of a block that is not calm, or 32.
-fn first_not_calm(s: &[u8], top: u8) -> u8
-    requires { length s.now ≡ 32 }
-    ensures { result ≡ span (calm top) s.now }
-{
-    let mut k = 32u8;
-    let mut i = 0usize;
-    while i < s.len() {
-        let c = if is_calm(top, s[i]) { 32 } else { i as u8 };
-        k = if c < k { c } else { k };
-        i += 1;
-    }
-    k
-}
-
-// A place of s up to which octets from i on are calm, found by blocks: the octet there may be calm too.
-pub fn calm_from(s: &[u8], i: usize, top: u8) -> usize
-    ensures { (i ≤ result) × (result ≤ i + span (calm top) (drop i s.now)) }
+// A place of s up to which octets from i on pass, found by blocks: the octet there may pass too. The first block gives the place at
+// once, as most stretches are short; long ones go on by whole blocks.
+fn passed_from<T: OctetTest>(s: &[u8], i: usize, test: T) -> usize
+    ensures { (i ≤ result) × (result ≤ i + span (T.test test) (drop i s.now)) }
 {
     if s.len() <= i {
         return i;
@@ -152,11 +107,38 @@ pub fn calm_from(s: &[u8], i: usize, top: u8) -> usize
         return i;
     }
     let e = i + 32;
-    let k = first_not_calm(&s[i..e], top) as usize;
+    let k = usize::from(first_stop(&s[i..e], test));
     if k < 32 {
         return i + k;
     }
-    calm_blocks(s, e, top)
+    e + whole_blocks(&s[e..], test)
+}
+
+// A place of s up to which octets from i on are calm, found by blocks: the octet there may be calm too.
+pub fn calm_from(s: &[u8], i: usize, top: u8) -> usize
+    ensures { (i ≤ result) × (result ≤ i + span (calm top) (drop i s.now)) }
+{
+    passed_from(s, i, Calm { top })
+}
+
+// How many octets at the front of s pass a test. What passes a quicker one, which is as strict or stricter, is found by blocks.
+fn front<Q: OctetTest, T: OctetTest>(s: &[u8], quick: Q, test: T) -> usize
+    requires { (x : ℕ) → Q.test quick x ≡ true → T.test test x ≡ true }
+    ensures { result ≡ span (T.test test) s.now }
+{
+    let mut i = 0usize;
+    // A cursor: its step is what the search by blocks passes.
+    while i < s.len() {
+        i = passed_from(s, i, quick);
+        if s.len() <= i {
+            return i;
+        }
+        if !test.passes(s[i]) {
+            return i;
+        }
+        i += 1;
+    }
+    i
 }
 
 // Whether calm octets are none of the stops, which have every octet up to 255.
@@ -169,60 +151,14 @@ fn is_usual(stops: Stops) -> bool
         & (stops.top == 255)
 }
 
-// How many octets at the front of s header text takes as they stand, where it takes calm ones.
-fn usual_span(s: &[u8], stops: Stops) -> usize
-    requires { (x : ℕ) → calm 255 x ≡ true → plain_in stops x ≡ true }
-    ensures { result ≡ span (plain_in stops) s.now }
-{
-    let mut i = 0usize;
-    while i < s.len() {
-        i = calm_from(s, i, 255);
-        if s.len() <= i {
-            return i;
-        }
-        if !is_plain(stops, s[i]) {
-            return i;
-        }
-        i += 1;
-    }
-    i
-}
-
 // How many octets at the front of s header text takes as they stand.
 pub fn plain_span(s: &[u8], stops: Stops) -> usize
     ensures { result ≡ span (plain_in stops) s.now }
 {
     if is_usual(stops) {
-        return usual_span(s, stops);
+        return front(s, Calm { top: 255 }, stops);
     }
-    any_span(s, stops)
-}
-
-// How many octets at the front of s are no backslash, by blocks. Octet 10 ends a stretch of header text too, so where one is found the
-// search goes on after it.
-fn far_stretch(s: &[u8]) -> usize
-    ensures { result ≡ span not_back s.now }
-{
-    let mut i = 0usize;
-    while i < s.len() {
-        i += any_span(
-            &s[i..],
-            Stops {
-                cr: 92,
-                colon: 92,
-                back: 92,
-                top: 255,
-            },
-        );
-        if s.len() <= i {
-            return i;
-        }
-        if s[i] == 92 {
-            return i;
-        }
-        i += 1;
-    }
-    i
+    front(s, stops, stops)
 }
 
 // How far the stretch without a backslash at the front of s goes: exactly to the first backslash, or to the end. Between two escapes
@@ -230,13 +166,11 @@ fn far_stretch(s: &[u8]) -> usize
 pub fn stretch(s: &[u8]) -> usize
     ensures { Stretch s.now result }
 {
-    let e = if s.len() < 16 { s.len() } else { 16 };
-    let mut i = 0usize;
-    while i < e {
+    let e = s.len().min(16);
+    for i in 0..e {
         if s[i] == 92 {
             return i;
         }
-        i += 1;
     }
-    i + far_stretch(&s[i..])
+    e + front(&s[e..], NotBack, NotBack)
 }

@@ -1,19 +1,12 @@
 // One entry record, written from a raw name and a raw value.
-ghost use Rattle.std.specs.Prelude.{◌≡◌, ◌++◌, ◌+◌, ◌≤◌, length, drop, leb, ltb};
+ghost use Rattle.std.specs.Prelude.{◌≡◌, ◌++◌, ◌+◌, ◌≤◌, length, drop, leb, ltb, not};
 ghost use Rattle.headers.specs.Stretches.{kept, unescaped};
-ghost use Rattle.headers.specs.Block.{record_head, entry_record, is_short};
+ghost use Rattle.headers.specs.Block.{record_head, entry_record};
 ghost use Rattle.headers.specs.Lines.{entry_of};
-ghost use Rattle.headers.specs.Answers.{left_in, Puts, written_record, decoded_answer, record_says};
+ghost use Rattle.headers.specs.Answers.{left_in, Puts, written_record, decoded_answer, record_says, lacks_room};
 
-use crate::octets::{both_fit, copy};
+use crate::octets::{TooShort, both_fit, copy};
 use crate::text::{Style, decoded_length, put_decoded};
-
-// What writing a record gives: its length; or that it has no room (21).
-#[derive(Clone, Copy)]
-pub enum RecordWritten {
-    Length(usize),
-    TooShort,
-}
 
 // The tag and the two lengths at the front of d.
 fn put_head(d: &mut [u8], name: usize, value: usize)
@@ -35,87 +28,84 @@ pub struct Known {
     pub value: usize,
 }
 
-// How many octets a text has where so many at its front are taken as they are, and the others decoded.
-fn known_length(raw: &[u8], known: usize, style: Style) -> usize
-    ensures { result ≡ length (kept known style raw.now) }
-{
-    if raw.len() <= known {
-        return raw.len();
-    }
-    known + decoded_length(&raw[known..], style)
+// A raw name or value in a style, and how many octets at its front are known to have no backslash: those are taken as they are, and the
+// others decoded.
+#[derive(Clone, Copy)]
+struct Raw<'a> {
+    text: &'a [u8],
+    known: usize,
+    style: Style,
 }
 
-// That text at the front of d; its length. What is known is one stretch, and copied as such.
-fn put_known(d: &mut [u8], raw: &[u8], known: usize, style: Style) -> usize
-    requires { length (kept known style raw.now) ≤ length d.old }
-    ensures { Puts (kept known style raw.now) result d.old d.new }
-{
-    if raw.len() <= known {
-        copy(d, 0, raw);
-        return raw.len();
+impl Raw<'_> {
+    // How many octets it has.
+    fn length(self) -> usize
+        ensures { result ≡ length (kept self.entry.known self.entry.style self.entry.text.now) }
+    {
+        if self.text.len() <= self.known {
+            return self.text.len();
+        }
+        self.known + decoded_length(&self.text[self.known..], self.style)
     }
-    copy(d, 0, &raw[0..known]);
-    known + put_decoded(&mut d[known..], &raw[known..], style)
+
+    // Whether its length is one that two octets can say. Decoded text is never longer than raw, so it is measured only where the raw text is
+    // longer.
+    fn is_short(self) -> bool
+        ensures { result ≡ ltb (length (kept self.entry.known self.entry.style self.entry.text.now)) 65536 }
+    {
+        self.text.len() < 65536 || self.length() < 65536
+    }
+
+    // Its octets at the front of d; how many they are. What is known is one stretch, and copied as such.
+    fn put(self, d: &mut [u8]) -> usize
+        requires { length (kept self.known self.style self.text.now) ≤ length d.old }
+        ensures { Puts (kept self.entry.known self.entry.style self.entry.text.now) result d.old d.new }
+    {
+        if self.text.len() <= self.known {
+            copy(d, 0, self.text);
+            return self.text.len();
+        }
+        copy(d, 0, &self.text[0..self.known]);
+        self.known + put_decoded(&mut d[self.known..], &self.text[self.known..], self.style)
+    }
 }
 
 // The record of such a name and value at the front of d; its length.
-fn put_record(d: &mut [u8], name: &[u8], value: &[u8], known: Known, style: Style) -> usize
-    requires { 6 + length (kept known.name style name.now) + length (kept known.value style value.now) ≤ length d.old }
-    ensures { Puts (entry_record (entry_of (kept known.name style name.now) (kept known.value style value.now))) result
+fn put_record(d: &mut [u8], name: Raw<'_>, value: Raw<'_>) -> usize
+    requires { 6 + length (kept name.known name.style name.text.now) + length (kept value.known value.style value.text.now) ≤ length d.old }
+    ensures { Puts (entry_record (entry_of (kept name.entry.known name.entry.style name.entry.text.now) (kept value.entry.known value.entry.style value.entry.text.now))) result
         d.old d.new }
 {
-    let n = put_known(&mut d[6..], name, known.name, style);
+    let n = name.put(&mut d[6..]);
     let e = 6 + n;
-    let v = put_known(&mut d[e..], value, known.value, style);
+    let v = value.put(&mut d[e..]);
     put_head(d, n, v);
     e + v
 }
 
-// The record of a name and a value as they are, at the front of d; its length.
-fn put_plain(d: &mut [u8], name: &[u8], value: &[u8]) -> usize
-    requires { 6 + length name.now + length value.now ≤ length d.old }
-    ensures { Puts (entry_record (entry_of name.now value.now)) result d.old d.new }
+// Whether such a name and value have at most that many octets. Here too they are measured only where the raw text is too long.
+fn both_within(name: Raw<'_>, value: Raw<'_>, most: usize) -> bool
+    ensures { result ≡ leb (length (kept name.entry.known name.entry.style name.entry.text.now) + length (kept value.entry.known value.entry.style value.entry.text.now)) most }
 {
-    put_head(d, name.len(), value.len());
-    copy(d, 6, name);
-    let e = 6 + name.len();
-    copy(d, e, value);
-    e + value.len()
+    both_fit(name.text.len(), value.text.len(), most)
+        || both_fit(name.length(), value.length(), most)
 }
 
-// Whether such a name and value have at most that many octets. Decoded text is never longer than raw, so it is measured only where the
-// raw text is too long.
-fn known_fit(name: &[u8], value: &[u8], known: Known, style: Style, most: usize) -> bool
-    ensures { result ≡ leb (length (kept known.name style name.now) + length (kept known.value style value.now)) most }
+// Whether such a name and value have a record, and it has room in so many octets.
+fn have_room(name: Raw<'_>, value: Raw<'_>, room: usize) -> bool
+    ensures { result ≡ not (lacks_room room
+        (entry_of (kept name.entry.known name.entry.style name.entry.text.now) (kept value.entry.known value.entry.style value.entry.text.now))) }
 {
-    if both_fit(name.len(), value.len(), most) {
-        return true;
-    }
-    both_fit(
-        known_length(name, known.name, style),
-        known_length(value, known.value, style),
-        most,
-    )
-}
-
-// Whether such a text has a length that two octets can say. It too is measured only where the raw text is longer.
-fn known_short(raw: &[u8], known: usize, style: Style) -> bool
-    ensures { result ≡ ltb (length (kept known style raw.now)) 65536 }
-{
-    if raw.len() < 65536 {
-        return true;
-    }
-    known_length(raw, known, style) < 65536
-}
-
-// Whether such a name and value have a record.
-fn have_record(name: &[u8], value: &[u8], known: Known, style: Style) -> bool
-    ensures { result ≡ is_short (entry_of (kept known.name style name.now) (kept known.value style value.now)) }
-{
-    if !known_short(name, known.name, style) {
+    if room < 6 {
         return false;
     }
-    known_short(value, known.value, style)
+    if !both_within(name, value, room - 6) {
+        return false;
+    }
+    if !name.is_short() {
+        return false;
+    }
+    value.is_short()
 }
 
 // The record of any octets at the front of d, those that are known to have no backslash as they are, the others decoded; or that it has
@@ -126,30 +116,36 @@ pub fn write_known(
     value: &[u8],
     known: Known,
     style: Style,
-) -> RecordWritten
+) -> Result<usize, TooShort>
     ensures { (record_says result ≡ decoded_answer unescaped (length d.old)
         (kept known.name style name.now) (kept known.value style value.now))
         × (d.new ≡ left_in (decoded_answer unescaped (length d.old)
         (kept known.name style name.now) (kept known.value style value.now))
         (written_record unescaped (kept known.name style name.now) (kept known.value style value.now)) d.old) }
 {
-    if d.len() < 6 {
-        return RecordWritten::TooShort;
+    let name = Raw {
+        text: name,
+        known: known.name,
+        style,
+    };
+    let value = Raw {
+        text: value,
+        known: known.value,
+        style,
+    };
+    if !have_room(name, value, d.len()) {
+        return Err(TooShort);
     }
-    if !known_fit(name, value, known, style, d.len() - 6) {
-        return RecordWritten::TooShort;
-    }
-    if !have_record(name, value, known, style) {
-        return RecordWritten::TooShort;
-    }
-    if (name.len() <= known.name) & (value.len() <= known.value) {
-        return RecordWritten::Length(put_plain(d, name, value));
-    }
-    RecordWritten::Length(put_record(d, name, value, known, style))
+    Ok(put_record(d, name, value))
 }
 
 // The record of any octets, decoded, at the front of d; or that it has no room (21).
-pub fn write_decoded(d: &mut [u8], name: &[u8], value: &[u8], style: Style) -> RecordWritten
+pub fn write_decoded(
+    d: &mut [u8],
+    name: &[u8],
+    value: &[u8],
+    style: Style,
+) -> Result<usize, TooShort>
     ensures { (record_says result ≡ decoded_answer style (length d.old) name.now value.now)
         × (d.new ≡ left_in (decoded_answer style (length d.old) name.now value.now) (written_record style name.now value.now) d.old) }
 {

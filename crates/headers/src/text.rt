@@ -2,12 +2,12 @@
 ghost use Rattle.std.specs.Prelude.{◌≡◌, cond, not, ◌++◌, ◌+◌, ◌≤◌, ◌<◌, length, take, drop};
 ghost use Rattle.headers.specs.Rows.{every};
 ghost use Rattle.headers.specs.Text.{divides, stops, opens, is_letter, reads, is_text};
-ghost use Rattle.headers.specs.Characters.{text_part, into_number};
+ghost use Rattle.headers.specs.Characters.{text_part, part_after};
 ghost use Rattle.headers.specs.Escapes.{at_escape, width, octet_at, meaning, letter_of, escaped, writable, decode, encode_octet, encode};
 ghost use Rattle.headers.specs.Answers.{Puts};
 
-use crate::octets::{copy, put_8};
-use crate::plain::stretch;
+use crate::octets::{copy, put_block};
+use crate::plain::{OctetTest, is_all, stretch};
 use crate::utf8::utf8_next;
 
 // What a command makes of header text.
@@ -82,7 +82,7 @@ fn escape_word(style: Style) -> u64
 fn is_escaped(style: Style, x: u8) -> bool
     ensures { result ≡ escaped style x }
 {
-    let n = x as u64;
+    let n = u64::from(x);
     style.escapes & (n == (escape_word(style) >> (2 * (n & 20))) & 255)
 }
 
@@ -95,24 +95,24 @@ fn letter_for(style: Style, x: u8) -> u8
     if (x == 13) & style.crlf { 114 } else { newline }
 }
 
-// One octet of raw text, from how far its character is read on: how far it is then, or 255 where the octet does not go on with the text.
-fn raw_next(style: Style, field: Field, part: u8, x: u8) -> u8
-    ensures { result ≡ into_number (reads style field (text_part part) x) }
+// One octet of raw text, from how far its character is read on: how far it is then, or none where the octet does not go on with the text.
+fn raw_next(style: Style, field: Field, part: u8, x: u8) -> Option<u8>
+    ensures { result ≡ part_after (reads style field (text_part part) x) }
 {
     if part == 0 {
         if is_stop(style, field, x) {
-            return 255;
+            return None;
         }
         if is_open(style, x) {
-            return 92;
+            return Some(92);
         }
         return utf8_next(0, x);
     }
     if part == 92 {
         if is_letter(style, x) {
-            return 0;
+            return Some(0);
         }
-        return 255;
+        return None;
     }
     utf8_next(part, x)
 }
@@ -122,13 +122,11 @@ pub fn is_raw(raw: &[u8], style: Style, field: Field) -> bool
     ensures { result ≡ is_text style field raw.now }
 {
     let mut part = 0u8;
-    let mut i = 0usize;
-    while i < raw.len() {
-        part = raw_next(style, field, part, raw[i]);
-        if part == 255 {
-            return false;
+    for x in raw {
+        match raw_next(style, field, part, *x) {
+            Some(next) => part = next,
+            None => return false,
         }
-        i += 1;
     }
     part == 0
 }
@@ -148,23 +146,15 @@ fn escape_at(raw: &[u8], style: Style, i: usize) -> bool
     is_letter(style, raw[next])
 }
 
-// How many raw octets are decoded together at i: those of an escape, or one.
-fn width_at(raw: &[u8], style: Style, i: usize) -> usize
+// What is decoded together at i: the octet that it stands for, and how many raw octets it has, those of an escape or one.
+fn decoded_at(raw: &[u8], style: Style, i: usize) -> (u8, usize)
     requires { i < length raw.now }
-    ensures { result ≡ width style (drop i raw.now) }
-{
-    if escape_at(raw, style, i) { 2 } else { 1 }
-}
-
-// The octet that they stand for.
-fn decoded_at(raw: &[u8], style: Style, i: usize) -> u8
-    requires { i < length raw.now }
-    ensures { result ≡ octet_at style (drop i raw.now) }
+    ensures { (result.0 ≡ octet_at style (drop i raw.now)) × (result.1 ≡ width style (drop i raw.now)) }
 {
     if escape_at(raw, style, i) {
-        return meaning_of(style, raw[i + 1]);
+        return (meaning_of(style, raw[i + 1]), 2);
     }
-    raw[i]
+    (raw[i], 1)
 }
 
 // How many octets the raw text has decoded; where it is not raw text, a backslash that begins no escape counts as itself.
@@ -173,8 +163,10 @@ pub fn decoded_length(raw: &[u8], style: Style) -> usize
 {
     let mut n = 0usize;
     let mut i = 0usize;
+    // A cursor: its step is what one octet is decoded from.
     while i < raw.len() {
-        i += width_at(raw, style, i);
+        let (_, width) = decoded_at(raw, style, i);
+        i += width;
         n += 1;
     }
     n
@@ -188,6 +180,7 @@ pub(crate) fn put_decoded(d: &mut [u8], raw: &[u8], style: Style) -> usize
 {
     let mut n = 0usize;
     let mut i = 0usize;
+    // A cursor: its step is the length of a stretch and of what ends it.
     loop {
         let e = i + stretch(&raw[i..]);
         copy(d, n, &raw[i..e]);
@@ -195,8 +188,9 @@ pub(crate) fn put_decoded(d: &mut [u8], raw: &[u8], style: Style) -> usize
         if raw.len() <= e {
             return n;
         }
-        d[n] = decoded_at(raw, style, e);
-        i = e + width_at(raw, style, e);
+        let (octet, width) = decoded_at(raw, style, e);
+        d[n] = octet;
+        i = e + width;
         n += 1;
     }
 }
@@ -227,10 +221,8 @@ pub fn encoded_length(text: &[u8], style: Style) -> usize
     ensures { result ≡ length (encode style text.now) }
 {
     let mut n = 0usize;
-    let mut i = 0usize;
-    while i < text.len() {
-        n += encoded_width(style, text[i]) as usize;
-        i += 1;
+    for x in text {
+        n += usize::from(encoded_width(style, *x));
     }
     n
 }
@@ -270,34 +262,33 @@ fn put_each(d: &mut [u8], text: &[u8], style: Style) -> usize
     ensures { Puts (encode style text.now) result d.old d.new }
 {
     let mut n = 0usize;
-    let mut i = 0usize;
-    while i < text.len() {
-        n += put_octet(&mut d[n..], text[i], style);
-        i += 1;
+    for x in text {
+        n += put_octet(&mut d[n..], *x, style);
     }
     n
 }
 
-// Whether no octet of the text is escaped: every octet is looked at, so that many are at once.
-fn is_bare(text: &[u8], style: Style) -> bool
-    ensures { result ≡ every (λ x. not (escaped style x)) text.now }
-{
-    let mut ok = true;
-    let mut i = 0usize;
-    while i < text.len() {
-        ok = ok & !has_escape(style, text[i]);
-        i += 1;
+// Octets that are not written as an escape.
+#[derive(Clone, Copy)]
+struct Bare {
+    style: Style,
+}
+
+impl OctetTest for Bare {
+    ghost test = { λ b. λ x. not (escaped b.style x) };
+
+    fn passes(self, x: u8) -> bool {
+        !has_escape(self.style, x)
     }
-    ok
 }
 
 // A block of a text: moved at once where no octet of it is escaped.
-fn put_block(d: &mut [u8], block: &[u8], style: Style) -> usize
+fn put_eight(d: &mut [u8], block: &[u8], style: Style) -> usize
     requires { (length block.now ≡ 8) × (length (encode style block.now) ≤ length d.old) }
     ensures { Puts (encode style block.now) result d.old d.new }
 {
-    if is_bare(block, style) {
-        put_8(d, 0, block, 0);
+    if is_all(block, Bare { style }) {
+        put_block::<8>(d, 0, block, 0);
         return 8;
     }
     put_each(d, block, style)
@@ -314,9 +305,9 @@ fn put_end(d: &mut [u8], n: usize, text: &[u8], i: usize, style: Style) -> usize
 {
     if 8 <= text.len() {
         let last = text.len() - 8;
-        if is_bare(&text[last..], style) {
+        if is_all(&text[last..], Bare { style }) {
             let at = n - (i - last);
-            put_8(d, at, &text[last..], 0);
+            put_block::<8>(d, at, &text[last..], 0);
             return at + 8;
         }
     }
@@ -329,13 +320,11 @@ pub(crate) fn put_encoded(d: &mut [u8], text: &[u8], style: Style) -> usize
     ensures { Puts (encode style text.now) result d.old d.new }
 {
     let mut n = 0usize;
-    let mut i = 0usize;
-    while 8 <= text.len() - i {
-        let e = i + 8;
-        n += put_block(&mut d[n..], &text[i..e], style);
-        i = e;
+    for k in 0..text.len() / 8 {
+        let at = k * 8;
+        n += put_eight(&mut d[n..], &text[at..at + 8], style);
     }
-    put_end(d, n, text, i, style)
+    put_end(d, n, text, text.len() / 8 * 8, style)
 }
 
 // Whether the octet can be written in this field: where there are escapes, every octet that is a stop has one.
@@ -349,12 +338,5 @@ pub(crate) fn can_write(style: Style, field: Field, x: u8) -> bool
 pub fn is_writable(text: &[u8], style: Style, field: Field) -> bool
     ensures { result ≡ every (writable style field) text.now }
 {
-    let mut i = 0usize;
-    while i < text.len() {
-        if !can_write(style, field, text[i]) {
-            return false;
-        }
-        i += 1;
-    }
-    true
+    text.iter().all(|x| can_write(style, field, *x))
 }

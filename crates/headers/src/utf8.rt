@@ -1,7 +1,7 @@
 // Characters of UTF-8 (RFC 3629): one octet after another, whole ones at a place, and a test for text.
-ghost use Rattle.std.specs.Prelude.{◌≡◌, true, ◌⊎◌, ◌-◌, ◌<◌, ◌≤◌, length, drop};
+ghost use Rattle.std.specs.Prelude.{◌≡◌, true, ◌⊎◌, ◌<◌, ◌≤◌, None, length, drop};
 ghost use Rattle.headers.specs.Text.{missing, tail, second, owes, utf8_reads, is_utf8};
-ghost use Rattle.headers.specs.Characters.{utf8_part, into_number, wide_front, front_character, WideStretch};
+ghost use Rattle.headers.specs.Characters.{utf8_part, part_after, wide_front, front_character, whole, WideStretch};
 
 // How many octets follow the first octet of a character; 0 where it begins no character of more than one.
 pub fn missing_after(x: u8) -> u8
@@ -45,36 +45,29 @@ fn is_second(first: u8, x: u8) -> bool
     is_tail(x)
 }
 
-// One less, or 0.
-fn less(n: u8) -> u8
-    ensures { result ≡ n - 1 }
-{
-    if n == 0 { 0 } else { n - 1 }
-}
-
-// One octet, from how far its character is read on: how far it is then, or 255 where the octet does not go on with it.
-pub fn utf8_next(part: u8, x: u8) -> u8
-    ensures { result ≡ into_number (utf8_reads (utf8_part part) x) }
+// One octet, from how far its character is read on: how far it is then, or none where the octet does not go on with it.
+pub fn utf8_next(part: u8, x: u8) -> Option<u8>
+    ensures { result ≡ part_after (utf8_reads (utf8_part part) x) }
 {
     if part == 0 {
         if x < 128 {
-            return 0;
+            return Some(0);
         }
         if missing_after(x) == 0 {
-            return 255;
+            return None;
         }
-        return x;
+        return Some(x);
     }
     if part < 3 {
         if is_tail(x) {
-            return less(part);
+            return Some(part.saturating_sub(1));
         }
-        return 255;
+        return None;
     }
     if is_second(part, x) {
-        return less(missing_after(part));
+        return Some(missing_after(part).saturating_sub(1));
     }
-    255
+    None
 }
 
 // How many octets a character still owes that is read as far as part says.
@@ -90,34 +83,33 @@ pub fn utf8_owes(part: u8) -> u8
     missing_after(part)
 }
 
-// How many octets the character of more than one octet at i has; 0 where none is there whole.
-fn wide_at(s: &[u8], i: usize) -> usize
-    requires { i < length s.now }
-    ensures { result ≡ wide_front (drop i s.now) }
+// How many octets the character of more than one octet at the front has; none where none is there whole.
+fn wide_first(s: &[u8]) -> Option<usize>
+    ensures { result ≡ whole (wide_front s.now) }
 {
-    let n = missing_after(s[i]) as usize;
+    if s.is_empty() {
+        return None;
+    }
+    let n = usize::from(missing_after(s[0]));
     if n == 0 {
-        return 0;
+        return None;
     }
-    if s.len() - i <= n {
-        return 0;
+    if s.len() <= n {
+        return None;
     }
-    let j = i + 1;
-    if !is_second(s[i], s[j]) {
-        return 0;
+    if !is_second(s[0], s[1]) {
+        return None;
     }
     if n == 1 {
-        return 2;
+        return Some(2);
     }
-    let k = i + 2;
-    if !is_tail(s[k]) {
-        return 0;
+    if !is_tail(s[2]) {
+        return None;
     }
     if n == 2 {
-        return 3;
+        return Some(3);
     }
-    let l = i + 3;
-    if is_tail(s[l]) { 4 } else { 0 }
+    if is_tail(s[3]) { Some(4) } else { None }
 }
 
 // Whether the octets begin with a character of two octets or are one of three: without branches, which would often be mispredicted.
@@ -129,32 +121,27 @@ fn is_short(x: u8, y: u8, z: u8) -> bool
     (194 <= x) & (x <= 239) & (low <= y) & (y <= high) & ((x <= 223) | is_tail(z))
 }
 
-// How many octets the character at i has, where it has two or three and three octets are there; otherwise 0.
-fn short_at(s: &[u8], i: usize) -> usize
-    requires { i < length s.now }
-    ensures { (result ≡ 0) ⊎ (result ≡ wide_front (drop i s.now)) }
+// How many octets the character at the front has, where it has two or three and three octets are there.
+fn short_first(s: &[u8]) -> Option<usize>
+    ensures { (result ≡ None) ⊎ (result ≡ whole (wide_front s.now)) }
 {
-    if s.len() - i < 3 {
-        return 0;
+    if s.len() < 3 {
+        return None;
     }
-    let j = i + 1;
-    let k = i + 2;
-    if !is_short(s[i], s[j], s[k]) {
-        return 0;
+    if !is_short(s[0], s[1], s[2]) {
+        return None;
     }
-    if s[i] < 224 { 2 } else { 3 }
+    if s[0] < 224 { Some(2) } else { Some(3) }
 }
 
-// How many octets the character of more than one octet at i has; 0 where none is there whole.
-fn next_wide(s: &[u8], i: usize) -> usize
-    requires { i < length s.now }
-    ensures { result ≡ wide_front (drop i s.now) }
+// How many octets the character of more than one octet at the front has; none where none is there whole.
+fn next_wide(s: &[u8]) -> Option<usize>
+    ensures { result ≡ whole (wide_front s.now) }
 {
-    let k = short_at(s, i);
-    if k != 0 {
-        return k;
+    if let Some(k) = short_first(s) {
+        return Some(k);
     }
-    wide_at(s, i)
+    wide_first(s)
 }
 
 // How many octets at the front of s are whole characters of more than one octet, one after another.
@@ -162,25 +149,20 @@ pub fn wide_span(s: &[u8]) -> usize
     ensures { WideStretch s.now result }
 {
     let mut i = 0usize;
-    while i < s.len() {
-        let k = next_wide(s, i);
-        if k == 0 {
-            return i;
-        }
+    while let Some(k) = next_wide(&s[i..]) {
         i += k;
     }
     i
 }
 
-// How many octets the character at i has; 0 where none is there whole.
-fn character_at(s: &[u8], i: usize) -> usize
-    requires { i < length s.now }
-    ensures { result ≡ front_character (drop i s.now) }
+// How many octets the character at the front has; none where none is there whole.
+fn next_character(s: &[u8]) -> Option<usize>
+    ensures { result ≡ whole (front_character s.now) }
 {
-    if s[i] < 128 {
-        return 1;
+    if !s.is_empty() && s[0] < 128 {
+        return Some(1);
     }
-    next_wide(s, i)
+    next_wide(s)
 }
 
 // Whether the octets are UTF-8.
@@ -188,12 +170,8 @@ pub fn is_utf8(text: &[u8]) -> bool
     ensures { result ≡ is_utf8 text.now }
 {
     let mut i = 0usize;
-    while i < text.len() {
-        let k = character_at(text, i);
-        if k == 0 {
-            return false;
-        }
+    while let Some(k) = next_character(&text[i..]) {
         i += k;
     }
-    true
+    i == text.len()
 }

@@ -5,8 +5,8 @@ use mathlib.Core.List.{List, [], ◌∷◌, ◌++◌, append_assoc, append-nil}
 use Prim.Native.Nat.{ℕ, suc, ◌+◌, ◌-◌, ◌≤◌, ◌<◌}
 use native.Mathlib.Omega.{arith}
 use native.Mathlib.Numerals.{add-one}
-use lib.ListN.{length, take, drop, get_or, set, drop_of_length-le, length-drop, length-take, length-append}
-use lib.Seq.{drop-cons, length-take-le, take-suc, get_or-append-add, get_or-drop}
+use lib.ListN.{length, drop, get_or, set, drop_of_length-le, length-drop, length-take, length-append}
+use lib.Seq.{drop-cons}
 use lib.Dec.{ltb}
 use borrow.Author.Tests.{lt-ltb, le-ltb, ltb-true, ltb-false}
 use Rattle.headers.specs.Numbers.{shortest}
@@ -14,9 +14,7 @@ use Rattle.headers.specs.Answers.{left_in, decimal_answer}
 use borrow.Rule.Slice.PartMut.{mid_of, put_mid}
 use Rattle.headers.proofs.Put.{store_grow, put_grow}
 use Rattle.headers.proofs.Settling.{decimal_put}
-use Rattle.headers.proofs.Rows.{cond_case}
-use Rattle.listing.specs.Streams.{moved}
-use Rattle.listing.specs.Lines.{numbers, behind_at, line_used, line_left}
+use Rattle.listing.specs.Lines.{numbers, behind_at}
 
 -- a row of numbers, one number on
 numbers_cons : (n : ℕ) (ms : List ℕ) → numbers (n ∷ ms) ≡ (shortest n ++ (cond (ltb 0 (length ms)) 32 10 ∷ [])) ++ numbers ms
@@ -51,23 +49,3 @@ put_both d l ys S R k r ek er el kept fits is =
     let mid : length (mid_of k (length l - k) l) ≡ length d - k = simp (length-take, length-drop) (omega arith) in
     let room : k + r ≤ length d = omega (arith, simp length-append at (ap length is)) in
     (whole, put_grow d l S R ys k r el (sym ek) (sym er) room is ∙ ap (λ z. (S ++ R) ++ drop z d) whole, room)
-
--- a line that is left in a buffer is no longer than the buffer
-pub line_fits : (d d' l : List ℕ) → d' ≡ line_left d l → length d' ≡ length d → line_used (length d) l ≤ length d
-line_fits d d' l e same =
-    cond_case (λ k. k ≤ length d) (ltb (length d) 160) (λ h. omega arith)
-    λ h. let z : line_left d l ≡ l ++ drop (length l) d = rw h refl in omega (arith, ap length (e ∙ z), length-append l (drop (length l) d))
-
--- one octet more is moved to the front
-pub moved_more : (lo : ℕ) (d : List ℕ) (i : ℕ) → lo + i < length d → set (moved lo d i) i (get_or (moved lo d i) (lo + i) 0) ≡ moved lo d (i + 1)
-moved_more lo d i h =
-    let rest = drop lo d in
-    let room : i < length rest = simp length-drop (omega arith) in
-    let front = length-take-le i rest (omega arith) in
-    let far : lo + i ≡ length (take i rest) + lo = omega arith in
-    let near : i + lo ≡ lo + i = omega arith in
-    let octet : get_or (moved lo d i) (lo + i) 0 ≡ get_or rest i 0 =
-    ap (λ z. get_or (moved lo d i) z 0) far ∙ get_or-append-add (take i rest) (drop i d) lo 0 ∙ get_or-drop i d lo 0 ∙ ap (λ z. get_or d z 0) near
-    ∙ sym (get_or-drop lo d i 0) in
-    store_grow d (moved lo d i) (take i rest) i (get_or (moved lo d i) (lo + i) 0) refl front (omega arith)
-    ∙ ap (λ z. z ++ drop (i + 1) d) (ap (λ v. take i rest ++ (v ∷ [])) octet ∙ sym (take-suc rest i 0 room) ∙ ap (λ z. take z rest) (sym (add-one i)))

@@ -1,3 +1,2 @@
--- The definitions of a listing's lines and of where a stream's octets lie, by file.
+-- The definitions of a listing's lines.
 pub mod Lines
-pub mod Streams

@@ -4,6 +4,7 @@ use Rattle.headers.specs.Rows.{octets_of}
 use Rattle.headers.specs.Numbers.{shortest}
 use Rattle.frames.specs.Replies.{Reply, Complete, Incomplete, Invalid}
 use Rattle.frames.specs.declared.parse.Item.{Item}
+use Rattle.frames.specs.declared.parse.Item.TheVariants.{HeartBeat, Frame}
 
 -- numbers in decimal, a blank between two, a line end behind the last
 abbrev pub numbers : List ℕ → List ℕ
@@ -43,7 +44,8 @@ line_behind Incomplete nothing_left = cond nothing_left end more
 line_behind (Invalid number offset) nothing_left = refused ++ numbers (number ∷ offset ∷ [])
 
 abbrev pub item_behind : Item → List ℕ
-item_behind i = complete_behind i.kind i.len i.command i.headers i.body i.body_len
+item_behind (HeartBeat n) = beat ++ numbers (n ∷ [])
+item_behind (Frame f) = frame ++ numbers (f.command ∷ f.len ∷ f.headers ∷ f.body ∷ f.body_len ∷ [])
 
 unfoldable pub line_of : ℕ → Reply → Bool → List ℕ
 line_of start r nothing_left = shortest start ++ (32 ∷ line_behind r nothing_left)

@@ -2,8 +2,9 @@
 #![tactic(auto)]
 
 pub mod line; // one line of a listing
+mod buffers; // what was read of a stream, and what is laid out
 pub mod stream; // a whole stream, listed
-mod packed; // answers in one number, taken apart
 pub mod rewrite; // a whole stream, decoded and encoded again
 pub mod replay; // a whole stream, given to a session
 pub mod calls; // calls that programs read
+pub mod arguments; // arguments that programs are given

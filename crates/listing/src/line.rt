@@ -1,20 +1,17 @@
-// One line of a listing.
+// One line of a listing. It is put into a slice by hand: its octets are promised, and no clause says which ones write! would put there.
 ghost use Rattle.std.specs.Prelude.{◌≡◌, [], ◌∷◌, ◌++◌, ◌+◌, ◌*◌, ◌≤◌, ◌<◌, length, drop};
 ghost use Rattle.headers.specs.Numbers.{shortest};
 ghost use Rattle.frames.specs.Answers.{parsed_says};
 ghost use Rattle.listing.specs.Lines.{numbers, behind_at, item_behind, line_behind, line_of, line_used, line_left};
 
-use frames::parse::{Item, Parsed};
-use headers::DecimalWritten;
+use frames::parse::{Item, Refusal};
 
 // A number and an octet behind it, at the front of d.
 pub(crate) fn put_number(d: &mut [u8], n: u64, behind: u8) -> usize
     requires { 21 ≤ length d.old }
     ensures { (result ≡ length (shortest n ++ (behind ∷ []))) × (result ≤ 21) × (d.new ≡ (shortest n ++ (behind ∷ [])) ++ drop result d.old) }
 {
-    let DecimalWritten::Length(k) = headers::write_decimal(d, n) else {
-        return 0;
-    };
+    let k = headers::write_decimal(d, n).unwrap();
     d[k] = behind;
     k + 1
 }
@@ -33,11 +30,9 @@ fn put_numbers(d: &mut [u8], ns: &[u64]) -> usize
     ensures { (result ≡ length (numbers ns.now)) × (result ≤ 21 * length ns.now) × (d.new ≡ numbers ns.now ++ drop result d.old) }
 {
     let mut at = 0usize;
-    let mut i = 0usize;
-    while i < ns.len() {
+    for (i, n) in ns.iter().enumerate() {
         let behind = behind_at(i, ns.len());
-        at += put_number(&mut d[at..], ns[i], behind);
-        i += 1;
+        at += put_number(&mut d[at..], *n, behind);
     }
     at
 }
@@ -47,12 +42,9 @@ pub(crate) fn put_word(d: &mut [u8], w: &[u8]) -> usize
     requires { length w.now ≤ length d.old }
     ensures { (result ≡ length w.now) × (d.new ≡ w.now ++ drop result d.old) }
 {
-    let mut i = 0usize;
-    while i < w.len() {
-        d[i] = w[i];
-        i += 1;
-    }
-    i
+    let n = w.len();
+    d[..n].copy_from_slice(w);
+    n
 }
 
 // A word and numbers behind it, at the front of d.
@@ -65,20 +57,15 @@ fn put_row(d: &mut [u8], w: &[u8], ns: &[u64]) -> usize
 }
 
 // What stands behind an item's start, at the front of d.
-fn put_reply(d: &mut [u8], p: Parsed, nothing_left: bool) -> usize
+fn put_reply(d: &mut [u8], p: Result<Option<Item>, Refusal>, nothing_left: bool) -> usize
     requires { 128 ≤ length d.old }
     ensures { (result ≡ length (line_behind (parsed_says p) nothing_left)) × (d.new ≡ line_behind (parsed_says p) nothing_left ++ drop result d.old) }
 {
     match p {
-        Parsed::Complete(i) => put_item(d, i),
-        Parsed::Incomplete => {
-            if nothing_left {
-                return put_word(d, b"end\n");
-            }
-            put_word(d, b"more\n")
-        }
-        Parsed::Invalid(r) => {
-            let ns = [r.code as u64, r.offset as u64];
+        Ok(Some(i)) => put_item(d, i),
+        Ok(None) => put_word(d, if nothing_left { b"end\n" } else { b"more\n" }),
+        Err(r) => {
+            let ns = [u64::from(r.reason.number()), r.offset as u64];
             put_row(d, b"refused ", &ns)
         }
     }
@@ -89,22 +76,28 @@ fn put_item(d: &mut [u8], i: Item) -> usize
     requires { 128 ≤ length d.old }
     ensures { (result ≡ length (item_behind i)) × (d.new ≡ item_behind i ++ drop result d.old) }
 {
-    if i.kind == 1 {
-        let ns = [i.len as u64];
-        return put_row(d, b"beat ", &ns);
+    match i {
+        Item::HeartBeat(n) => put_row(d, b"beat ", &[n as u64]),
+        Item::Frame(f) => {
+            let ns = [
+                u64::from(f.command),
+                f.len as u64,
+                f.headers as u64,
+                f.body as u64,
+                f.body_len as u64,
+            ];
+            put_row(d, b"frame ", &ns)
+        }
     }
-    let ns = [
-        i.command as u64,
-        i.len as u64,
-        i.headers as u64,
-        i.body as u64,
-        i.body_len as u64,
-    ];
-    put_row(d, b"frame ", &ns)
 }
 
 // The line of a reply, at the front of d: its length, or 0 where d has fewer than 160 octets and stays as it was.
-pub fn put_line(d: &mut [u8], start: u64, p: Parsed, nothing_left: bool) -> usize
+pub fn put_line(
+    d: &mut [u8],
+    start: u64,
+    p: Result<Option<Item>, Refusal>,
+    nothing_left: bool,
+) -> usize
     ensures { (result ≡ line_used (length d.old) (line_of start (parsed_says p) nothing_left))
         × (d.new ≡ line_left d.old (line_of start (parsed_says p) nothing_left)) }
 {

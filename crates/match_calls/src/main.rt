@@ -2,45 +2,26 @@
 // and then both. For each call the answer, as stomp_match gives it, in decimal, and a line end.
 #![tactic(auto)]
 
-ghost use Rattle.std.specs.Prelude.{◌≤◌};
-
-use listing::calls::{at_most, number_at, read_front, read_full};
+use listing::calls::{CallError, each_call, number_at, read_head, read_text, tell};
 use std::io;
 use std::io::{Read, Write};
 
-// One call and what it gives.
-fn answer<W: Write>(output: &mut W, name: &[u8], pattern: &[u8]) -> io::Result<()> {
-    let a = topics::exports::stomp_match(name, pattern);
-    writeln!(output, "{a}")
-}
-
-// Reads a call and answers it: whether it was whole.
-fn one_call<R: Read, W: Write>(input: &mut R, output: &mut W, head: &[u8; 8]) -> io::Result<bool> {
-    let n = at_most(number_at(head, 0));
-    let m = at_most(number_at(head, 4));
+// Reads a call and answers it: whether there is one.
+fn call<R: Read, W: Write>(input: &mut R, output: &mut W) -> Result<bool, CallError> {
+    let Some(head) = read_head::<8, R>(input)? else {
+        return Ok(false);
+    };
     let mut name = [0u8; 65536];
     let mut pattern = [0u8; 65536];
-    if !read_front(input, &mut name, n)? {
-        return Ok(false);
-    }
-    if !read_front(input, &mut pattern, m)? {
-        return Ok(false);
-    }
-    answer(output, &name[0..n], &pattern[0..m])?;
+    let name = read_text(input, &mut name, number_at(&head, 0))?;
+    let pattern = read_text(input, &mut pattern, number_at(&head, 4))?;
+    let answer = topics::exports::stomp_match(name, pattern);
+    writeln!(output, "{answer}")?;
     Ok(true)
 }
 
 fn main(rt: HostRuntime) -> io::Result<()> {
-    let mut input = rt.stdin();
     let mut output = rt.stdout();
-    for _ in 0..u64::MAX {
-        let mut head = [0u8; 8];
-        if read_full(&mut input, &mut head)? < 8 {
-            break;
-        }
-        if !one_call(&mut input, &mut output, &head)? {
-            return eprintln!(rt; "match_calls: a call is cut");
-        }
-    }
-    Ok(())
+    let made = each_call(&mut rt.stdin(), |input| call(input, &mut output));
+    tell(&rt, "match_calls", made)
 }

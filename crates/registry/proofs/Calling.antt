@@ -1,24 +1,25 @@
 -- The calls on a record, by the code's parts. Assumes nothing.
 --     invalid, refused_with, accepted_with    the end of any call
+--     admitted_both, not_admitted             what comes before all else
+--     passed_on, told_err, found_ok, found_err, ask_refused    refusals as `?` passes them on
 --     search_label, search_place, row_run     searches among the rows of a valid record
 --     open_.., close_.., publish_.., ask_.., end_..    each call
 use mathlib.Core.Path.{◌≡◌, refl, sym, ap, ap₂, subst, ◌∙◌}
 use mathlib.Core.Bool.{Bool, true, false, cond, ◌||◌, not, true≢false}
 use mathlib.Core.Option.{Option, none, some}
 use mathlib.Core.List.{List, [], ◌∷◌, ◌++◌, map, append_assoc}
-use Prim.Native.Nat.{ℕ, ◌+◌, ◌-◌, ◌*◌, ◌/◌, ◌%◌, ◌≤◌, ◌<◌}
+use Prim.Native.Nat.{ℕ, ◌+◌, ◌-◌, ◌*◌, ◌≤◌, ◌<◌}
 use native.Mathlib.Omega.{arith}
-use lib.ListN.{length, take, drop, get_or, set, replicate, length-take, length-drop, length-replicate, take-append-drop}
-use lib.Seq.{take_all, take_at, take-take, take-add, drop-drop, length-take-le}
+use lib.ListN.{length, take, drop, get_or, set, replicate, length-take, length-drop, take-append-drop}
+use lib.Seq.{take_at, take-take, take-add, drop-drop, length-take-le}
 use lib.Dec.{eqb}
-use borrow.Author.Tests.{ne_eqb, lt-ltb, le-ltb}
 use borrow.Rule.Slice.PartMut.{put_mid, mid_of, put_same}
 use Rattle.headers.specs.Rows.{every}
 use Rattle.headers.specs.Answers.{Answer, accepted, refused, settle}
-use Rattle.headers.proofs.Rows.{and_left, and_right, cond_case}
-use Rattle.stores.specs.Places.{filled}
-use Rattle.stores.specs.Searches.{first_from, replaced, search_says, is_at}
-use Rattle.stores.specs.declared.search.Search.{Search}
+use Rattle.headers.proofs.Rows.{and_left, and_right, cond_case, never}
+use Rattle.stores.specs.Searches.{first_from, replaced, search_says}
+use Rattle.std.specs.Prelude.{Option as CodeOption, Some, None, Result, Ok, Err, IsErrAnd, ⊤, is_some as has_place, ok_or}
+use Rattle.headers.specs.declared.block.Span.{Span}
 use Rattle.stores.proofs.Searching.{told_any, first_map, first_map_on, found_here}
 use Rattle.stores.proofs.Walking.{drop_take}
 use Rattle.registry.specs.Slots.{is_free, holds, has_free, found, place}
@@ -27,10 +28,10 @@ use Rattle.registry.specs.Calls.{Call, open_run, close_run, publish, ask, end_se
 use Rattle.stores.specs.Compaction.{joined}
 use Rattle.registry.specs.Records.{parts, text_field, port_size, port_record, run_record, registry_record, port_in, run_in, runs_in, is_valid, answer_to, next, text_start}
 use Rattle.registry.specs.Tests.{is_named, Rows, row_of, row_without}
-use Rattle.registry.specs.Answers.{done_says, asked_says, Bounded, StartsAt, packed_ask, asked_number, asked_read}
-use Rattle.registry.specs.Steps.{Slots, slots_at, slot_checks, GivesPublished, GivesPort, Text, rows_without, run_octets_without, Movable, moved_by}
-use Rattle.registry.specs.declared.registry.Done.{Done}
-use Rattle.registry.specs.declared.registry.Asked.{Asked}
+use Rattle.registry.specs.Answers.{number_of, done_says, asked_says, Bounded, StartsAt, packed_ask, asked_number}
+use Rattle.registry.specs.Steps.{admitted, Slots, slots_at, slot_checks, GivesPublished, GivesPort, Text, rows_without, run_octets_without, Movable, moved_by}
+use Rattle.registry.specs.declared.refusals.Refusal.{Refusal}
+use Rattle.registry.specs.declared.refusals.Refusal.TheVariants.{InvalidRecord, BadSize, NotOpen, OtherSession, NoPlace, AlreadyOpen, FourOpen}
 use Rattle.registry.proofs.Slots.{found_name, place_first}
 use Rattle.registry.proofs.Keeping.{answer, Good, GoodSlots, record_slots, good_run_slots, every_found}
 use Rattle.registry.proofs.Records.{Long, sized, field_long, field_drop, good_port_record, slots_back, slots_parts, run_label, run_slots, runs_long, record_parts, record_long, valid_good, valid_record}
@@ -43,6 +44,66 @@ use Rattle.registry.proofs.Publishing.{found_first, session_same}
 pub invalid : (xs : List ℕ) → is_valid xs ≡ false → (c : Call) → (refused 89 ≡ answer_to xs c) × (xs ≡ next xs c)
 unfolding answer_to next
 invalid xs v c = rw v (refl, refl)
+
+-- the record is valid and no size is bad, or the call is refused for one of these
+abbrev is_done : Result ⊤ Refusal → Bool
+is_done (Ok done) = true
+is_done (Err e) = false
+
+abbrev number_said : Result ⊤ Refusal → ℕ
+number_said (Ok done) = 0
+number_said (Err e) = number_of e
+
+pub admitted_both : (valid bad : Bool) (r : Result ⊤ Refusal) → r ≡ admitted valid bad → r ≡ Ok tt → (valid ≡ true) × (bad ≡ false)
+admitted_both true false r e ok = (refl, refl)
+admitted_both true true r e ok = never (ap is_done (sym e ∙ ok))
+admitted_both false bad r e ok = never (ap is_done (sym e ∙ ok))
+
+pub not_admitted : (xs : List ℕ) (c : Call) (bad : Bool) (r : Result ⊤ Refusal) (e : Refusal) → r ≡ admitted (is_valid xs) bad → r ≡ Err e
+    → (is_valid xs ≡ true → bad ≡ true → (refused 90 ≡ answer_to xs c) × (xs ≡ next xs c)) → (refused (number_of e) ≡ answer_to xs c) × (xs ≡ next xs c)
+not_admitted xs c bad r e is err size = by (is_valid xs) bad refl refl (sym is ∙ err)
+  where
+    by : (t b : Bool) → is_valid xs ≡ t → bad ≡ b → admitted t b ≡ Err e → (refused (number_of e) ≡ answer_to xs c) × (xs ≡ next xs c)
+    by true true v w q = let (a, n) = size v w in (ap (λ z. refused (number_said z)) (sym q) ∙ a, n)
+    by true false v w q = never (ap not (ap is_done q))
+    by false b v w q = let (a, n) = invalid xs v c in (ap (λ z. refused (number_said z)) (sym q) ∙ a, n)
+
+-- what a refusal that is passed on by `?` says
+pub passed_on : {T : Type 0} (r : Result T Refusal) (e : Refusal) → IsErrAnd r (λ f. f ≡ e) → r ≡ Err e
+passed_on (Ok x) e h = absurd h
+passed_on (Err f) e h = ap Err h
+
+pub told_err : {T C : Type 0} {A : Answer} {e : Refusal} (says : Result T Refusal → Answer) (r : Result T Refusal) → IsErrAnd r (λ f. f ≡ e)
+    → (says (Err e) ≡ A) × C → (says r ≡ A) × C
+told_err {e = e} says r h (a, n) = (ap says (passed_on r e h) ∙ a, n)
+
+-- what a search found
+pub found_ok : (q : CodeOption ℕ) (e : Refusal) (k : ℕ) (r : Result ℕ Refusal) → r ≡ ok_or q e → r ≡ Ok k → some k ≡ search_says q
+found_ok q e k r is ok = by q (sym is ∙ ok)
+  where
+    place : Result ℕ Refusal → Option ℕ
+    place (Ok i) = some i
+    place (Err f) = none
+
+    by : (q : CodeOption ℕ) → ok_or q e ≡ Ok k → some k ≡ search_says q
+    by (Some i) z = sym (ap place z)
+    by None z = sym (ap place z)
+
+pub found_err : (xs : List ℕ) (c : Call) (q : CodeOption ℕ) (e f : Refusal) (r : Result ℕ Refusal) → r ≡ ok_or q e → r ≡ Err f
+    → (q ≡ None → (refused (number_of e) ≡ answer_to xs c) × (xs ≡ next xs c)) → (refused (number_of f) ≡ answer_to xs c) × (xs ≡ next xs c)
+found_err xs c q e f r is err none_found = by q refl (sym is ∙ err)
+  where
+    said : Result ℕ Refusal → ℕ
+    said (Ok i) = 0
+    said (Err g) = number_of g
+
+    some_place : Result ℕ Refusal → Bool
+    some_place (Ok i) = true
+    some_place (Err g) = false
+
+    by : (p : CodeOption ℕ) → q ≡ p → ok_or p e ≡ Err f → (refused (number_of f) ≡ answer_to xs c) × (xs ≡ next xs c)
+    by (Some i) w z = never (sym (ap some_place z))
+    by None w z = let (a, n) = none_found w in (ap (λ m. refused (said m)) (sym z) ∙ a, n)
 
 module _ (xs : List ℕ) (v : is_valid xs ≡ true) where
   abbrev runs : List (Option Run)
@@ -101,7 +162,7 @@ module _ (xs : List ℕ) (v : is_valid xs ≡ true) where
 
   -- a search for a run
   module _ (l : List ℕ) (some_octet : 0 < length l) where
-    pub is_open_at : (r : Search) → search_says r ≡ first_from (is_named l) 0 (parts 881 4 xs) → is_open l runs ≡ is_at r
+    pub is_open_at : (r : CodeOption ℕ) → search_says r ≡ first_from (is_named l) 0 (parts 881 4 xs) → is_open l runs ≡ has_place r
     is_open_at r e = told_any (holds label_of l) 0 runs r (e ∙ search_label l some_octet)
 
     module _ (k : ℕ) (there : some k ≡ first_from (is_named l) 0 (parts 881 4 xs)) where
@@ -122,17 +183,16 @@ module _ (xs : List ℕ) (v : is_valid xs ≡ true) where
           by (some r) e t = (r, e)
 
       is_there : is_open l runs ≡ true
-      is_there = is_open_at (Search.At k) there
+      is_there = is_open_at (Some k) there
 
       -- ---- closing
 
-      pub close_there : bad_size label_max l ≡ false → (y : List ℕ) → y ≡ filled (length (mid_of (k * 881) (k * 881 + 881 - k * 881) xs)) []
+      pub close_there : bad_size label_max l ≡ false → (y : List ℕ) → y ≡ replicate (length (mid_of (k * 881) (k * 881 + 881 - k * 881) xs)) 0
           → (accepted [] ≡ answer_to xs (close_run l)) × (put_mid (k * 881) (k * 881 + 881 - k * 881) xs y ≡ next xs (close_run l))
       unfolding checks values effect run_record
       close_there size y is =
           let wide : length (mid_of (k * 881) (k * 881 + 881 - k * 881) xs) ≡ 881 = simp (length-take, length-drop) (omega (arith, run_inside, valid_long)) in
-          let zero_row : y ≡ run_record none = is ∙ ap (λ n. filled n []) wide
-          ∙ take_all 881 (replicate 881 0) (omega (arith, length-replicate {A = ℕ} 881 0)) in
+          let zero_row : y ≡ run_record none = is ∙ ap (λ n. replicate n 0) wide in
           accepted_with (close_run l) [] (put_mid (k * 881) (k * 881 + 881 - k * 881) xs y) (rw (size, is_there))
           (put_run k run_inside none y zero_row ∙ ap registry_record (sym (at_run none).1))
 
@@ -223,7 +283,7 @@ module _ (xs : List ℕ) (v : is_valid xs ≡ true) where
             ∙ ap (λ z. registry_record (set runs k (some (record { label = z; slots = after })))) (sym (label_is r e))
             ∙ sym (put_slots r e after (joined (map port_record after)) refl)
 
-        pub publish_there : (q : Done) (y : List ℕ) → GivesPublished d t s rows q y
+        pub publish_there : (q : Result ⊤ Refusal) (y : List ℕ) → GivesPublished d t s rows q y
             → (done_says q ≡ answer_to xs (publish l d t s)) × (put_mid from 848 xs y ≡ next xs (publish l d t s))
         publish_there q y (says, is) = by (settle (slot_checks d s (slots_at rows)) []) refl
           where
@@ -249,45 +309,41 @@ module _ (xs : List ℕ) (v : is_valid xs ≡ true) where
         rows_octets : length (take 848 (drop from xs)) ≡ 848
         rows_octets = simp (length-take, length-drop) (omega (arith, run_inside, valid_long))
 
-        pub ask_movable : (q : Asked) → GivesPort d (take 848 (drop from xs)) q → Movable q from
-        ask_movable (Asked.Port p) (is, inside, some_text, at) = omega (arith, inside, rows_octets, run_inside)
-        ask_movable Asked.Nothing g = tt
-        ask_movable (Asked.Refused n) g = tt
+        pub ask_movable : (q : CodeOption Span) → GivesPort d (take 848 (drop from xs)) q → Movable q from
+        ask_movable (Some p) (is, inside, some_text, at) = omega (arith, inside, rows_octets, run_inside)
+        ask_movable None g = tt
 
-        pub ask_there : (q : Asked) → GivesPort d (take 848 (drop from xs)) q → (r : Asked) → r ≡ moved_by q from → asked_says xs r ≡ answer_to xs (ask l d)
-        ask_there q g r is = ap (asked_says xs) is ∙ by q g ∙ sym ask_answer
+        pub ask_there : (q : CodeOption Span) → GivesPort d (take 848 (drop from xs)) q → (r : CodeOption Span) → r ≡ moved_by q from → asked_says xs (Ok r) ≡ answer_to xs (ask l d)
+        ask_there q g r is = ap (λ z. asked_says xs (Ok z)) is ∙ by q g ∙ sym ask_answer
           where
-            by : (q : Asked) → GivesPort d (take 848 (drop from xs)) q
-                → asked_says xs (moved_by q from) ≡ accepted (text_of (found destination_of d (slots_at (take 848 (drop from xs)))))
-            by (Asked.Port p) (is, inside, some_text, at) =
+            by : (q : CodeOption Span) → GivesPort d (take 848 (drop from xs)) q
+                → asked_says xs (Ok (moved_by q from)) ≡ accepted (text_of (found destination_of d (slots_at (take 848 (drop from xs)))))
+            by (Some p) (is, inside, some_text, at) =
                 let short : p.len ≤ 848 - p.start = omega (arith, inside, rows_octets) in
                 ap accepted
                 (ap (take p.len) (sym (drop-drop p.start from xs)) ∙ sym (take-take p.len (848 - p.start) (drop p.start (drop from xs)) short)
                 ∙ ap (take p.len) (sym (drop_take p.start 848 (drop from xs))) ∙ is)
-            by Asked.Nothing g = ap accepted g
-            by (Asked.Refused n) g = absurd (g tt)
+            by None g = ap accepted g
 
-        pub ask_starts : (q : Asked) → GivesPort d (take 848 (drop from xs)) q → (r : Asked) → r ≡ moved_by q from → StartsAt xs (text_start xs l d) r
+        pub ask_starts : (q : CodeOption Span) → GivesPort d (take 848 (drop from xs)) q → (r : CodeOption Span) → r ≡ moved_by q from → StartsAt xs (text_start xs l d) (Ok r)
         unfolding text_start
-        ask_starts q g r is = subst (StartsAt xs (text_start xs l d)) (sym is) (by q g)
+        ask_starts q g r is = subst (λ z. StartsAt xs (text_start xs l d) (Ok z)) (sym is) (by q g)
           where
-            by : (q : Asked) → GivesPort d (take 848 (drop from xs)) q → StartsAt xs (text_start xs l d) (moved_by q from)
-            by (Asked.Port p) (is, inside, some_text, at) =
+            by : (q : CodeOption Span) → GivesPort d (take 848 (drop from xs)) q → StartsAt xs (text_start xs l d) (Ok (moved_by q from))
+            by (Some p) (is, inside, some_text, at) =
                 let (r, e) = run_there in (
                   ap₂ (λ a b. a * 881 + 33 + b) (place_first label_of l k runs (there ∙ search_label l some_octet))
                       (at ∙ ap (λ z. place destination_of d z * 106 + 34) (slots_of_run r e)),
                   omega (arith, inside, rows_octets, run_inside, valid_long),
                 )
-            by Asked.Nothing g = tt
-            by (Asked.Refused n) g = absurd (g tt)
+            by None g = tt
 
-        pub ask_bounded : (q : Asked) → GivesPort d (take 848 (drop from xs)) q → (r : Asked) → r ≡ moved_by q from → Bounded r
-        ask_bounded q g r is = subst Bounded (sym is) (by q g)
+        pub ask_bounded : (q : CodeOption Span) → GivesPort d (take 848 (drop from xs)) q → (r : CodeOption Span) → r ≡ moved_by q from → Bounded (Ok r)
+        ask_bounded q g r is = subst (λ z. Bounded (Ok z)) (sym is) (by q g)
           where
-            by : (q : Asked) → GivesPort d (take 848 (drop from xs)) q → Bounded (moved_by q from)
-            by (Asked.Port p) (is, inside, some_text, at) = (some_text, omega (arith, inside, rows_octets, run_inside))
-            by Asked.Nothing g = tt
-            by (Asked.Refused n) g = absurd (g tt)
+            by : (q : CodeOption Span) → GivesPort d (take 848 (drop from xs)) q → Bounded (Ok (moved_by q from))
+            by (Some p) (is, inside, some_text, at) = (some_text, omega (arith, inside, rows_octets, run_inside))
+            by None g = tt
 
   -- ---- opening
 
@@ -295,7 +351,7 @@ module _ (xs : List ℕ) (v : is_valid xs ≡ true) where
     pub open_full : none ≡ first_from (is_named []) 0 (parts 881 4 xs) → (refused 95 ≡ answer_to xs (open_run l)) × (xs ≡ next xs (open_run l))
     unfolding checks values
     open_full e =
-        let full : has_free runs ≡ false = told_any is_free 0 runs Search.Nowhere (e ∙ search_place) in
+        let full : has_free runs ≡ false = told_any is_free 0 runs None (e ∙ search_place) in
         refused_with (open_run l) 95 (rw (size, new, full))
 
     module _ (k : ℕ) (there : some k ≡ first_from (is_named []) 0 (parts 881 4 xs)) where
@@ -321,7 +377,7 @@ module _ (xs : List ℕ) (v : is_valid xs ≡ true) where
           let wide : k * 881 + 33 - k * 881 ≡ 33 = omega arith in
           let long : length (mid_of (k * 881) (k * 881 + 33 - k * 881) xs) - 1 ≡ 32 = simp (length-take, length-drop)
           (omega (arith, place_inside, valid_long)) in
-          let free : has_free runs ≡ true = told_any is_free 0 runs (Search.At k) (there ∙ search_place) in
+          let free : has_free runs ≡ true = told_any is_free 0 runs (Some k) (there ∙ search_place) in
           let back : drop 33 X ≡ replicate 848 0 ++ drop (k * 881 + 881) xs =
           ap (drop 33) (sym (take-append-drop 881 X) ∙ ap (◌++ drop 881 X) free_row) ∙ ap (replicate 848 0 ++◌) (drop-drop 881 (k * 881) xs) in
           let written : put_mid (k * 881) (k * 881 + 33 - k * 881) xs y ≡ put_row 881 xs k (text_field 32 l ++ replicate 848 0) =
@@ -365,13 +421,14 @@ module _ (xs : List ℕ) (v : is_valid xs ≡ true) where
     publish_none e o = refused_with (publish l d t s) 91 (rw (e, o))
 
   module _ (l d : List ℕ) where
-    pub ask_bad : bad_size label_max l || bad_size destination_max d ≡ true → refused 90 ≡ answer_to xs (ask l d)
+    pub ask_bad : bad_size label_max l || bad_size destination_max d ≡ true → (refused 90 ≡ answer_to xs (ask l d)) × (xs ≡ next xs (ask l d))
     unfolding checks values
-    ask_bad e = (refused_with (ask l d) 90 (rw e)).0
+    ask_bad e = refused_with (ask l d) 90 (rw e)
 
-    pub ask_none : bad_size label_max l || bad_size destination_max d ≡ false → is_open l runs ≡ false → refused 91 ≡ answer_to xs (ask l d)
+    pub ask_none : bad_size label_max l || bad_size destination_max d ≡ false → is_open l runs ≡ false
+        → (refused 91 ≡ answer_to xs (ask l d)) × (xs ≡ next xs (ask l d))
     unfolding checks values
-    ask_none e o = (refused_with (ask l d) 91 (rw (e, o))).0
+    ask_none e o = refused_with (ask l d) 91 (rw (e, o))
 
 -- ---- a session's end
 
@@ -447,7 +504,7 @@ module _ (xs : List ℕ) (v : is_valid xs ≡ true) (l : List ℕ) (some_octet :
   pub slots_part : Slots (mid_of start (start + 848 - start) xs)
   slots_part = subst (λ n. Slots (take n (drop start xs))) (sym (wide_slots start)) (run_slots_are xs v l some_octet k there)
 
-  pub publish_part : (d t : List ℕ) (s : ℕ) → bad_size label_max l || (bad_size destination_max d || bad_size text_max t) ≡ false → (q : Done) (y : List ℕ)
+  pub publish_part : (d t : List ℕ) (s : ℕ) → bad_size label_max l || (bad_size destination_max d || bad_size text_max t) ≡ false → (q : Result ⊤ Refusal) (y : List ℕ)
       → GivesPublished d t s (mid_of start (start + 848 - start) xs) q y
       → (done_says q ≡ answer_to xs (publish l d t s)) × (put_mid start (start + 848 - start) xs y ≡ next xs (publish l d t s))
   publish_part d t s sizes q y g =
@@ -455,7 +512,7 @@ module _ (xs : List ℕ) (v : is_valid xs ≡ true) (l : List ℕ) (some_octet :
       (subst (λ n. GivesPublished d t s (take n (drop start xs)) q y) (wide_slots start) g) in
       (a, ap (λ n. put_mid start n xs y) (wide_slots start) ∙ w)
 
-  module _ (d : List ℕ) (sizes : bad_size label_max l || bad_size destination_max d ≡ false) (q : Asked)
+  module _ (d : List ℕ) (sizes : bad_size label_max l || bad_size destination_max d ≡ false) (q : CodeOption Span)
       (g : GivesPort d (mid_of start (start + 848 - start) xs) q) where
     gives : GivesPort d (take 848 (drop start xs)) q
     gives = subst (λ n. GivesPort d (take n (drop start xs)) q) (wide_slots start) g
@@ -463,7 +520,7 @@ module _ (xs : List ℕ) (v : is_valid xs ≡ true) (l : List ℕ) (some_octet :
     pub movable_part : Movable q start
     movable_part = ask_movable xs v l some_octet k there d sizes q gives
 
-    pub ask_part : (r : Asked) → r ≡ moved_by q start → (asked_says xs r ≡ answer_to xs (ask l d)) × StartsAt xs (text_start xs l d) r × Bounded r
+    pub ask_part : (r : CodeOption Span) → r ≡ moved_by q start → (asked_says xs (Ok r) ≡ answer_to xs (ask l d)) × StartsAt xs (text_start xs l d) (Ok r) × Bounded (Ok r)
     ask_part r is = (
       ask_there xs v l some_octet k there d sizes q gives r is,
       ask_starts xs v l some_octet k there d sizes q gives r is,
@@ -481,25 +538,31 @@ module _ (xs : List ℕ) (v : is_valid xs ≡ true) (l : List ℕ) (size : bad_s
       let long : length (mid_of (k * 881) (k * 881 + 33 - k * 881) xs) ≡ 33 = simp (length-take, length-drop) (omega (arith, valid_long xs v)) in
       (omega arith, omega arith)
 
--- ---- the numbers that C gets, read back
+-- ---- refusals
 
-pub asked_back : (xs : List ℕ) (q : Asked) → Bounded q → asked_read xs (asked_number q) ≡ asked_says xs q
-asked_back xs (Asked.Port p) (some_text, inside) =
-    let len : (p.len * 65536 + p.start) / 65536 ≡ p.len = omega arith in
-    let start : (p.len * 65536 + p.start) % 65536 ≡ p.start = omega arith in
-    ap (λ t. cond t (cond (eqb (p.len * 65536 + p.start) 0) (accepted []) (refused (p.len * 65536 + p.start)))
-    (accepted (take ((p.len * 65536 + p.start) / 65536) (drop ((p.len * 65536 + p.start) % 65536) xs))))
-    (le-ltb (p.len * 65536 + p.start) 65536 (omega arith))
-    ∙ ap₂ (λ a b. accepted (take a (drop b xs))) len start
-asked_back xs Asked.Nothing b = refl
-asked_back xs (Asked.Refused n) (Some_number, small) = rw (lt-ltb n 65536 (omega arith), ne_eqb n 0 (λ e. omega arith))
+pub small_number : (e : Refusal) → (0 < number_of e) × (number_of e < 256)
+small_number InvalidRecord = (omega arith, omega arith)
+small_number BadSize = (omega arith, omega arith)
+small_number NotOpen = (omega arith, omega arith)
+small_number OtherSession = (omega arith, omega arith)
+small_number NoPlace = (omega arith, omega arith)
+small_number AlreadyOpen = (omega arith, omega arith)
+small_number FourOpen = (omega arith, omega arith)
 
-pub asked_packed : (xs : List ℕ) (start : ℕ) (q : Asked) → Bounded q → StartsAt xs start q → asked_number q ≡ packed_ask (asked_says xs q) start
-asked_packed xs start (Asked.Port p) (some_text, inside) (at, room) =
+-- asking that is refused
+pub ask_refused : (xs : List ℕ) {A : Answer} (start : ℕ) (e : Refusal) (r : Result (CodeOption Span) Refusal) → IsErrAnd r (λ f. f ≡ e) → refused (number_of e) ≡ A
+    → (asked_says xs r ≡ A) × StartsAt xs start r × Bounded r
+ask_refused xs {A} start e r h a =
+    subst (λ z. (asked_says xs z ≡ A) × StartsAt xs start z × Bounded z) (sym (passed_on r e h)) (a, tt, small_number e)
+
+-- ---- the number that C gets says the answer and where the text begins
+
+pub asked_packed : (xs : List ℕ) (start : ℕ) (q : Result (CodeOption Span) Refusal) → Bounded q → StartsAt xs start q → asked_number q ≡ packed_ask (asked_says xs q) start
+asked_packed xs start (Ok (Some p)) (some_text, inside) (at, room) =
     by (take p.len (drop p.start xs)) (length-take-le p.len (drop p.start xs) (simp length-drop (omega (arith, room))))
   where
     by : (text : List ℕ) → length text ≡ p.len → p.len * 65536 + p.start ≡ packed_ask (accepted text) start
     by [] long = absurd (omega (arith, long, some_text))
     by (x ∷ text) long = ap₂ (λ a b. a * 65536 + b) (sym long) at
-asked_packed xs start Asked.Nothing b s = refl
-asked_packed xs start (Asked.Refused n) b s = refl
+asked_packed xs start (Ok None) b s = refl
+asked_packed xs start (Err e) b s = refl

@@ -1,82 +1,84 @@
 -- Rows changed one by one, and one row put in the place of another. Assumes nothing.
---     Walked, walked_first, walked_next, walked_end     a walk that changes each row
+--     Walked, walked_first, walked_next                 a walk that changes each row
 --     put_row, row_in, set_map                          a row put in place k
 use mathlib.Core.Path.{◌≡◌, refl, sym, ap, ap₂, ◌∙◌}
-use mathlib.Core.List.{List, [], ◌∷◌, ◌++◌, map, append_assoc, append-nil}
+use mathlib.Core.List.{List, [], ◌∷◌, ◌++◌, map, append_assoc}
 use Prim.Native.Nat.{ℕ, zero, suc, ◌+◌, ◌-◌, ◌*◌, ◌≤◌, ◌<◌}
 use native.Mathlib.Nat.{zero-add, zero-mul, suc-mul}
 use native.Mathlib.Omega.{arith}
 use lib.ListN.{length, take, drop, set, get_or, length-append, length-take, length-drop}
-use lib.Seq.{take_all, take_at, drop_at, take-add, drop-drop}
+use lib.Seq.{take_at, drop_at, take-add, drop-drop}
 use borrow.Rule.Slice.PartMut.{put_mid, mid_of}
-use Rattle.stores.proofs.Walking.{Before, first_place, next_place}
+use Rattle.stores.proofs.Walking.{after_row}
 use Rattle.stores.specs.Compaction.{joined}
 use Rattle.registry.specs.Records.{parts}
 use Rattle.registry.specs.Tests.{Rows}
-use Rattle.registry.proofs.Walking.{row_at, parts_first, parts_at, parts_end, row_room}
+use Rattle.registry.proofs.Walking.{row_at, parts_first, parts_at, row_room}
 use Rattle.registry.proofs.Testing.{parts_whole}
 
 -- ---- each row changed by f: d₀ as it was, d as it is before row k
 
-pub record Walked (f : List ℕ → List ℕ) (w n : ℕ) (d₀ d : List ℕ) (k at : ℕ) : Type 0 where
-  pub walk : Before w n k at
+pub record Walked (f : List ℕ → List ℕ) (w n : ℕ) (d₀ d : List ℕ) (k : ℕ) : Type 0 where
+  pub passed : k ≤ n
   pub as_long : length d ≡ length d₀
-  pub done : take at d ++ joined (map f (parts w (n - k) (drop at d₀))) ≡ joined (map f (parts w n d₀))
-  pub kept : drop at d ≡ drop at d₀
+  pub done : take (k * w) d ++ joined (map f (parts w (n - k) (drop (k * w) d₀))) ≡ joined (map f (parts w n d₀))
+  pub kept : drop (k * w) d ≡ drop (k * w) d₀
 
-pub walked_first : (f : List ℕ → List ℕ) (w n : ℕ) (d : List ℕ) → Walked f w n d d 0 0
-walked_first f w n d = record { walk = first_place w n; as_long = refl; done = ap (λ z. joined (map f z)) (sym (parts_first w n d)); kept = refl }
+pub walked_first : (f : List ℕ → List ℕ) (w n : ℕ) (d : List ℕ) → Walked f w n d d 0
+walked_first f w n d =
+    record {
+      passed = omega arith;
+      as_long = refl;
+      done = ap (λ m. take m d ++ joined (map f (parts w (n - 0) (drop (0 * w) d)))) (zero-mul w) ∙ ap (λ z. joined (map f z)) (sym (parts_first w n d));
+      kept = refl;
+    }
 
-module _ {f : List ℕ → List ℕ} {w n k at : ℕ} {d₀ d : List ℕ} (r : Rows w n d₀) (h : Walked f w n d₀ d k at) where
-  pub walked_room : k < n → at + w ≤ length d
-  walked_room more = omega (arith, row_room r h.walk more, h.as_long)
+module _ {f : List ℕ → List ℕ} {w n k : ℕ} {d₀ d : List ℕ} (r : Rows w n d₀) (h : Walked f w n d₀ d k) where
+  pub walked_room : k < n → k * w + w ≤ length d
+  walked_room more = omega (arith, row_room r more, h.as_long)
 
-  module _ (more : k < n) (keeps : (x : List ℕ) → length x ≡ w → length (f x) ≡ w) (ys : List ℕ) (is : ys ≡ f (mid_of at (at + w - at) d)) where
-    long : length ys ≡ w
-    long = ap length is ∙ keeps (mid_of at (at + w - at) d) (simp (length-take, length-drop) (omega (arith, walked_room more)))
-
+  module _ (more : k < n) (ys : List ℕ) (is : ys ≡ f (mid_of (k * w) (k * w + w - k * w) d)) (long : length ys ≡ w) where
     changed : List ℕ
-    changed = put_mid at (at + w - at) d ys
+    changed = put_mid (k * w) (k * w + w - k * w) d ys
 
-    front_long : length (take at d ++ ys) ≡ at + w
-    front_long = simp (length-append, length-take) (omega (arith, walked_room more, long))
+    front_long : length (take (k * w) d ++ ys) ≡ (k + 1) * w
+    front_long = simp (length-append, length-take) (omega (arith, walked_room more, long, after_row w k))
 
-    changed_is : changed ≡ (take at d ++ ys) ++ drop (at + w) d
+    changed_is : changed ≡ (take (k * w) d ++ ys) ++ drop ((k + 1) * w) d
     unfolding changed
     changed_is =
-        let wide : at + w - at ≡ w = omega arith in
-        ap (λ z. take at d ++ (ys ++ drop z (drop at d))) wide ∙ ap (λ z. take at d ++ (ys ++ z)) (drop-drop w at d)
-        ∙ sym (append_assoc (take at d) ys (drop (at + w) d))
+        let wide : k * w + w - k * w ≡ w = omega arith in
+        ap (λ z. take (k * w) d ++ (ys ++ drop z (drop (k * w) d))) wide
+        ∙ ap (λ z. take (k * w) d ++ (ys ++ z)) (drop-drop w (k * w) d ∙ ap (λ i. drop i d) (after_row w k))
+        ∙ sym (append_assoc (take (k * w) d) ys (drop ((k + 1) * w) d))
 
-    kept_on : drop (at + w) d ≡ drop (at + w) d₀
-    kept_on = sym (drop-drop w at d) ∙ ap (drop w) h.kept ∙ drop-drop w at d₀
+    kept_on : drop ((k + 1) * w) d ≡ drop ((k + 1) * w) d₀
+    kept_on =
+        ap (λ i. drop i d) (sym (after_row w k)) ∙ sym (drop-drop w (k * w) d) ∙ ap (drop w) h.kept
+        ∙ drop-drop w (k * w) d₀ ∙ ap (λ i. drop i d₀) (after_row w k)
 
-    row_same : mid_of at (at + w - at) d ≡ row_at at (at + w) d₀
-    row_same = ap (take (at + w - at)) h.kept
+    row_same : mid_of (k * w) (k * w + w - k * w) d ≡ row_at (k * w) (k * w + w) d₀
+    row_same = ap (take (k * w + w - k * w)) h.kept
 
-    pub walked_next : Walked f w n d₀ (put_mid at (at + w - at) d ys) (k + 1) (at + w)
+    pub walked_next : Walked f w n d₀ (put_mid (k * w) (k * w + w - k * w) d ys) (k + 1)
     unfolding changed
     walked_next =
         record {
-          walk = next_place h.walk more;
+          passed = omega (arith, more);
           as_long =
-              ap length changed_is ∙ length-append (take at d ++ ys) (drop (at + w) d)
-              ∙ omega (arith, front_long, length-drop (at + w) d, walked_room more, h.as_long);
+              ap length changed_is ∙ length-append (take (k * w) d ++ ys) (drop ((k + 1) * w) d)
+              ∙ omega (arith, front_long, length-drop ((k + 1) * w) d, walked_room more, after_row w k, h.as_long);
           done =
-              ap (◌++ joined (map f (parts w (n - (k + 1)) (drop (at + w) d₀)))) (ap (take (at + w)) changed_is
-              ∙ take_at (take at d ++ ys) (drop (at + w) d) (at + w) front_long)
-              ∙ append_assoc (take at d) ys (joined (map f (parts w (n - (k + 1)) (drop (at + w) d₀))))
-              ∙ ap (λ z. take at d ++ (z ++ joined (map f (parts w (n - (k + 1)) (drop (at + w) d₀))))) (is ∙ ap f row_same)
-              ∙ ap (λ z. take at d ++ joined (map f z)) (sym (parts_at r h.walk more))
+              ap (◌++ joined (map f (parts w (n - (k + 1)) (drop ((k + 1) * w) d₀)))) (ap (take ((k + 1) * w)) changed_is
+              ∙ take_at (take (k * w) d ++ ys) (drop ((k + 1) * w) d) ((k + 1) * w) front_long)
+              ∙ append_assoc (take (k * w) d) ys (joined (map f (parts w (n - (k + 1)) (drop ((k + 1) * w) d₀))))
+              ∙ ap (λ z. take (k * w) d ++ (z ++ joined (map f (parts w (n - (k + 1)) (drop ((k + 1) * w) d₀))))) (is ∙ ap f row_same)
+              ∙ ap (λ z. take (k * w) d ++ joined (map f z)) (sym (parts_at r more))
               ∙ h.done;
-          kept = ap (drop (at + w)) changed_is ∙ drop_at (take at d ++ ys) (drop (at + w) d) (at + w) front_long ∙ kept_on;
+          kept =
+              ap (drop ((k + 1) * w)) changed_is
+              ∙ drop_at (take (k * w) d ++ ys) (drop ((k + 1) * w) d) ((k + 1) * w) front_long ∙ kept_on;
         }
-
-  pub walked_end : n ≤ k → d ≡ joined (map f (parts w n d₀))
-  walked_end over =
-      let last : k ≡ n = omega (arith, h.walk.passed) in
-      let all : length d ≤ at = omega (arith, h.as_long, r.long, h.walk.starts, ap (◌* w) last) in
-      sym (take_all at d all) ∙ sym (append-nil (take at d)) ∙ ap (λ z. take at d ++ joined (map f z)) (sym (parts_end r h.walk over)) ∙ h.done
 
 -- ---- one row put in place k
 

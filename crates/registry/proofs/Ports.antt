@@ -1,21 +1,21 @@
 -- Laws of a port in its slot, by the code's parts. Assumes nothing.
 --     port_free, port_bad, port_rest      the test of a slot
 --     port_put                            a port laid out part by part
---     cleared                             a slot freed
+--     without_long                        a slot freed
 use mathlib.Core.Path.{◌≡◌, refl, sym, ap, ap₂, ◌∙◌}
 use mathlib.Core.Bool.{Bool, true, false, cond, ◌&&◌}
 use mathlib.Core.List.{List, [], ◌++◌, append-nil, append_assoc}
 use mathlib.Core.Option.{some}
 use Prim.Native.Nat.{ℕ, ◌+◌, ◌-◌, ◌≤◌}
 use native.Mathlib.Omega.{arith}
-use lib.ListN.{length, take, drop, get_or, replicate, length-append, length-drop, length-take, length-replicate, drop_of_length-le}
-use lib.Seq.{take_all, take_at, drop_at, drop-drop}
+use lib.ListN.{length, take, drop, get_or, length-append, length-drop, length-take, drop_of_length-le}
+use lib.Seq.{take_at, drop_at, drop-drop}
 use borrow.Rule.Slice.PartMut.{put_mid, mid_of}
 use borrow.Author.Tests.{eq-eqb, ne_eqb}
 use Rattle.headers.proofs.Rows.{cond_case}
 use Rattle.headers.specs.Numbers.{numeral}
 use Rattle.headers.proofs.Numerals.{length_numeral}
-use Rattle.stores.specs.Places.{is_zero, filled}
+use Rattle.stores.specs.Places.{is_zero}
 use Rattle.stores.proofs.Filling.{padded_long}
 use Rattle.registry.specs.Records.{text_field, port_size, port_record}
 use Rattle.registry.specs.Tests.{is_field, is_port, row_of, row_without}
@@ -49,9 +49,6 @@ module _ (xs a b n : List ℕ) (long : length xs ≡ 106) (la : length a ≡ 33)
   first : put 0 33 xs a ≡ a ++ drop 33 xs
   first = refl
 
-  first_long : length (a ++ drop 33 xs) ≡ 106
-  first_long = simp (length-append, length-drop) (omega arith)
-
   second : put 33 98 (a ++ drop 33 xs) b ≡ a ++ (b ++ drop 98 xs)
   second =
       ap₂ (λ p q. p ++ (b ++ drop 65 q)) (take_at a (drop 33 xs) 33 la) (drop_at a (drop 33 xs) 33 la)
@@ -74,7 +71,7 @@ text_long w x h = omega (arith, padded_long w x h)
 pub port_put : (xs d t a b n : List ℕ) (s : ℕ) → length xs ≡ port_size → length d ≤ 32 → length t ≤ 64
     → a ≡ text_field (length (mid_of 0 33 xs) - 1) d
     → b ≡ text_field (length (mid_of 33 65 (put 0 33 xs a)) - 1) t
-    → n ≡ numeral 256 (length (mid_of 98 8 (put 33 98 (put 0 33 xs a) b))) s
+    → n ≡ numeral 256 8 s
     → put 98 106 (put 33 98 (put 0 33 xs a) b) n ≡ port_record (some (record { destination = d; text = t; session = s }))
 unfolding port_record
 port_put xs d t a b n s long hd ht ea eb en =
@@ -86,22 +83,10 @@ port_put xs d t a b n s long hd ht ea eb en =
     let fb : b ≡ text_field 64 t = eb ∙ ap (λ w. text_field w t) wb in
     let lb : length b ≡ 65 = ap length fb ∙ text_long 64 t ht in
     let two : put 33 98 (put 0 33 xs a) b ≡ a ++ (b ++ drop 98 xs) = second xs a b (numeral 256 8 s) long la lb (length_numeral 256 8 s) in
-    let l2 : length (put 33 98 (put 0 33 xs a) b) ≡ 106 = ap length two ∙ simp (length-append, length-drop) (omega arith) in
-    let wn : length (mid_of 98 8 (put 33 98 (put 0 33 xs a) b)) ≡ 8 = length-take 8 (drop 98 (put 33 98 (put 0 33 xs a) b))
-    ∙ omega (arith, length-drop 98 (put 33 98 (put 0 33 xs a) b), l2) in
-    let fn : n ≡ numeral 256 8 s = en ∙ ap (λ w. numeral 256 w s) wn in
-    parts_put xs a b n long la lb (ap length fn ∙ length_numeral 256 8 s)
-    ∙ ap₂ (λ p q. p ++ q) fa (ap₂ (λ p q. p ++ q) fb fn)
+    parts_put xs a b n long la lb (ap length en ∙ length_numeral 256 8 s)
+    ∙ ap₂ (λ p q. p ++ q) fa (ap₂ (λ p q. p ++ q) fb en)
 
 -- ---- a slot freed
-
-pub cleared : (s : ℕ) (xs ys : List ℕ) → length xs ≡ port_size → row_of s xs ≡ true → ys ≡ filled (length xs) [] → ys ≡ row_without s xs
-cleared s xs ys long e is =
-    is ∙ ap (λ n. filled n []) long ∙ take_all 106 (replicate 106 0) (omega (arith, length-replicate {A = ℕ} 106 0))
-    ∙ sym (ap (λ t. cond t (replicate port_size 0) xs) e)
-
-pub kept : (s : ℕ) (xs : List ℕ) → row_of s xs ≡ false → xs ≡ row_without s xs
-kept s xs e = sym (ap (λ t. cond t (replicate port_size 0) xs) e)
 
 pub without_long : (s : ℕ) (xs : List ℕ) → length xs ≡ port_size → length (row_without s xs) ≡ port_size
 without_long s xs long = cond_case (λ z. length z ≡ port_size) (row_of s xs) (λ e. refl) (λ e. long)

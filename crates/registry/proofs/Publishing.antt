@@ -19,18 +19,17 @@ use Rattle.headers.specs.Numbers.{evaluate, numeral}
 use Rattle.headers.proofs.Rows.{both_ways, same_eq, same_self}
 use Rattle.headers.proofs.Numerals.{length_numeral, value_numeral}
 use Rattle.stores.specs.Searches.{first_from, replaced, search_says}
-use Rattle.stores.specs.declared.search.Search.{Search}
+use Rattle.std.specs.Prelude.{Option as CodeOption, Some, None, Result, Ok, Err, ok_or}
 use Rattle.stores.proofs.Searching.{told_any, first_map, first_map_on, found_here}
 use Rattle.registry.specs.Slots.{is_free, holds, has, has_free, found, place}
 use Rattle.registry.specs.Registry.{Port, destination_of, sessions_max, good_port, published}
 use Rattle.registry.specs.Calls.{text_of}
 use Rattle.stores.specs.Compaction.{joined}
 use Rattle.registry.specs.Records.{parts, text_field, port_record, port_in}
-use Rattle.registry.specs.Tests.{is_named, Rows, row_of}
-use Rattle.registry.specs.Steps.{Slots, slots_at, GivesSlot, GivesPublished, row_of_rows, when_held, when_free}
-use Rattle.registry.specs.declared.run.Slot.{Slot}
-use Rattle.registry.specs.declared.run.Slot.TheVariants.{At, Refused}
-use Rattle.registry.specs.declared.registry.Done.{Done}
+use Rattle.registry.specs.Tests.{is_named, row_of}
+use Rattle.registry.specs.Steps.{Slots, slots_at, GivesSlot, GivesPublished, row_of_rows, when_held}
+use Rattle.registry.specs.declared.refusals.Refusal.{Refusal}
+use Rattle.registry.specs.declared.refusals.Refusal.TheVariants.{NoPlace}
 use Rattle.registry.proofs.Slots.{is_some, none_some, has_found, found_none, place_first}
 use Rattle.registry.proofs.Keeping.{GoodSlots, slots_record, every_found}
 use Rattle.registry.proofs.Records.{Long, field_long, field_drop, joined_long, GoodPort, good_port_record, slots_long, slots_parts}
@@ -122,9 +121,6 @@ module _ (rows : List ℕ) (h : Slots rows) where
       map_length [] = refl
       map_length (x ∷ xs) = ap suc (map_length xs)
 
-  pub slots_rows : Rows 106 8 rows
-  slots_rows = record { long = slots_octets; some_octet = omega arith }
-
   parts_long : Long 106 (parts 106 8 rows)
   parts_long = subst (Long 106) (sym slots_are) (slots_long slots slots_good.each)
 
@@ -176,7 +172,7 @@ module _ (rows : List ℕ) (h : Slots rows) where
       has_there : has destination_of d slots ≡ true
       has_there = let (p, e) = slot_holds in has_found destination_of d slots ∙ ap is_some (found_there p e)
 
-      pub slot_held : s < sessions_max → (r : Slot) → r ≡ when_held k (row_of s (row_of_rows k rows)) → GivesSlot d s slots r
+      pub slot_held : s < sessions_max → (r : Result ℕ Refusal) → r ≡ when_held k (row_of s (row_of_rows k rows)) → GivesSlot d s slots r
       unfolding published
       slot_held small r is =
           let (p, e) = slot_holds in
@@ -217,39 +213,39 @@ module _ (rows : List ℕ) (h : Slots rows) where
     -- it is in none
     module _ (nowhere : none ≡ first_from (is_named d) 0 (parts 106 8 rows)) where
       has_none : has destination_of d slots ≡ false
-      has_none = told_any (holds destination_of d) 0 slots Search.Nowhere (nowhere ∙ search_name d some_octet)
+      has_none = told_any (holds destination_of d) 0 slots None (nowhere ∙ search_name d some_octet)
 
       pub no_port : [] ≡ text_of (found destination_of d slots)
       no_port = sym (ap text_of (found_none destination_of d slots has_none))
 
-      pub slot_free : (q : Search) → search_says q ≡ first_from (is_named []) 0 (parts 106 8 rows) → (r : Slot) → r ≡ when_free q → GivesSlot d s slots r
+      pub slot_free : (q : CodeOption ℕ) → search_says q ≡ first_from (is_named []) 0 (parts 106 8 rows) → (r : Result ℕ Refusal) → r ≡ ok_or q NoPlace → GivesSlot d s slots r
       unfolding published
       slot_free q e r is = subst (GivesSlot d s slots) (sym is) (by q (e ∙ search_free))
         where
           none_there : found destination_of d slots ≡ none
           none_there = found_none destination_of d slots has_none
 
-          by : (q : Search) → search_says q ≡ first_from is_free 0 slots → GivesSlot d s slots (when_free q)
-          by (Search.At k) e =
-              let free : has_free slots ≡ true = told_any is_free 0 slots (Search.At k) e in (
+          by : (q : CodeOption ℕ) → search_says q ≡ first_from is_free 0 slots → GivesSlot d s slots (ok_or q NoPlace)
+          by (Some k) e =
+              let free : has_free slots ≡ true = told_any is_free 0 slots (Some k) e in (
                 rw (none_there, has_none, free),
                 omega (arith, (found_here is_free none none k slots e).0, slots_good.long),
                 λ t. ap (λ z. cond z (replaced (holds destination_of d) (some (record { destination = d; text = t; session = s })) slots)
                     (replaced is_free (some (record { destination = d; text = t; session = s })) slots)) has_none
                     ∙ (found_here is_free (some (record { destination = d; text = t; session = s })) none k slots e).1,
               )
-          by Search.Nowhere e =
-              let full : has_free slots ≡ false = told_any is_free 0 slots Search.Nowhere e in
+          by None e =
+              let full : has_free slots ≡ false = told_any is_free 0 slots None e in
               rw (none_there, has_none, full)
 
   -- ---- the slots after publishing
 
   module _ (d t : List ℕ) (s : ℕ) where
-    pub published_refused : (n : ℕ) → GivesSlot d s slots (Refused n) → GivesPublished d t s rows (Done.Refused n) rows
+    pub published_refused : (e : Refusal) → GivesSlot d s slots (Err e) → GivesPublished d t s rows (Err e) rows
     published_refused n e = rw e (refl, refl)
 
-    pub published_accepted : (k : ℕ) → GivesSlot d s slots (At k) → (y : List ℕ) → y ≡ port_record (some (record { destination = d; text = t; session = s }))
-        → GivesPublished d t s rows Done.Accepted (put_mid (k * 106) (k * 106 + 106 - k * 106) rows y)
+    pub published_accepted : (k : ℕ) → GivesSlot d s slots (Ok k) → (y : List ℕ) → y ≡ port_record (some (record { destination = d; text = t; session = s }))
+        → GivesPublished d t s rows (Ok tt) (put_mid (k * 106) (k * 106 + 106 - k * 106) rows y)
     published_accepted k (e, less, is) y w =
         let p : Port = record { destination = d; text = t; session = s } in
         let after : put_mid (k * 106) (k * 106 + 106 - k * 106) rows y ≡ joined (map port_record (published p slots)) =
@@ -260,11 +256,11 @@ module _ (rows : List ℕ) (h : Slots rows) where
 
 -- ---- as the code has it
 
-pub given_slot : (d : List ℕ) (s : ℕ) (rows : List ℕ) (r q : Slot) → r ≡ q → GivesSlot d s (slots_at rows) r → GivesSlot d s (slots_at rows) q
+pub given_slot : (d : List ℕ) (s : ℕ) (rows : List ℕ) (r q : Result ℕ Refusal) → r ≡ q → GivesSlot d s (slots_at rows) r → GivesSlot d s (slots_at rows) q
 given_slot d s rows r q e g = subst (GivesSlot d s (slots_at rows)) e g
 
 pub row_part : (k : ℕ) (rows : List ℕ) → take (k * 106 + 106 - k * 106) (drop (k * 106) rows) ≡ row_of_rows k rows
 row_part k rows = let wide : k * 106 + 106 - k * 106 ≡ 106 = omega arith in ap (λ n. take n (drop (k * 106) rows)) wide
 
-pub slot_less : (d : List ℕ) (s : ℕ) (rows : List ℕ) (r : Slot) (k : ℕ) → r ≡ At k → GivesSlot d s (slots_at rows) r → k < 8
-slot_less d s rows r k e g = (given_slot d s rows r (At k) e g).1
+pub slot_less : (d : List ℕ) (s : ℕ) (rows : List ℕ) (r : Result ℕ Refusal) (k : ℕ) → r ≡ Ok k → GivesSlot d s (slots_at rows) r → k < 8
+slot_less d s rows r k e g = (given_slot d s rows r (Ok k) e g).1

@@ -2,10 +2,10 @@
 --     run_free, run_no_label, run_no_ports, run_rest      the test of a row
 --     registry_short, registry_no_runs, registry_rest     the test of a record
 --     withdrawn_put, run_without_long                     a session's ports withdrawn from a row
-use mathlib.Core.Path.{◌≡◌, refl, sym, ap, ap₂, ◌∙◌}
+use mathlib.Core.Path.{◌≡◌, sym, ap, ap₂, ◌∙◌}
 use mathlib.Core.Bool.{Bool, true, false, cond, ◌&&◌}
 use mathlib.Core.List.{List, [], ◌∷◌, ◌++◌, map, append-nil}
-use Prim.Native.Nat.{ℕ, suc, ◌+◌, ◌<◌}
+use Prim.Native.Nat.{ℕ, ◌+◌, ◌<◌}
 use native.Mathlib.Omega.{arith}
 use lib.ListN.{length, take, drop, get_or, length-append, length-drop, drop_of_length-le}
 use lib.Seq.{take_all, length-take-le}
@@ -94,10 +94,6 @@ module _ (s : ℕ) where
   map_long : (rows : List (List ℕ)) → Long port_size rows → Long port_size (map (row_without s) rows)
   map_long [] l = tt
   map_long (x ∷ rows) l = (without_long s x l.0, map_long rows l.1)
-
-  map_many : (rows : List (List ℕ)) → length (map (row_without s) rows) ≡ length rows
-  map_many [] = refl
-  map_many (x ∷ rows) = ap suc (map_many rows)
 
   pub rows_without_long : (rows : List ℕ) → length rows ≡ 848 → length (rows_without s rows) ≡ 848
   rows_without_long rows long =

@@ -1,5 +1,5 @@
 -- What the code's parts of a call give, in its types. Assumes nothing.
-use Rattle.std.specs.Prelude.{◌≡◌, Bool, true, false, ◌&&◌, not, List, [], ◌∷◌, ◌++◌, map, ℕ, ◌+◌, ◌*◌, ◌≤◌, ◌<◌, length, take, drop, set}
+use Rattle.std.specs.Prelude.{◌≡◌, Bool, true, false, ◌&&◌, not, List, [], ◌∷◌, ◌++◌, map, ℕ, ◌+◌, ◌*◌, ◌≤◌, ◌<◌, length, take, drop, set, cond, Option as CodeOption, Some, None, Result, Ok, Err, ⊤}
 use Rattle.std.proofs.Math.Option.{Option, some}
 use Rattle.headers.specs.Answers.{accepted, refused, Check, settle}
 use Rattle.registry.specs.Slots.{has, has_free, found, place}
@@ -8,12 +8,15 @@ use Rattle.registry.specs.Calls.{of_other, text_of, left_by}
 use Rattle.stores.specs.Compaction.{joined}
 use Rattle.registry.specs.Records.{parts, port_size, port_record, port_in}
 use Rattle.registry.specs.Tests.{row_without}
-use Rattle.stores.specs.declared.search.Search.{Search}
-use Rattle.registry.specs.Answers.{done_says}
-use Rattle.registry.specs.declared.run.Slot.{Slot}
-use Rattle.registry.specs.declared.run.Slot.TheVariants.{At, Refused}
-use Rattle.registry.specs.declared.registry.Done.{Done}
-use Rattle.registry.specs.declared.registry.Asked.{Asked}
+use Rattle.headers.specs.declared.block.Span.{Span}
+use Rattle.registry.specs.Answers.{number_of, done_says}
+use Rattle.registry.specs.declared.refusals.Refusal.{Refusal}
+use Rattle.registry.specs.declared.refusals.Refusal.TheVariants.{InvalidRecord, BadSize, OtherSession}
+
+-- ---- what comes before all else, by whether the record is valid and a size is bad
+
+abbrev pub admitted : Bool → Bool → Result ⊤ Refusal
+admitted valid bad = cond valid (cond bad (Err BadSize) (Ok tt)) (Err InvalidRecord)
 
 -- ---- the slots of a run
 
@@ -32,15 +35,15 @@ slot_checks d s slots =
     record { fails = not (has destination_of d slots) && not (has_free slots); number = 93 } ∷
     []
 
-abbrev pub GivesSlot : List ℕ → ℕ → List (Option Port) → Slot → Type 0
-GivesSlot d s slots (At k) =
+abbrev pub GivesSlot : List ℕ → ℕ → List (Option Port) → Result ℕ Refusal → Type 0
+GivesSlot d s slots (Ok k) =
     (settle (slot_checks d s slots) [] ≡ accepted []) × (k < 8)
     × ((t : List ℕ) → published (record { destination = d; text = t; session = s }) slots
     ≡ set slots k (some (record { destination = d; text = t; session = s })))
-GivesSlot d s slots (Refused n) = settle (slot_checks d s slots) [] ≡ refused n
+GivesSlot d s slots (Err e) = settle (slot_checks d s slots) [] ≡ refused (number_of e)
 
 -- the rows after publishing
-abbrev pub GivesPublished : List ℕ → List ℕ → ℕ → List ℕ → Done → List ℕ → Type 0
+abbrev pub GivesPublished : List ℕ → List ℕ → ℕ → List ℕ → Result ⊤ Refusal → List ℕ → Type 0
 GivesPublished d t s rows r after =
     (done_says r ≡ settle (slot_checks d s (slots_at rows)) [])
     × (after ≡ left_by (settle (slot_checks d s (slots_at rows)) []) rows
@@ -52,12 +55,11 @@ pub record Text (w : ℕ) (x : List ℕ) : Type 0 where
   pub short : length x ≤ w
 
 -- the port under a destination, in rows
-abbrev pub GivesPort : List ℕ → List ℕ → Asked → Type 0
-GivesPort d rows (Asked.Port p) =
+abbrev pub GivesPort : List ℕ → List ℕ → CodeOption Span → Type 0
+GivesPort d rows (Some p) =
     (take p.len (drop p.start rows) ≡ text_of (found destination_of d (slots_at rows))) × (p.start + p.len ≤ length rows) × (0 < p.len)
     × (p.start ≡ place destination_of d (slots_at rows) * port_size + 34)
-GivesPort d rows Asked.Nothing = [] ≡ text_of (found destination_of d (slots_at rows))
-GivesPort d rows (Asked.Refused n) = Unit {0} → ⊥
+GivesPort d rows None = [] ≡ text_of (found destination_of d (slots_at rows))
 
 -- a session's ports withdrawn, row by row
 abbrev pub rows_without : ℕ → List ℕ → List ℕ
@@ -66,25 +68,19 @@ rows_without s rows = joined (map (row_without s) (parts port_size ports_max row
 abbrev pub run_octets_without : ℕ → List ℕ → List ℕ
 run_octets_without s run = take 33 run ++ rows_without s (drop 33 run)
 
--- a slot that holds the destination, by whether its session is the one that publishes; a free slot that was searched for
+-- a slot that holds the destination, by whether its session is the one that publishes
 abbrev pub row_of_rows : ℕ → List ℕ → List ℕ
 row_of_rows k rows = take port_size (drop (k * port_size) rows)
 
-abbrev pub when_held : ℕ → Bool → Slot
-when_held k true = At k
-when_held k false = Refused 92
-
-abbrev pub when_free : Search → Slot
-when_free (Search.At k) = At k
-when_free Search.Nowhere = Refused 93
+abbrev pub when_held : ℕ → Bool → Result ℕ Refusal
+when_held k true = Ok k
+when_held k false = Err OtherSession
 
 -- a place in a part of the record that begins at a, as a place in the record
-abbrev pub Movable : Asked → ℕ → Type 0
-Movable (Asked.Port p) a = a + p.start < 65536
-Movable Asked.Nothing a = Unit {0}
-Movable (Asked.Refused n) a = Unit {0}
+abbrev pub Movable : CodeOption Span → ℕ → Type 0
+Movable (Some p) a = a + p.start < 65536
+Movable None a = Unit {0}
 
-abbrev pub moved_by : Asked → ℕ → Asked
-moved_by (Asked.Port p) a = Asked.Port (record { start = a + p.start; len = p.len })
-moved_by Asked.Nothing a = Asked.Nothing
-moved_by (Asked.Refused n) a = Asked.Refused n
+abbrev pub moved_by : CodeOption Span → ℕ → CodeOption Span
+moved_by (Some p) a = Some (record { start = a + p.start; len = p.len })
+moved_by None a = None

@@ -4,27 +4,28 @@ ghost use Rattle.registry.specs.Calls.{open_run, close_run, publish, ask, end_se
 ghost use Rattle.registry.specs.Records.{answer_to, next, text_start};
 ghost use Rattle.registry.specs.Answers.{done_says, answer_number, Bounded, packed_ask, asked_number, asked_read};
 
-use crate::registry::{Asked, Done};
+use crate::refusals::Refusal;
+use headers::Span;
 
-// An answer in one number: 0 where accepted.
-fn done_number(d: Done) -> u64
-    ensures { result ≡ answer_number (done_says d) }
+// An answer in one number, as calls for C give it: 0 where accepted.
+fn done_number(done: Result<(), Refusal>) -> u64
+    ensures { result ≡ answer_number (done_says done) }
 {
-    match d {
-        Done::Accepted => 0,
-        Done::Refused(n) => n as u64,
+    match done {
+        Ok(()) => 0,
+        Err(e) => u64::from(e.number()),
     }
 }
 
-// An answer to asking in one number.
-fn pack_asked(a: Asked) -> u64
-    requires { Bounded a }
-    ensures { result ≡ asked_number a }
+// An answer to asking in one number, as calls for C give it. The casts widen: there is no `From<usize>` for a `u64`.
+fn pack_asked(asked: Result<Option<Span>, Refusal>) -> u64
+    requires { Bounded asked }
+    ensures { result ≡ asked_number asked }
 {
-    match a {
-        Asked::Port(p) => (p.len as u64) * 65536 + (p.start as u64),
-        Asked::Nothing => 0,
-        Asked::Refused(n) => n as u64,
+    match asked {
+        Ok(Some(p)) => (p.len as u64) * 65536 + (p.start as u64),
+        Ok(None) => 0,
+        Err(e) => u64::from(e.number()),
     }
 }
 

@@ -3,11 +3,8 @@ ghost use Rattle.std.specs.Prelude.{◌≡◌, ◌-◌, ◌≤◌, ◌<◌, leng
 ghost use Rattle.registry.specs.Records.{text_field};
 ghost use Rattle.registry.specs.Tests.{is_named, TextEnd, is_field};
 
-pub(crate) fn wide(x: u8) -> usize
-    ensures { (result ≡ x) × (result < 256) }
-{
-    x as usize
-}
+// The octets of the field of a label or a destination.
+pub(crate) const FIELD: usize = 33;
 
 // Whether a text is laid out in a field: at least one octet, and 0 after it.
 pub(crate) fn is_text(field: &[u8]) -> bool
@@ -17,7 +14,7 @@ pub(crate) fn is_text(field: &[u8]) -> bool
     if field.len() == 0 {
         return false;
     }
-    let len = wide(field[0]);
+    let len = usize::from(field[0]);
     if len == 0 {
         return false;
     }
@@ -32,11 +29,8 @@ pub(crate) fn text_end(row: &[u8]) -> usize
     requires { 0 < length row.now }
     ensures { TextEnd row.now result }
 {
-    let len = wide(row[0]);
-    if row.len() <= len {
-        return row.len();
-    }
-    len + 1
+    let end = usize::from(row[0]) + 1;
+    end.min(row.len())
 }
 
 // Whether a row begins with that text; with an empty one, whether it is free.
@@ -53,6 +47,7 @@ pub(crate) fn put_text(field: &mut [u8], text: &[u8])
     requires { (length text.now < length field.old) × (length text.now < 256) }
     ensures { field.new ≡ text_field (length field.old - 1) text.now }
 {
-    field[0] = (text.len() % 256) as u8;
+    // Fewer than 256: a `try_from` would have a branch that never runs.
+    field[0] = text.len() as u8;
     stores::fill(&mut field[1..], text);
 }

@@ -3,98 +3,68 @@
 // sides, in which a MESSAGE is one that the server sent.
 #![tactic(auto)]
 
-use headers::DecimalRead;
-use listing::replay::Replayed;
-use std::env::{Env, FillError};
+use listing::arguments::{has_arg, is_arg, number_arg};
+use listing::replay::ReplayError;
+use std::env::Env;
 use std::io;
 
-// The offers, if they are two numbers, and whether the stream is a log.
+// The offers, and whether the stream is a log.
 #[derive(Clone, Copy)]
-struct Offers {
+struct Asked {
     sends: u32,
     wants: u32,
     log: bool,
-    valid: bool,
 }
 
-// Argument i as a number.
-fn number_arg(rt: &impl Env, i: usize) -> DecimalRead {
-    let mut text = [0u8; 4096];
-    match rt.arg(i, &mut text) {
-        Ok(n) => headers::read_decimal(&text[..n], u32::MAX),
-        Err(_) => DecimalRead::Invalid,
-    }
-}
-
-// Whether argument i is `log`.
-fn is_log(rt: &impl Env, i: usize) -> bool {
-    let mut text = [0u8; 4096];
-    match rt.arg(i, &mut text) {
-        Ok(n) => headers::equal(&text[..n], b"log"),
-        Err(_) => false,
-    }
-}
-
-// Whether there is an argument i.
-fn has_arg(rt: &impl Env, i: usize) -> bool {
-    let mut text = [0u8; 4096];
-    match rt.arg(i, &mut text) {
-        Err(FillError::NotPresent) => false,
-        _ => true,
-    }
-}
-
-fn no_offers(log: bool, valid: bool) -> Offers {
-    Offers {
+fn no_offers(log: bool) -> Asked {
+    Asked {
         sends: 0,
         wants: 0,
         log,
-        valid,
     }
 }
 
-// The offers in the first two arguments.
-fn read_two(rt: &impl Env, log: bool) -> Offers {
-    let DecimalRead::Number(sends) = number_arg(rt, 1) else {
-        return no_offers(log, false);
-    };
-    let DecimalRead::Number(wants) = number_arg(rt, 2) else {
-        return no_offers(log, false);
-    };
-    Offers {
-        sends,
-        wants,
-        log,
-        valid: true,
-    }
+// The offers in the first two arguments, if they are two numbers.
+fn two_offers(rt: &impl Env, log: bool) -> Option<Asked> {
+    let sends = number_arg(rt, 1)?;
+    let wants = number_arg(rt, 2)?;
+    Some(Asked { sends, wants, log })
 }
 
-fn read_offers(rt: &impl Env) -> Offers {
+// What the arguments ask for, if they are as they should be.
+fn read_asked(rt: &impl Env) -> Option<Asked> {
     if !has_arg(rt, 1) {
-        return no_offers(false, true);
+        return Some(no_offers(false));
     }
     if !has_arg(rt, 2) {
-        return no_offers(true, is_log(rt, 1));
+        return is_arg(rt, 1, b"log").then_some(no_offers(true));
     }
     if !has_arg(rt, 3) {
-        return read_two(rt, false);
+        return two_offers(rt, false);
     }
-    if !has_arg(rt, 4) & is_log(rt, 3) {
-        return read_two(rt, true);
+    if !has_arg(rt, 4) && is_arg(rt, 3, b"log") {
+        return two_offers(rt, true);
     }
-    no_offers(false, false)
+    None
 }
 
 fn main(rt: HostRuntime) -> io::Result<()> {
-    let o = read_offers(&rt);
-    if !o.valid {
+    let Some(asked) = read_asked(&rt) else {
         return eprintln!(rt; "replay: the arguments are no two decimals, nor log, nor both");
-    }
+    };
     let mut reader = rt.stdin();
     let mut writer = rt.stdout();
-    match listing::replay::replay(&mut reader, &mut writer, o.sends, o.wants, o.log)? {
-        Replayed::Whole => Ok(()),
-        Replayed::Unmade => eprintln!(rt; "replay: the offers are refused 34"),
-        Replayed::Failed => eprintln!(rt; "replay: there are more octets than can be counted"),
+    match listing::replay::replay(
+        &mut reader,
+        &mut writer,
+        asked.sends,
+        asked.wants,
+        asked.log,
+    )? {
+        Ok(()) => Ok(()),
+        Err(ReplayError::Unmade) => eprintln!(rt; "replay: the offers are refused 34"),
+        Err(ReplayError::Uncounted) => {
+            eprintln!(rt; "replay: there are more octets than can be counted")
+        }
     }
 }

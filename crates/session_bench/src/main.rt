@@ -5,54 +5,14 @@
 // line: how many calls were accepted, and the session's last-heard; or that other deliveries are pending than the case has.
 #![tactic(auto)]
 
-ghost use Rattle.std.specs.Prelude.{◌≤◌};
+ghost use Rattle.std.specs.Prelude.{◌+◌, ◌≤◌};
 
-use frames::decode::Decoded;
 use frames::version::Version;
-use headers::DecimalRead;
+use listing::arguments::number_arg;
 use sessions::commands;
 use sessions::delivery::Deliveries;
-use sessions::session::{Session, SessionAnswer};
-use std::env::Env;
+use sessions::session::Session;
 use std::io;
-
-// A header block, at the front of its octets.
-#[derive(Clone, Copy)]
-struct Block {
-    octets: [u8; 256],
-    len: usize,
-}
-
-// A session, and how many calls on it were accepted.
-#[derive(Clone, Copy)]
-struct Tally {
-    session: Session,
-    accepted: u64,
-}
-
-// The length of a block that was decoded.
-fn used_of(answer: Decoded) -> usize
-    ensures { result ≤ 256 }
-{
-    match answer {
-        Decoded::Length(n) => {
-            if 256 < n {
-                return 0;
-            }
-            n
-        }
-        _ => 0,
-    }
-}
-
-// The header block of a frame.
-fn block_of(frame: &[u8]) -> Block
-    ensures { result.len ≤ 256 }
-{
-    let mut octets = [0u8; 256];
-    let len = used_of(frames::decode::decode(Version::V12, frame, &mut octets));
-    Block { octets, len }
-}
 
 // The two digits of a number.
 fn tens(n: u8) -> u8 {
@@ -63,198 +23,166 @@ fn ones(n: u8) -> u8 {
     48 + n % 10
 }
 
-// The block with other digits in its last two octets.
-fn numbered(block: Block, n: u8) -> Block
-    requires { block.len ≤ 256 }
-    ensures { result.len ≤ 256 }
-{
-    let len = block.len;
-    if len < 2 {
-        return block;
-    }
-    let mut octets = block.octets;
-    octets[len - 2] = tens(n);
-    octets[len - 1] = ones(n);
-    Block { octets, len }
+// A header block, at the front of its octets.
+#[derive(Clone, Copy)]
+struct Block {
+    octets: [u8; 256],
+    len: usize,
+    ghost held: { len ≤ 256 },
 }
 
-fn subscription(long: bool) -> Block
-    ensures { result.len ≤ 256 }
-{
+impl Block {
+    // That of a frame.
+    fn of(frame: &[u8]) -> Block {
+        let mut octets = [0u8; 256];
+        let decoded = frames::decode::decode(Version::V12, frame, &mut octets);
+        let len = decoded.unwrap_or(0).min(256);
+        Block { octets, len }
+    }
+
+    // The same with other digits in its last two octets.
+    fn numbered(self, n: u8) -> Block {
+        let len = self.len;
+        if len < 2 {
+            return self;
+        }
+        let mut octets = self.octets;
+        octets[len - 2] = tens(n);
+        octets[len - 1] = ones(n);
+        Block { octets, len }
+    }
+}
+
+fn subscription(long: bool) -> Block {
     if long {
-        return block_of(
+        return Block::of(
             b"SUBSCRIBE\ndestination:/names/ocean\nid:name-service-of-the-ice-models00\n\n\0",
         );
     }
-    block_of(b"SUBSCRIBE\ndestination:/names/ocean\nid:sub-00\n\n\0")
+    Block::of(b"SUBSCRIBE\ndestination:/names/ocean\nid:sub-00\n\n\0")
 }
 
 // The same in client mode.
-fn client_subscription(long: bool) -> Block
-    ensures { result.len ≤ 256 }
-{
+fn client_subscription(long: bool) -> Block {
     if long {
-        return block_of(
+        return Block::of(
             b"SUBSCRIBE\ndestination:/names/ocean\nack:client\nid:name-service-of-the-ice-models00\n\n\0",
         );
     }
-    block_of(b"SUBSCRIBE\ndestination:/names/ocean\nack:client\nid:sub-00\n\n\0")
+    Block::of(b"SUBSCRIBE\ndestination:/names/ocean\nack:client\nid:sub-00\n\n\0")
 }
 
-fn transaction(long: bool) -> Block
-    ensures { result.len ≤ 256 }
-{
+fn transaction(long: bool) -> Block {
     if long {
-        return block_of(b"BEGIN\ntransaction:name-service-of-the-ice-models00\n\n\0");
+        return Block::of(b"BEGIN\ntransaction:name-service-of-the-ice-models00\n\n\0");
     }
-    block_of(b"BEGIN\ntransaction:txn-00\n\n\0")
+    Block::of(b"BEGIN\ntransaction:txn-00\n\n\0")
 }
 
-fn sending(long: bool) -> Block
-    ensures { result.len ≤ 256 }
-{
+fn sending(long: bool) -> Block {
     if long {
-        return block_of(
+        return Block::of(
             b"SEND\ndestination:/names/ocean\ncontent-type:text/plain\nreceipt:17\ntransaction:name-service-of-the-ice-models00\n\n\0",
         );
     }
-    block_of(
+    Block::of(
         b"SEND\ndestination:/names/ocean\ncontent-type:text/plain\nreceipt:17\ntransaction:txn-00\n\n\0",
     )
 }
 
-fn one_more(accepted: u64, answer: SessionAnswer) -> u64 {
-    match answer {
-        SessionAnswer::Accepted(a) => std::num::wrapping_add_u64(accepted, 1),
-        SessionAnswer::Refused(n) => accepted,
-    }
+// A session, and how many calls on it were accepted.
+#[derive(Clone, Copy)]
+struct Tally {
+    session: Session,
+    accepted: u64,
 }
 
-// One call.
-fn call(t: Tally, command: u32, block: &[u8], time: u32) -> Tally {
-    let session = t.session;
-    let outcome = session.frame(command, block, time);
-    let answer = outcome.answer;
-    let after = outcome.session;
-    Tally {
-        session: after,
-        accepted: one_more(t.accepted, answer),
-    }
-}
-
-// The first n octets.
-fn front(s: &[u8], n: usize) -> &[u8] {
-    if s.len() < n {
-        return s;
-    }
-    &s[0..n]
-}
-
-// One call with a block.
-fn call_with(t: Tally, command: u32, block: Block) -> Tally {
-    let octets = block.octets;
-    let len = block.len;
-    call(t, command, front(&octets, len), 0)
-}
-
-// One call for each of so many ids.
-fn enter(t: Tally, command: u32, block: Block, count: u8) -> Tally
-    requires { block.len ≤ 256 }
-{
-    let mut t = t;
-    for n in 0..count {
-        t = call_with(t, command, numbered(block, n));
-    }
-    t
-}
-
-// A session with 16 subscriptions, each of which is asked for in such a block, and 4 transactions.
-fn prepared(long: bool, subscribing: Block) -> Session
-    requires { subscribing.len ≤ 256 }
-{
-    let made = Session::new(0, 0, [false, false, true]);
-    let session = made.session;
-    let t = call_with(
+impl Tally {
+    // Before the first call.
+    fn of(session: Session) -> Tally {
         Tally {
             session,
             accepted: 0,
-        },
-        commands::CONNECT,
-        block_of(b"CONNECT\naccept-version:1.2\nhost:names\n\n\0"),
+        }
+    }
+
+    // One call.
+    fn call(&mut self, command: u32, block: &[u8], time: u32) {
+        let outcome = self.session.frame(command, block, time);
+        self.session = outcome.session;
+        if outcome.answer.is_ok() {
+            self.accepted = self.accepted.wrapping_add(1);
+        }
+    }
+
+    // One call for each of so many ids.
+    fn enter(&mut self, command: u32, block: Block, count: u8) {
+        for n in 0..count {
+            let block = block.numbered(n);
+            self.call(command, &block.octets[..block.len], 0);
+        }
+    }
+
+    // Two commands in turn, so many calls.
+    fn repeat(&mut self, first: u32, second: u32, block: &[u8], calls: u32) {
+        for i in 0..calls {
+            self.call(if i % 2 == 0 { first } else { second }, block, i);
+        }
+    }
+}
+
+// A session with 16 subscriptions, each of which is asked for in such a block, and 4 transactions.
+fn prepared(long: bool, subscribing: Block) -> Session {
+    let mut t = Tally::of(Session::new(0, 0, [false, false, true]).session);
+    let connecting = Block::of(b"CONNECT\naccept-version:1.2\nhost:names\n\n\0");
+    t.call(commands::CONNECT, &connecting.octets[..connecting.len], 0);
+    t.enter(
+        commands::SUBSCRIBE,
+        subscribing,
+        Session::SUBSCRIPTIONS as u8,
     );
-    let all = enter(
-        enter(
-            t,
-            commands::SUBSCRIBE,
-            subscribing,
-            Session::SUBSCRIPTIONS as u8,
-        ),
+    t.enter(
         commands::BEGIN,
         transaction(long),
         Session::TRANSACTIONS as u8,
     );
-    all.session
+    t.session
 }
 
-// A delivery, with ids and labels of 6 octets.
-fn deliver_short(session: Session, subscription: u8, n: u8) -> Session {
-    let mut id = *b"sub-00";
-    id[4] = tens(subscription);
-    id[5] = ones(subscription);
-    let mut label = *b"m-1000";
-    label[4] = tens(n);
-    label[5] = ones(n);
-    session.deliver(&id, &label).session
+// An id with other digits in two of its octets.
+fn numbered<const N: usize>(mut id: [u8; N], at: usize, n: u8) -> [u8; N]
+    requires { at + 2 ≤ N }
+{
+    id[at] = tens(n);
+    id[at + 1] = ones(n);
+    id
 }
 
-// The same with ids and labels of 32 octets.
-fn deliver_long(session: Session, subscription: u8, n: u8) -> Session {
-    let mut id = *b"name-service-of-the-ice-models00";
-    id[30] = tens(subscription);
-    id[31] = ones(subscription);
-    let mut label = *b"delivery-to-the-ice-models-no-00";
-    label[30] = tens(n);
-    label[31] = ones(n);
-    session.deliver(&id, &label).session
-}
-
+// A delivery, with ids and labels of 6 octets, or of 32.
 fn deliver(session: Session, long: bool, n: u8) -> Session {
     let subscription = n % Session::SUBSCRIPTIONS as u8;
-    if long {
-        return deliver_long(session, subscription, n);
-    }
-    deliver_short(session, subscription, n)
+    let recording = if long {
+        session.deliver(
+            &numbered(*b"name-service-of-the-ice-models00", 30, subscription),
+            &numbered(*b"delivery-to-the-ice-models-no-00", 30, n),
+        )
+    } else {
+        session.deliver(
+            &numbered(*b"sub-00", 4, subscription),
+            &numbered(*b"m-1000", 4, n),
+        )
+    };
+    recording.session
 }
 
 const DELIVERIES: u8 = Deliveries::MAX as u8;
 
 // As many deliveries as can be pending, each of the next subscription.
-fn deliver_all(session: Session, long: bool) -> Session {
-    let mut session = session;
+fn deliver_all(mut session: Session, long: bool) -> Session {
     for n in 0..DELIVERIES {
         session = deliver(session, long, n);
     }
     session
-}
-
-fn either(first: u32, second: u32, turn: u32) -> u32 {
-    if turn % 2 == 0 { first } else { second }
-}
-
-// Two commands in turn, so many calls.
-fn repeat(t: Tally, first: u32, second: u32, block: &[u8], calls: u32) -> Tally {
-    let mut t = t;
-    for i in 0..calls {
-        t = call(t, either(first, second, i), block, i);
-    }
-    t
-}
-
-// Two commands in turn with a block.
-fn repeat_with(t: Tally, first: u32, second: u32, block: Block, calls: u32) -> Tally {
-    let octets = block.octets;
-    let len = block.len;
-    repeat(t, first, second, front(&octets, len), calls)
 }
 
 // The ids of each kind are numbered from 0.
@@ -262,30 +190,27 @@ const LAST_SUBSCRIPTION: u8 = (Session::SUBSCRIPTIONS - 1) as u8;
 
 const LAST_TRANSACTION: u8 = (Session::TRANSACTIONS - 1) as u8;
 
+// Two commands in turn with a block, so many calls.
+fn repeated(session: Session, first: u32, second: u32, block: Block, calls: u32) -> Tally {
+    let mut t = Tally::of(session);
+    t.repeat(first, second, &block.octets[..block.len], calls);
+    t
+}
+
 // So many SENDs in the last transaction.
 fn send(session: Session, long: bool, calls: u32) -> Tally {
-    repeat_with(
-        Tally {
-            session,
-            accepted: 0,
-        },
-        commands::SEND,
-        commands::SEND,
-        numbered(sending(long), LAST_TRANSACTION),
-        calls,
-    )
+    let block = sending(long).numbered(LAST_TRANSACTION);
+    repeated(session, commands::SEND, commands::SEND, block, calls)
 }
 
 // So many UNSUBSCRIBEs and SUBSCRIBEs of the last subscription in turn.
 fn subscribe(session: Session, long: bool, calls: u32) -> Tally {
-    repeat_with(
-        Tally {
-            session,
-            accepted: 0,
-        },
+    let block = subscription(long).numbered(LAST_SUBSCRIPTION);
+    repeated(
+        session,
         commands::UNSUBSCRIBE,
         commands::SUBSCRIBE,
-        numbered(subscription(long), LAST_SUBSCRIPTION),
+        block,
         calls,
     )
 }
@@ -321,21 +246,9 @@ fn show(rt: &impl Print, case: u32, calls: u32) -> io::Result<()> {
     println!(rt; "{accepted} {last_heard}")
 }
 
-// Argument i as a number, or another.
-fn number_arg(rt: &impl Env, i: usize, other: u32) -> u32 {
-    let mut text = [0u8; 4096];
-    let Ok(n) = rt.arg(i, &mut text) else {
-        return other;
-    };
-    let DecimalRead::Number(x) = headers::read_decimal(&text[..n], u32::MAX) else {
-        return other;
-    };
-    x
-}
-
 fn main(rt: HostRuntime) -> io::Result<()> {
-    let calls = number_arg(&rt, 1, 16);
-    let case = number_arg(&rt, 2, 6);
+    let calls = number_arg(&rt, 1).unwrap_or(16);
+    let case = number_arg(&rt, 2).unwrap_or(6);
     if case < 6 {
         return show(&rt, case, calls);
     }

@@ -7,13 +7,14 @@ ghost use Rattle.sessions.specs.Calls.{frame_answer, frame_session, heart_beat_a
 use sessions::in_place::{
     deliver_in_place, frame_in_place, heart_beat_in_place, timed_out_in_place,
 };
-use sessions::session::{Outcome, Recording, Session, TimedOut};
+use sessions::refusals::InvalidRecord;
+use sessions::session::{Outcome, Recording, Session};
 
 // The session after it was asked whether the peer is timed out, and the answer.
 #[derive(Clone, Copy)]
 pub struct TimedOutcome {
     pub session: Session,
-    pub answer: TimedOut,
+    pub answer: Result<bool, InvalidRecord>,
 }
 
 pub fn frame(mut session: Session, command: u32, block: &[u8], time: u32) -> Outcome

@@ -6,516 +6,350 @@
 // has it, and a line end.
 #![tactic(auto)]
 
-ghost use Rattle.std.specs.Prelude.{◌≤◌, ◌<◌};
+ghost use Rattle.std.specs.Prelude.{◌+◌, ◌<◌, length};
 
-use listing::calls::{at_most, number_at, read_front, read_full};
+use crate::in_place::TimedOutcome;
+use listing::calls::{CallError, each_call, number_at, read_head, read_rest, read_text, tell};
 use sessions::delivery::Deliveries;
 use sessions::parts::{Agreed, Offers, SubscriptionStore, TransactionStore};
-use sessions::refusals;
-use sessions::session::{
-    Acceptance, DeliveryAnswer, MakingAnswer, Outcome, PendingAnswer, PendingAt, Recording,
-    Session, SessionAnswer, TimedOut,
-};
+use sessions::refusals::{InvalidRecord, Refusal};
+use sessions::session::{Acceptance, Outcome, Pending, Recording, Session};
 use std::io;
 use std::io::{Read, Write};
 
 mod in_place;
 
-// The session, and whether calls may follow.
-#[derive(Clone, Copy)]
-struct State {
-    session: Session,
-    more: bool,
-}
-
-// The first octets after a call's kind, and whether there were as many as asked for.
-#[derive(Clone, Copy)]
-struct Head {
-    octets: [u8; 27],
-    whole: bool,
-}
-
 // The three flags at i.
-fn flags_at(head: &[u8; 27], i: usize) -> [bool; 3]
-    requires { i < 25 }
+fn flags_at(head: &[u8], i: usize) -> [bool; 3]
+    requires { i + 2 < length head.now }
 {
     [head[i] != 0, head[i + 1] != 0, head[i + 2] != 0]
 }
 
-fn read_head<R: Read>(input: &mut R, n: usize) -> io::Result<Head>
-    requires { n ≤ 27 }
-{
-    let mut octets = [0u8; 27];
-    let whole = read_front(input, &mut octets, n)?;
-    Ok(Head { octets, whole })
+// Three flags, each as an octet.
+fn octets_of(flags: [bool; 3]) -> [u8; 3] {
+    [u8::from(flags[0]), u8::from(flags[1]), u8::from(flags[2])]
 }
 
-// A number in four octets at i, high first.
-fn put_number(head: &mut [u8; 27], i: usize, n: u32)
-    requires { i < 24 }
-{
-    head[i] = (n / 16777216 % 256) as u8;
-    head[i + 1] = (n / 65536 % 256) as u8;
-    head[i + 2] = (n / 256 % 256) as u8;
-    head[i + 3] = (n % 256) as u8;
-}
-
-fn bit(flag: bool) -> u8 {
-    if flag { 1 } else { 0 }
-}
-
-// Three flags at i.
-fn put_flags(head: &mut [u8; 27], i: usize, flags: [bool; 3])
-    requires { i < 25 }
-{
-    head[i] = bit(flags[0]);
-    head[i + 1] = bit(flags[1]);
-    head[i + 2] = bit(flags[2]);
-}
-
-// All of a record but the ids and the deliveries.
-fn head_of(s: Session) -> [u8; 27] {
-    let offers = s.offers;
-    let agreed = s.agreed;
-    let offered = offers.versions;
-    let shared = agreed.versions;
-    let mut head = [0u8; 27];
-    head[0] = s.phase;
-    put_number(&mut head, 1, offers.sends);
-    put_number(&mut head, 5, offers.wants);
-    put_flags(&mut head, 9, offered);
-    put_flags(&mut head, 12, shared);
-    put_number(&mut head, 15, agreed.inbound);
-    put_number(&mut head, 19, agreed.outbound);
-    put_number(&mut head, 23, s.last_heard);
-    head
+// All of a record but the ids and the deliveries: 27 octets, numbers with the high octet first.
+fn write_head<W: Write>(output: &mut W, s: &Session) -> io::Result<()> {
+    output.write_all(&[s.phase])?;
+    output.write_all(&s.offers.sends.to_be_bytes())?;
+    output.write_all(&s.offers.wants.to_be_bytes())?;
+    output.write_all(&octets_of(s.offers.versions))?;
+    output.write_all(&octets_of(s.agreed.versions))?;
+    output.write_all(&s.agreed.inbound.to_be_bytes())?;
+    output.write_all(&s.agreed.outbound.to_be_bytes())?;
+    output.write_all(&s.last_heard.to_be_bytes())
 }
 
 // The labels, their lengths, the places of their subscriptions, the ack modes and the count: 2,193 octets.
 fn write_deliveries<W: Write>(
     output: &mut W,
-    d: Deliveries,
-    modes: [u8; Session::SUBSCRIPTIONS],
+    d: &Deliveries,
+    modes: &[u8; Session::SUBSCRIPTIONS],
 ) -> io::Result<()> {
     output.write_all(&d.labels)?;
     output.write_all(&d.lens)?;
     output.write_all(&d.places)?;
-    output.write_all(&modes)?;
+    output.write_all(modes)?;
     output.write_all(&[d.count])
 }
 
-// The ids of subscriptions and their lengths: 528 octets.
-fn write_subscriptions<W: Write>(output: &mut W, s: SubscriptionStore) -> io::Result<()> {
-    output.write_all(&s.ids)?;
-    output.write_all(&s.lens)
-}
-
-// The ids of transactions and their lengths: 132 octets.
-fn write_transactions<W: Write>(output: &mut W, t: TransactionStore) -> io::Result<()> {
-    output.write_all(&t.ids)?;
-    output.write_all(&t.lens)
-}
-
-// The record, 2,880 octets.
-fn write_record<W: Write>(output: &mut W, s: Session) -> io::Result<()> {
-    output.write_all(&head_of(s))?;
-    write_subscriptions(output, s.subscriptions)?;
-    write_transactions(output, s.transactions)?;
-    write_deliveries(output, s.deliveries, s.subscriptions.modes)
-}
-
-fn say<W: Write>(output: &mut W, text: &[u8]) -> io::Result<()> {
-    output.write_all(text)
+// The record, 2,880 octets: after its head the ids of subscriptions and their lengths, 528 octets, and those of transactions, 132.
+fn write_record<W: Write>(output: &mut W, s: &Session) -> io::Result<()> {
+    write_head(output, s)?;
+    output.write_all(&s.subscriptions.ids)?;
+    output.write_all(&s.subscriptions.lens)?;
+    output.write_all(&s.transactions.ids)?;
+    output.write_all(&s.transactions.lens)?;
+    write_deliveries(output, &s.deliveries, &s.subscriptions.modes)
 }
 
 // A version, by its number times ten.
 fn say_version<W: Write>(output: &mut W, version: u32) -> io::Result<()> {
     if version == 0 {
-        return say(output, b"none");
+        return output.write_all(b"none");
     }
     let (whole, tenths) = (version / 10, version % 10);
     write!(output, "{whole}.{tenths}")
 }
 
 // The rest of what a call gives, after its answer.
-fn answered<W: Write>(output: &mut W, session: Session) -> io::Result<State> {
-    say(output, b" version ")?;
+fn answered<W: Write>(output: &mut W, session: &Session) -> Result<(), CallError> {
+    output.write_all(b" version ")?;
     say_version(output, session.highest_shared())?;
-    say(output, b"\n")?;
+    output.write_all(b"\n")?;
     write_record(output, session)?;
-    say(output, b"\n")?;
-    Ok(State {
-        session,
-        more: true,
-    })
-}
-
-// No call more, with a message.
-fn stopped(rt: &impl Eprint, session: Session, why: &str) -> io::Result<State> {
-    eprintln!(rt; "session_calls: {why}")?;
-    Ok(State {
-        session,
-        more: false,
-    })
-}
-
-fn cut(rt: &impl Eprint, session: Session) -> io::Result<State> {
-    stopped(rt, session, "a call is cut")
+    output.write_all(b"\n")?;
+    Ok(())
 }
 
 fn say_refused<W: Write>(output: &mut W, number: u32) -> io::Result<()> {
     write!(output, "refused {number}")
 }
 
-fn say_made<W: Write>(output: &mut W, answer: MakingAnswer) -> io::Result<()> {
+// That a session is made, or a delivery recorded, in a word; or the number of what is refused.
+fn say_done<W: Write>(output: &mut W, answer: Result<(), Refusal>, word: &[u8]) -> io::Result<()> {
     match answer {
-        MakingAnswer::Made => say(output, b"made"),
-        MakingAnswer::Refused => say_refused(output, refusals::BAD_OFFER),
+        Ok(()) => output.write_all(word),
+        Err(refusal) => say_refused(output, refusal.number()),
     }
 }
 
 // How many later entries follow the first destination, id and transaction, where one of these is not 0.
 fn say_overwritten<W: Write>(output: &mut W, a: Acceptance) -> io::Result<()> {
-    if (a.later_destinations == 0) & ((a.later_ids == 0) & (a.later_transactions == 0)) {
-        return Ok(());
-    }
     let (destinations, ids, transactions) = (
         a.later_destinations,
         a.later_ids,
         a.later_transactions,
     );
+    if destinations == 0 && ids == 0 && transactions == 0 {
+        return Ok(());
+    }
     write!(output, " overwritten {destinations} {ids} {transactions}")
 }
 
-fn say_accepted<W: Write>(output: &mut W, a: Acceptance) -> io::Result<()> {
-    say(output, b"accepted")?;
-    if a.receipt {
-        say(output, b" receipt")?;
+fn say_answer<W: Write>(output: &mut W, answer: Result<Acceptance, Refusal>) -> io::Result<()> {
+    match answer {
+        Ok(a) => {
+            output.write_all(if a.receipt {
+                b"accepted receipt"
+            } else {
+                b"accepted"
+            })?;
+            say_overwritten(output, a)
+        }
+        Err(refusal) => say_refused(output, refusal.number()),
     }
-    say_overwritten(output, a)
 }
 
-fn say_answer<W: Write>(output: &mut W, answer: SessionAnswer) -> io::Result<()> {
+fn say_timed_out<W: Write>(output: &mut W, answer: Result<bool, InvalidRecord>) -> io::Result<()> {
     match answer {
-        SessionAnswer::Accepted(a) => say_accepted(output, a),
-        SessionAnswer::Refused(n) => say_refused(output, n),
-    }
-}
-
-fn say_timed_out<W: Write>(output: &mut W, answer: TimedOut) -> io::Result<()> {
-    match answer {
-        TimedOut::Yes => say(output, b"yes"),
-        TimedOut::No => say(output, b"no"),
-        TimedOut::Invalid => say_refused(output, refusals::INVALID),
+        Ok(true) => output.write_all(b"yes"),
+        Ok(false) => output.write_all(b"no"),
+        Err(invalid) => say_refused(output, invalid.number()),
     }
 }
 
 // A session made anew.
-fn make<W: Write>(output: &mut W, head: &[u8; 27]) -> io::Result<State> {
-    let made = Session::new(number_at(head, 0), number_at(head, 4), flags_at(head, 8));
-    let answer = made.answer;
-    let session = made.session;
-    say_made(output, answer)?;
-    answered(output, session)
-}
-
-// What a frame or a heart-beat came to.
-fn came_to<W: Write>(output: &mut W, outcome: Outcome) -> io::Result<State> {
-    let answer = outcome.answer;
-    let session = outcome.session;
-    say_answer(output, answer)?;
-    answered(output, session)
-}
-
-// A frame, to the session by value, or lent.
-fn frame_by(session: Session, command: u32, block: &[u8], time: u32, lent: bool) -> Outcome {
-    if lent {
-        return in_place::frame(session, command, block, time);
-    }
-    session.frame(command, block, time)
-}
-
-fn frame<R: Read, W: Write>(
-    rt: &impl Eprint,
+fn make<R: Read, W: Write>(
     input: &mut R,
     output: &mut W,
-    session: Session,
-    head: &[u8; 27],
-    lent: bool,
-) -> io::Result<State> {
+    session: &mut Session,
+) -> Result<(), CallError> {
+    let head = read_rest::<11, R>(input)?;
+    let made = Session::new(number_at(&head, 0), number_at(&head, 4), flags_at(&head, 8));
+    *session = made.session;
+    say_done(output, made.answer, b"made")?;
+    answered(output, session)
+}
+
+// A frame, given to the session by a call of one kind or the other.
+fn frame<R: Read, W: Write, F: FnOnce(Session, u32, &[u8], u32) -> Outcome>(
+    input: &mut R,
+    output: &mut W,
+    session: &mut Session,
+    call: F,
+) -> Result<(), CallError>
+    requires { F.IsAlwaysCallable call }
+{
+    let head = read_rest::<12, R>(input)?;
     let mut block = [0u8; 65536];
-    let n = at_most(number_at(head, 8));
-    if !read_front(input, &mut block, n)? {
-        return cut(rt, session);
-    }
-    let command = number_at(head, 0);
-    let time = number_at(head, 4);
-    came_to(output, frame_by(session, command, &block[0..n], time, lent))
-}
-
-fn heart_beat<W: Write>(output: &mut W, session: Session, head: &[u8; 27]) -> io::Result<State> {
-    came_to(output, session.heart_beat(number_at(head, 0)))
-}
-
-fn heart_beat_in_place<W: Write>(
-    output: &mut W,
-    session: Session,
-    head: &[u8; 27],
-) -> io::Result<State> {
-    came_to(output, in_place::heart_beat(session, number_at(head, 0)))
-}
-
-fn timed_out<W: Write>(output: &mut W, session: Session, head: &[u8; 27]) -> io::Result<State> {
-    say_timed_out(output, session.timed_out(number_at(head, 0)))?;
+    let block = read_text(input, &mut block, number_at(&head, 8))?;
+    let outcome = call(*session, number_at(&head, 0), block, number_at(&head, 4));
+    *session = outcome.session;
+    say_answer(output, outcome.answer)?;
     answered(output, session)
 }
 
-fn timed_out_in_place<W: Write>(
-    output: &mut W,
-    session: Session,
-    head: &[u8; 27],
-) -> io::Result<State> {
-    let outcome = in_place::timed_out(session, number_at(head, 0));
-    let answer = outcome.answer;
-    let after = outcome.session;
-    say_timed_out(output, answer)?;
-    answered(output, after)
-}
-
-// What recording a delivery came to.
-fn say_recorded<W: Write>(output: &mut W, answer: DeliveryAnswer) -> io::Result<()> {
-    match answer {
-        DeliveryAnswer::Recorded => say(output, b"recorded"),
-        DeliveryAnswer::Refused(n) => say_refused(output, n),
-    }
-}
-
-// A delivery, to the session by value, or lent.
-fn deliver_by(session: Session, subscription: &[u8], label: &[u8], lent: bool) -> Recording {
-    if lent {
-        return in_place::deliver(session, subscription, label);
-    }
-    session.deliver(subscription, label)
-}
-
-fn deliver<R: Read, W: Write>(
-    rt: &impl Eprint,
+// A heart-beat, likewise.
+fn heart_beat<R: Read, W: Write, F: FnOnce(Session, u32) -> Outcome>(
     input: &mut R,
     output: &mut W,
-    session: Session,
-    head: &[u8; 27],
-    lent: bool,
-) -> io::Result<State> {
+    session: &mut Session,
+    call: F,
+) -> Result<(), CallError>
+    requires { F.IsAlwaysCallable call }
+{
+    let time = u32::from_be_bytes(read_rest(input)?);
+    let outcome = call(*session, time);
+    *session = outcome.session;
+    say_answer(output, outcome.answer)?;
+    answered(output, session)
+}
+
+// Whether the peer is timed out, likewise.
+fn timed_out<R: Read, W: Write, F: FnOnce(Session, u32) -> TimedOutcome>(
+    input: &mut R,
+    output: &mut W,
+    session: &mut Session,
+    call: F,
+) -> Result<(), CallError>
+    requires { F.IsAlwaysCallable call }
+{
+    let time = u32::from_be_bytes(read_rest(input)?);
+    let outcome = call(*session, time);
+    *session = outcome.session;
+    say_timed_out(output, outcome.answer)?;
+    answered(output, session)
+}
+
+// A delivery, likewise.
+fn deliver<R: Read, W: Write, F: FnOnce(Session, &[u8], &[u8]) -> Recording>(
+    input: &mut R,
+    output: &mut W,
+    session: &mut Session,
+    call: F,
+) -> Result<(), CallError>
+    requires { F.IsAlwaysCallable call }
+{
+    let head = read_rest::<8, R>(input)?;
     let mut subscription = [0u8; 65536];
     let mut label = [0u8; 65536];
-    let n = at_most(number_at(head, 0));
-    let m = at_most(number_at(head, 4));
-    if !read_front(input, &mut subscription, n)? {
-        return cut(rt, session);
-    }
-    if !read_front(input, &mut label, m)? {
-        return cut(rt, session);
-    }
-    let recording = deliver_by(session, &subscription[0..n], &label[0..m], lent);
-    let answer = recording.answer;
-    let after = recording.session;
-    say_recorded(output, answer)?;
-    answered(output, after)
-}
-
-// The last hexadecimal digit of a number.
-fn digit(n: u8) -> u8 {
-    let d = n % 16;
-    if d < 10 { 48 + d } else { 87 + d }
+    let subscription = read_text(input, &mut subscription, number_at(&head, 0))?;
+    let label = read_text(input, &mut label, number_at(&head, 4))?;
+    let recording = call(*session, subscription, label);
+    *session = recording.session;
+    say_done(output, recording.answer, b"recorded")?;
+    answered(output, session)
 }
 
 // The first octets of a text, as many as a length says, in hexadecimal.
 fn say_hexadecimal<W: Write>(output: &mut W, text: &[u8; 32], len: u8) -> io::Result<()> {
-    for i in 0..32 {
-        if i < len as usize {
-            say(output, &[digit(text[i] / 16), digit(text[i])])?;
-        }
+    for x in text.iter().take(usize::from(len)) {
+        write!(output, "{x:02x}")?;
     }
     Ok(())
 }
 
-fn say_held<W: Write>(output: &mut W, p: PendingAt) -> io::Result<()> {
-    let subscription = p.subscription;
-    let label = p.label;
+fn say_held<W: Write>(output: &mut W, p: &Pending) -> io::Result<()> {
     let mode = p.mode;
     write!(output, "pending {mode} ")?;
-    say_hexadecimal(output, &subscription, p.subscription_len)?;
-    say(output, b" ")?;
-    say_hexadecimal(output, &label, p.label_len)
+    say_hexadecimal(output, &p.subscription, p.subscription_len)?;
+    output.write_all(b" ")?;
+    say_hexadecimal(output, &p.label, p.label_len)
 }
 
-fn say_pending<W: Write>(output: &mut W, p: PendingAt) -> io::Result<()> {
-    match p.answer {
-        PendingAnswer::Held => say_held(output, p),
-        PendingAnswer::Absent => say(output, b"none"),
-        PendingAnswer::Invalid => say_refused(output, refusals::INVALID),
+// The pending delivery of a number.
+fn pending<R: Read, W: Write>(
+    input: &mut R,
+    output: &mut W,
+    session: &Session,
+) -> Result<(), CallError> {
+    let index = u32::from_be_bytes(read_rest(input)?);
+    match session.pending_at(index as usize) {
+        Ok(Some(p)) => say_held(output, &p)?,
+        Ok(None) => output.write_all(b"none")?,
+        Err(invalid) => say_refused(output, invalid.number())?,
     }
-}
-
-fn pending<W: Write>(output: &mut W, session: Session, head: &[u8; 27]) -> io::Result<State> {
-    say_pending(output, session.pending_at(number_at(head, 0) as usize))?;
     answered(output, session)
 }
 
-// The deliveries and the ack modes of a record, and whether they were whole.
-#[derive(Clone, Copy)]
-struct DeliveriesRead {
-    deliveries: Deliveries,
-    modes: [u8; Session::SUBSCRIPTIONS],
-    whole: bool,
-}
-
-fn read_deliveries<R: Read>(input: &mut R) -> io::Result<DeliveriesRead> {
-    let mut labels = [0u8; Deliveries::MAX * Session::ID];
-    let mut lens = [0u8; Deliveries::MAX];
-    let mut places = [0u8; Deliveries::MAX];
-    let mut modes = [0u8; Session::SUBSCRIPTIONS];
-    let mut count = [0u8; 1];
-    let has_labels = read_front(input, &mut labels, Deliveries::MAX * Session::ID)?
-        & read_front(input, &mut lens, Deliveries::MAX)?;
-    let has_places = read_front(input, &mut places, Deliveries::MAX)?
-        & (read_front(input, &mut modes, Session::SUBSCRIPTIONS)?
-            & read_front(input, &mut count, 1)?);
-    let deliveries = Deliveries {
-        labels,
-        lens,
-        places,
-        count: count[0],
-    };
-    Ok(DeliveriesRead {
-        deliveries,
-        modes,
-        whole: has_labels & has_places,
-    })
-}
-
-fn set<R: Read, W: Write>(
-    rt: &impl Eprint,
-    input: &mut R,
-    output: &mut W,
-    session: Session,
-    head: &[u8; 27],
-) -> io::Result<State> {
-    let mut subs = [0u8; Session::SUBSCRIPTIONS * Session::ID];
-    let mut sub_lens = [0u8; Session::SUBSCRIPTIONS];
-    let mut txs = [0u8; Session::TRANSACTIONS * Session::ID];
-    let mut tx_lens = [0u8; Session::TRANSACTIONS];
-    let has_subs = read_front(input, &mut subs, Session::SUBSCRIPTIONS * Session::ID)?
-        & read_front(input, &mut sub_lens, Session::SUBSCRIPTIONS)?;
-    let has_txs = read_front(input, &mut txs, Session::TRANSACTIONS * Session::ID)?
-        & read_front(input, &mut tx_lens, Session::TRANSACTIONS)?;
-    let read = read_deliveries(input)?;
-    if !(has_subs & (has_txs & read.whole)) {
-        return cut(rt, session);
-    }
-    let deliveries = read.deliveries;
-    let modes = read.modes;
-    let offered = flags_at(head, 9);
-    let shared = flags_at(head, 12);
-    let after = Session {
+// A record that is read, as it is written.
+fn read_record<R: Read>(input: &mut R) -> Result<Session, CallError> {
+    let head = read_rest::<27, R>(input)?;
+    let sub_ids = read_rest(input)?;
+    let sub_lens = read_rest(input)?;
+    let tx_ids = read_rest(input)?;
+    let tx_lens = read_rest(input)?;
+    let labels = read_rest(input)?;
+    let lens = read_rest(input)?;
+    let places = read_rest(input)?;
+    let modes = read_rest(input)?;
+    let count = read_rest::<1, R>(input)?;
+    Ok(Session {
         offers: Offers {
-            sends: number_at(head, 1),
-            wants: number_at(head, 5),
-            versions: offered,
+            sends: number_at(&head, 1),
+            wants: number_at(&head, 5),
+            versions: flags_at(&head, 9),
         },
         agreed: Agreed {
-            inbound: number_at(head, 15),
-            outbound: number_at(head, 19),
-            versions: shared,
+            inbound: number_at(&head, 15),
+            outbound: number_at(&head, 19),
+            versions: flags_at(&head, 12),
         },
         subscriptions: SubscriptionStore {
-            ids: subs,
+            ids: sub_ids,
             lens: sub_lens,
             modes,
         },
         transactions: TransactionStore {
-            ids: txs,
+            ids: tx_ids,
             lens: tx_lens,
         },
-        deliveries,
-        last_heard: number_at(head, 23),
+        deliveries: Deliveries {
+            labels,
+            lens,
+            places,
+            count: count[0],
+        },
+        last_heard: number_at(&head, 23),
         phase: head[0],
-    };
-    say(output, b"set")?;
-    answered(output, after)
+    })
 }
 
-// How many octets are after a call's kind, before its block, its texts or its ids.
-fn head_length(kind: u8) -> usize
-    ensures { result ≤ 27 }
-{
-    match kind {
-        0 => 11,
-        1 | 5 => 12,
-        8 | 9 => 8,
-        4 => 27,
-        _ => 4,
-    }
-}
-
-// What is after a kind up to 10, and the call.
-fn call_of<R: Read, W: Write>(
-    rt: &impl Eprint,
+fn set<R: Read, W: Write>(
     input: &mut R,
     output: &mut W,
-    session: Session,
-    kind: u8,
-) -> io::Result<State> {
-    let h = read_head(input, head_length(kind))?;
-    let head = h.octets;
-    if !h.whole {
-        return cut(rt, session);
-    }
-    match kind {
-        0 => make(output, &head),
-        1 => frame(rt, input, output, session, &head, false),
-        2 => heart_beat(output, session, &head),
-        3 => timed_out(output, session, &head),
-        4 => set(rt, input, output, session, &head),
-        5 => frame(rt, input, output, session, &head, true),
-        6 => heart_beat_in_place(output, session, &head),
-        7 => timed_out_in_place(output, session, &head),
-        8 => deliver(rt, input, output, session, &head, false),
-        9 => deliver(rt, input, output, session, &head, true),
-        _ => pending(output, session, &head),
-    }
+    session: &mut Session,
+) -> Result<(), CallError> {
+    *session = read_record(input)?;
+    output.write_all(b"set")?;
+    answered(output, session)
 }
 
-// One call; nothing more where the input ends.
+// Reads a call on a session and answers it: whether there is one.
 fn call<R: Read, W: Write>(
-    rt: &impl Eprint,
     input: &mut R,
     output: &mut W,
-    session: Session,
-) -> io::Result<State> {
-    let mut kind = [0u8; 1];
-    if read_full(input, &mut kind)? < 1 {
-        return Ok(State {
+    session: &mut Session,
+) -> Result<bool, CallError> {
+    let Some(first) = read_head::<1, R>(input)? else {
+        return Ok(false);
+    };
+    match first[0] {
+        0 => make(input, output, session)?,
+        1 => frame(input, output, session, |s, command, block, time| {
+            s.frame(command, block, time)
+        })?,
+        2 => heart_beat(input, output, session, |s, time| s.heart_beat(time))?,
+        3 => timed_out(
+            input,
+            output,
             session,
-            more: false,
-        });
+            |s, time| TimedOutcome {
+                session: s,
+                answer: s.timed_out(time),
+            },
+        )?,
+        4 => set(input, output, session)?,
+        5 => frame(input, output, session, |s, command, block, time| {
+            in_place::frame(s, command, block, time)
+        })?,
+        6 => heart_beat(input, output, session, |s, time| {
+            in_place::heart_beat(s, time)
+        })?,
+        7 => timed_out(input, output, session, |s, time| {
+            in_place::timed_out(s, time)
+        })?,
+        8 => deliver(input, output, session, |s, subscription, label| {
+            s.deliver(subscription, label)
+        })?,
+        9 => deliver(input, output, session, |s, subscription, label| {
+            in_place::deliver(s, subscription, label)
+        })?,
+        10 => pending(input, output, session)?,
+        _ => return Err(CallError::UnknownKind),
     }
-    if 10 < kind[0] {
-        return stopped(rt, session, "a call has an unknown kind");
-    }
-    call_of(rt, input, output, session, kind[0])
+    Ok(true)
 }
 
 fn main(rt: HostRuntime) -> io::Result<()> {
-    let mut input = rt.stdin();
     let mut output = rt.stdout();
     let mut session = Session::new(0, 0, [false, false, true]).session;
-    for _ in 0..u64::MAX {
-        let state = call(&rt, &mut input, &mut output, session)?;
-        if !state.more {
-            break;
-        }
-        session = state.session;
-    }
-    Ok(())
+    let made = each_call(&mut rt.stdin(), |input| {
+        call(input, &mut output, &mut session)
+    });
+    tell(&rt, "session_calls", made)
 }

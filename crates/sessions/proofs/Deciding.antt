@@ -22,7 +22,7 @@ use Rattle.sessions.specs.Calls.{uses_of, id_effect, delivery_checks, modes_effe
 use Rattle.sessions.specs.Notes.{Locates}
 use Rattle.sessions.specs.Steps.{closed_by, accepted_by, Gives, GivesUses, SettlesUse, use_named, put_of, count_of, label_checks, outcome_with}
 use Rattle.sessions.specs.Changes.{Lends, PutFits, part_of, put_by, modes_by, deliveries_by, label_of, Does, Looks}
-use Rattle.sessions.specs.Changes.{LooksLabel, LooksNamed, LooksFurther, use_of, Uses, Applies, closing_step, accepting_step, outcome_of, Decides}
+use Rattle.sessions.specs.Changes.{LooksLabel, LooksNamed, LooksFurther, use_of, Uses, Applies, step_of, outcome_of, Decides}
 use Rattle.sessions.specs.Changes.{DecidesUses, put_sub, put_tx, set_modes, used_by}
 use Rattle.sessions.specs.declared.command.Header.TheVariants.{Id, Subscription}
 use Rattle.sessions.specs.declared.command.Kind.{Kind}
@@ -35,11 +35,12 @@ use Rattle.sessions.specs.declared.parts.TransactionStore.{TransactionStore}
 use Rattle.sessions.specs.declared.session.Session.{Session}
 use Rattle.sessions.specs.declared.session.Acceptance.{Acceptance}
 use Rattle.sessions.specs.declared.store.Use.{Use}
-use Rattle.sessions.specs.declared.store.Settled.{Settled}
+use Rattle.std.specs.Prelude.{Option as Maybe, Some, Result, Ok, Err}
+use Rattle.sessions.specs.Refusals.{number_of}
+use Rattle.sessions.specs.declared.refusals.Refusal.{Refusal}
 use Rattle.sessions.specs.declared.step.Placing.{Placing}
 use Rattle.sessions.specs.declared.step.Put.{Put}
 use Rattle.sessions.specs.declared.step.Further.{Further}
-use Rattle.sessions.specs.declared.step.Looked.{Looked}
 use Rattle.sessions.specs.declared.step.Step.{Step}
 use Rattle.sessions.proofs.Steps.{gives_refused, settle_refused, then_accepted, then_delivery}
 use Rattle.sessions.proofs.Tables.{settling_label}
@@ -49,7 +50,7 @@ use Rattle.sessions.proofs.Delivering.{label_found, label_missed}
 
 -- ---- what a store that is lent makes of an id
 
-module _ {s : Session} {subs sub_lens txs tx_lens : List ℕ} (l : Lends s subs sub_lens txs tx_lens) (u : Use) (id : List ℕ) (r : Settled) (k : Kind) where
+module _ {s : Session} {subs sub_lens txs tx_lens : List ℕ} (l : Lends s subs sub_lens txs tx_lens) (u : Use) (id : List ℕ) (r : Result (Maybe ℕ) Refusal) (k : Kind) where
   pub lent_subscriptions : k ≡ Subscriptions → Settles id_max u id (ids id_max subs sub_lens) r → Settles id_max u id (ids_of k s) r
   lent_subscriptions e h = rw e (subst (λ z. Settles id_max u id z r) (sym (ap₂ (ids id_max) l.subs_are l.sub_lens_are)) h)
 
@@ -58,8 +59,8 @@ module _ {s : Session} {subs sub_lens txs tx_lens : List ℕ} (l : Lends s subs 
 
 -- ---- what is put of an id
 
-module _ (s : Session) (sized : Sized s) (valid : is_valid s ≡ true) (g : Naming) (block : List ℕ) (l : Located) (at : Locates block g.header l) (i : ℕ)
-    (e : SettlesUse s (use_named g (listed (entries block))) (Settled.Put i)) (n : ℕ) (to : n ≡ l.start + stored g.usage (l.end - l.start))
+module _ (s : Session) (sized : Sized s) (valid : is_valid s ≡ true) (g : Naming) (block : List ℕ) (l : Located) (at : Locates block g.header (Some l)) (i : ℕ)
+    (e : SettlesUse s (use_named g (listed (entries block))) (Ok (Some i))) (n : ℕ) (to : n ≡ l.start + stored g.usage (l.end - l.start))
     (inside : (l.start ≤ n) × (n ≤ length block)) where
   abbrev placing : Placing
   placing = record { place = i; start = l.start; end = n }
@@ -109,7 +110,7 @@ module _ (s : Session) (kept : Kept s) (may : Pending → Bool) (x : List ℕ) w
   numbered i = get_or (pending s.deliveries) i (record { place = 0; label = [] })
 
   pub label_settles : (i : ℕ) → first_from (labelled x) 0 (pending s.deliveries) ≡ some i → may (numbered i) ≡ true
-      → LooksLabel s may x (Looked.Does (Further.Settle i))
+      → LooksLabel s may x (Ok (Further.Settle i))
   label_settles i e t =
       let d = s.deliveries in
       let (inside, passes, fails) = label_found s kept may x i e in
@@ -125,60 +126,59 @@ module _ (s : Session) (kept : Kept s) (may : Pending → Bool) (x : List ℕ) w
         };
       }
 
-  pub label_other : (i : ℕ) → first_from (labelled x) 0 (pending s.deliveries) ≡ some i → may (numbered i) ≡ false → LooksLabel s may x (Looked.Refused 60)
+  pub label_other : (i : ℕ) → first_from (labelled x) 0 (pending s.deliveries) ≡ some i → may (numbered i) ≡ false → LooksLabel s may x (Err Refusal.NotPending)
   label_other i e t = ((label_found s kept may x i e).2 t, refl)
 
-  pub label_fails : first_from (labelled x) 0 (pending s.deliveries) ≡ none → LooksLabel s may x (Looked.Refused 60)
+  pub label_fails : first_from (labelled x) 0 (pending s.deliveries) ≡ none → LooksLabel s may x (Err Refusal.NotPending)
   label_fails e = (label_missed s kept may x e, refl)
 
 -- the same label, and the same test of the deliveries that may be named
-pub label_as : (s : Session) {may other : Pending → Bool} {x y : List ℕ} (r : Looked) → may ≡ other → x ≡ y → LooksLabel s may x r → LooksLabel s other y r
+pub label_as : (s : Session) {may other : Pending → Bool} {x y : List ℕ} (r : Result Further Refusal) → may ≡ other → x ≡ y → LooksLabel s may x r → LooksLabel s other y r
 label_as s {other = other} {x = x} r e q h = subst (λ z. LooksLabel s other z r) q (subst (λ z. LooksLabel s z x r) e h)
 
 -- ---- the same by the command
 
 module _ (s : Session) (n : ℕ) (es : List Entry) where
   -- checks that settle on the same answer, and the same modes and deliveries
-  looks_as : (cs ds : List Check) (ms ns : List ℕ) (d x : Deliveries) → ((v : List ℕ) → settle ds v ≡ settle cs v) → ns ≡ ms → x ≡ d → (r : Looked)
+  looks_as : (cs ds : List Check) (ms ns : List ℕ) (d x : Deliveries) → ((v : List ℕ) → settle ds v ≡ settle cs v) → ns ≡ ms → x ≡ d → (r : Result Further Refusal)
       → Looks cs s ms d r → Looks ds s ns x r
-  looks_as cs ds ms ns d x same e f (Looked.Refused k) h = (same [] ∙ h.0, h.1)
-  looks_as cs ds ms ns d x same e f (Looked.Does g) h = record { passed = λ v. same v ∙ h.passed v; does = does_as s ms d e f h.does }
+  looks_as cs ds ms ns d x same e f (Err k) h = (same [] ∙ h.0, h.1)
+  looks_as cs ds ms ns d x same e f (Ok g) h = record { passed = λ v. same v ∙ h.passed v; does = does_as s ms d e f h.does }
 
   module _ (e : n ≡ number SUBSCRIBE) where
-    pub looks_mode_unknown : mode_asked es ≡ none → LooksFurther s n es (Looked.Refused 49)
+    pub looks_mode_unknown : mode_asked es ≡ none → LooksFurther s n es (Err Refusal.UnknownMode)
     looks_mode_unknown h = (rw (e, h) refl, refl)
 
     pub looks_mode : (m : ℕ) (f : Further) → mode_asked es ≡ some m → Does s (with_mode (free_place s) m s.subscriptions.modes) s.deliveries f
-        → LooksFurther s n es (Looked.Does f)
+        → LooksFurther s n es (Ok f)
     looks_mode m f h does = record { passed = λ v. rw (e, h) refl; does = does_as s _ _ (rw (e, h) refl) (rw e refl) does }
 
   pub looks_dropped : n ≡ number UNSUBSCRIBE → (id : List ℕ) (f : Further) → value_of Id es ≡ some id
       → Does s (with_mode (place_named s (some id)) auto_mode s.subscriptions.modes) (dropped (place_named s (some id)) s.deliveries) f
-      → LooksFurther s n es (Looked.Does f)
+      → LooksFurther s n es (Ok f)
   looks_dropped e id f h does = record { passed = λ v. rw e refl; does = does_as s _ _ (rw (e, h) refl) (rw (e, h) refl) does }
 
   module _ (a : is SUBSCRIBE n ≡ false) (b : is UNSUBSCRIBE n ≡ false) where
-    pub looks_label : settles n ≡ true → lacks_needed s n es ≡ false → (r : Looked) → LooksNamed s es r → LooksFurther s n es r
+    pub looks_label : settles n ≡ true → lacks_needed s n es ≡ false → (r : Result Further Refusal) → LooksNamed s es r → LooksFurther s n es r
     looks_label t there r named =
         let (l, h) = settling_label (spoken s) n es t there in
         let g : LooksLabel s (may_name (spoken s) (place_named s (value_of Subscription es))) l r = named l h in
         looks_as (label_checks (may_name (spoken s) (place_named s (value_of Subscription es))) (some l) s.deliveries) (delivery_checks s n es) s.subscriptions.modes (modes_effect s n es)
         (settle_label s.subscriptions.modes l s.deliveries) (delivery_effect s n es) (λ v. rw (a, t, h) refl) (rw (a, b) refl) (rw (b, t, h) refl) r g
 
-    pub looks_none : settles n ≡ false → LooksFurther s n es (Looked.Does Further.Nothing)
+    pub looks_none : settles n ≡ false → LooksFurther s n es (Ok Further.Nothing)
     looks_none t = record { passed = λ v. rw (a, t) refl; does = does_nothing s _ _ (rw (a, b) refl) (rw (b, t) refl) }
 
 -- ---- steps
 
-pub decides_as : {checks : List Check} {acceptance : Acceptance} {s : Session} {block : List ℕ} {after : Session} {r x : Step} → r ≡ x
+pub decides_as : {checks : List Check} {acceptance : Acceptance} {s : Session} {block : List ℕ} {after : Session} {r x : Result Step Refusal} → r ≡ x
     → Decides checks acceptance s block after x → Decides checks acceptance s block after r
 decides_as {checks} {acceptance} {s} {block} {after} e d = subst (Decides checks acceptance s block after) (sym e) d
 
 -- refused, and closed
-pub decides_closing : {checks : List Check} {acceptance : Acceptance} {s : Session} {block : List ℕ} {after : Session} {r : Step} (k : ℕ)
-    → r ≡ closing_step k
-    → ((time : ℕ) → Gives checks acceptance s (heard after time) (closed_by s k)) → Decides checks acceptance s block after r
-decides_closing k e g = decides_as e (record { gives = g; applies = tt })
+pub decides_closing : {checks : List Check} {acceptance : Acceptance} {s : Session} {block : List ℕ} {after : Session} (x : Refusal)
+    → ((time : ℕ) → Gives checks acceptance s (heard after time) (closed_by s x)) → Decides checks acceptance s block after (Err x)
+decides_closing x g = record { gives = g; applies = tt }
 
 -- what is put, and what becomes of modes and deliveries
 module _ (s : Session) (block : List ℕ) where
@@ -188,7 +188,7 @@ module _ (s : Session) (block : List ℕ) where
       → heard (with_deliveries (with_transactions (with_subscriptions s a) b) d) time ≡ heard (used_by s block p f) time
   used_is time p f a b d x y z = rw (x, y, z) refl
 
-  used_outcome : (acceptance : Acceptance) (time : ℕ) (p : Put) (f : Further) → outcome_of s block time (accepting_step acceptance (use_of p f))
+  used_outcome : (acceptance : Acceptance) (time : ℕ) (p : Put) (f : Further) → outcome_of s block time (step_of acceptance (use_of p f))
       ≡ outcome_with (accepted_by (put_by s block p) acceptance time) (modes_by f s.subscriptions.modes) (deliveries_by f s)
   used_outcome acceptance time Put.Nothing Further.Nothing = refl
   used_outcome acceptance time Put.Nothing (Further.Mode k m) = refl
@@ -210,28 +210,28 @@ module _ (s : Session) (n : ℕ) (block : List ℕ) (acceptance : Acceptance) wh
   es = listed (entries block)
 
   -- refused for an id
-  pub uses_closed : (k : ℕ) → ((time : ℕ) → GivesUses s (uses_of s n es) acceptance time (closed_by s k))
-      → DecidesUses s n block acceptance (closing_step k)
-  uses_closed k g =
-      record { gives = λ time. then_delivery s n es acceptance time (closed_by s k) (closed_by s k) (g time) refl; applies = tt }
+  pub uses_closed : (x : Refusal) → ((time : ℕ) → GivesUses s (uses_of s n es) acceptance time (closed_by s x))
+      → DecidesUses s n block acceptance (Err x)
+  uses_closed x g =
+      record { gives = λ time. then_delivery s n es acceptance time (closed_by s x) (closed_by s x) (g time) refl; applies = tt }
 
   -- the ids are accepted, and leave a session
   module _ (x : Session) (g : (time : ℕ) → GivesUses s (uses_of s n es) acceptance time (accepted_by x acceptance time)) where
-    pub uses_refused_later : (k : ℕ) → LooksFurther s n es (Looked.Refused k) → DecidesUses s n block acceptance (closing_step k)
+    pub uses_refused_later : (k : Refusal) → LooksFurther s n es (Err k) → DecidesUses s n block acceptance (Err k)
     uses_refused_later k (h, c) =
         record {
           gives = λ time. then_delivery s n es acceptance time (accepted_by x acceptance time) (closed_by s k) (g time)
-              (gives_refused (delivery_checks s n es) k (settle_refused (delivery_checks s n es) [] _ k h) c refl);
+              (gives_refused (delivery_checks s n es) k (settle_refused (delivery_checks s n es) [] _ (number_of k) h) c refl);
           applies = tt;
         }
 
-    pub uses_done : (p : Put) (f : Further) → put_by s block p ≡ x → PutFits block p → LooksFurther s n es (Looked.Does f)
-        → DecidesUses s n block acceptance (accepting_step acceptance (use_of p f))
+    pub uses_done : (p : Put) (f : Further) → put_by s block p ≡ x → PutFits block p → LooksFurther s n es (Ok f)
+        → DecidesUses s n block acceptance (step_of acceptance (use_of p f))
     uses_done p f e fits h =
         record {
           gives = λ time.
               let named = accepted_by (put_by s block p) acceptance time in
-              let r = outcome_of s block time (accepting_step acceptance (use_of p f)) in
+              let r = outcome_of s block time (step_of acceptance (use_of p f)) in
               then_delivery s n es acceptance time named r
               (subst (λ z. GivesUses s (uses_of s n es) acceptance time (accepted_by z acceptance time)) (sym e) (g time))
               (then_accepted (delivery_checks s n es) s (modes_effect s n es) (delivery_effect s n es) named r h.passed acceptance refl

@@ -14,7 +14,10 @@ use lib.ListN.{length-map, get_or-map}
 use Rattle.headers.specs.Rows.{every, empty, same, first_of}
 use Rattle.headers.specs.Answers.{accepted, refused, settle}
 use Rattle.stores.specs.Places.{padded, is_zero}
-use Rattle.stores.specs.Searches.{first_from, search_says, is_at}
+use Rattle.stores.specs.Searches.{first_from, search_says}
+use Rattle.std.specs.Prelude.{Option as Maybe, Some, None, Ok, Err, is_some as has_place}
+use Rattle.sessions.specs.declared.session.Pending.{Pending as Told}
+use Rattle.sessions.specs.declared.refusals.Refusal.{Refusal}
 use Rattle.sessions.specs.Stores.{ids, laid, live, bad_length}
 use Rattle.sessions.specs.Places.{Fits}
 use Rattle.stores.specs.Compaction.{kept}
@@ -22,20 +25,17 @@ use Rattle.sessions.specs.Deliveries.{deliveries_max, label_max, auto_mode, clie
 use Rattle.sessions.specs.Deliveries.{is_pending, mode_of, settled, settled_as, settle_label, without, deliveries_of, with_mode, dropped}
 use Rattle.sessions.specs.Deliveries.{record_label, acknowledging, idle_modes, Laid}
 use Rattle.sessions.specs.Sessions.{subscriptions_max, id_max, open_phase, ids_of, with_deliveries, is_valid, SizedDeliveries}
-use Rattle.sessions.specs.Held.{delivery_of, held_deliveries, nth, nothing_told, told_of, pending_answer}
+use Rattle.sessions.specs.Held.{delivery_of, held_deliveries, nth, told_of, pending_answer}
 use Rattle.sessions.specs.Calls.{free_place, place_named, is_auto, deliver_checks, deliver_answer, deliver_session, recording, may_name}
 use Rattle.sessions.specs.Steps.{Records, RecordsAt, MayRecord, unrecorded_by}
 use Rattle.sessions.specs.Steps.{recorded_as, recording_at, label_checks}
 use Rattle.sessions.specs.Answers.{delivery_says}
-use Rattle.stores.specs.declared.search.Search.{Search}
 use Rattle.sessions.specs.declared.command.Kind.TheVariants.{Subscriptions}
 use Rattle.frames.specs.declared.version.Version.{Version}
 use Rattle.frames.specs.declared.version.Version.TheVariants.{V11}
 use Rattle.sessions.specs.declared.delivery.Deliveries.{Deliveries}
 use Rattle.sessions.specs.declared.session.Session.{Session}
 use Rattle.sessions.specs.declared.session.Recording.{Recording}
-use Rattle.sessions.specs.declared.session.PendingAnswer.{PendingAnswer}
-use Rattle.sessions.specs.declared.session.PendingAt.{PendingAt}
 use Rattle.stores.proofs.Searching.{told_any}
 use Rattle.sessions.proofs.Settling.{first_free}
 use Rattle.sessions.proofs.Stores.{place_padded, lengths_ids, valid_clean}
@@ -183,10 +183,10 @@ modes_idle ms (some k) h = sym (set_same ms k auto_mode (zero_at ms k h))
 
 -- ---- where a search ended
 
-pub says_at : (r : Search) (o : Option ℕ) (k : ℕ) → search_says r ≡ o → r ≡ Search.At k → o ≡ some k
+pub says_at : (r : Maybe ℕ) (o : Option ℕ) (k : ℕ) → search_says r ≡ o → r ≡ Some k → o ≡ some k
 says_at r o k e h = sym e ∙ ap search_says h
 
-pub says_nowhere : (r : Search) (o : Option ℕ) → search_says r ≡ o → r ≡ Search.Nowhere → o ≡ none
+pub says_nowhere : (r : Maybe ℕ) (o : Option ℕ) → search_says r ≡ o → r ≡ None → o ≡ none
 says_nowhere r o e h = sym e ∙ ap search_says h
 
 -- the first that passes a test, by its number
@@ -267,8 +267,8 @@ module _ (s : Session) (kept : Kept s) where
   label_missed may x e = rw (first_gone (labelled x) 0 (pending s.deliveries) e) refl
 
 -- whether an ACK or NACK of 1.1 may name the one with a number
-pub may_at : (d : Deliveries) (sized : SizedDeliveries d) (l : Laid d) (i : ℕ) → i < d.count → (ver : Version) (o : Search) (k w : ℕ) → ver ≡ V11
-    → o ≡ Search.At k → w ≡ get_or d.places i 0 → eqb w k ≡ may_name ver (search_says o) (get_or (pending d) i none_pending)
+pub may_at : (d : Deliveries) (sized : SizedDeliveries d) (l : Laid d) (i : ℕ) → i < d.count → (ver : Version) (o : Maybe ℕ) (k w : ℕ) → ver ≡ V11
+    → o ≡ Some k → w ≡ get_or d.places i 0 → eqb w k ≡ may_name ver (search_says o) (get_or (pending d) i none_pending)
 may_at d sized l i h ver o k w e q p = rw (e, q) (ap (λ z. eqb z k) (p ∙ sym (place_at d sized l i h)))
 
 -- ---- a delivery recorded
@@ -309,17 +309,17 @@ module _ (s : Session) (k : ℕ) (label : List ℕ) (r : Recording) where
   label_bad : (t : Bool) → eqb (length label) 0 || ltb 32 (length label) ≡ t → bad_length label_max label ≡ t
   label_bad t h = ap (◌|| ltb 32 (length label)) (empty_eqb label) ∙ h
 
-  pub at_bad : eqb (length label) 0 || ltb 32 (length label) ≡ true → r ≡ unrecorded_by s 62 → RecordsAt s k label r
-  at_bad h q = records_refused _ 62 _ (ap (◌|| is_pending label s.deliveries) (label_bad true h)) q
+  pub at_bad : eqb (length label) 0 || ltb 32 (length label) ≡ true → r ≡ unrecorded_by s Refusal.BadLabel → RecordsAt s k label r
+  at_bad h q = records_refused _ Refusal.BadLabel _ (ap (◌|| is_pending label s.deliveries) (label_bad true h)) q
 
   module _ (fine : eqb (length label) 0 || ltb 32 (length label) ≡ false) where
-    pub at_pending : is_pending label s.deliveries ≡ true → r ≡ unrecorded_by s 62 → RecordsAt s k label r
-    at_pending h q = records_refused _ 62 _ (ap₂ (◌||◌) (label_bad false fine) h) q
+    pub at_pending : is_pending label s.deliveries ≡ true → r ≡ unrecorded_by s Refusal.BadLabel → RecordsAt s k label r
+    at_pending h q = records_refused _ Refusal.BadLabel _ (ap₂ (◌||◌) (label_bad false fine) h) q
 
     module _ (new : is_pending label s.deliveries ≡ false) where
-      pub at_full : not (eqb (mode_of s.subscriptions.modes k) auto_mode) && leb 64 s.deliveries.count ≡ true → r ≡ unrecorded_by s 61
+      pub at_full : not (eqb (mode_of s.subscriptions.modes k) auto_mode) && leb 64 s.deliveries.count ≡ true → r ≡ unrecorded_by s Refusal.AllPending
           → RecordsAt s k label r
-      at_full h q = records_on _ _ (ap₂ (◌||◌) (label_bad false fine) new) (records_refused _ 61 _ h q)
+      at_full h q = records_on _ _ (ap₂ (◌||◌) (label_bad false fine) new) (records_refused _ Refusal.AllPending _ h q)
 
       pub at_done : not (eqb (mode_of s.subscriptions.modes k) auto_mode) && leb 64 s.deliveries.count ≡ false
           → r ≡ recorded_as (recording_at s k label) → RecordsAt s k label r
@@ -343,35 +343,35 @@ module _ (s : Session) (id label : List ℕ) (r : Recording) where
   abbrev Delivered : Type 0
   Delivered = (delivery_says r.answer ≡ deliver_answer s id label) × (r.session ≡ deliver_session s id label)
 
-  pub deliver_invalid : is_valid s ≡ false → r ≡ unrecorded_by s 38 → Delivered
-  deliver_invalid h q = deliver_gives s id label r (records_refused _ 38 _ (ap not h) q)
+  pub deliver_invalid : is_valid s ≡ false → r ≡ unrecorded_by s Refusal.Invalid → Delivered
+  deliver_invalid h q = deliver_gives s id label r (records_refused _ Refusal.Invalid _ (ap not h) q)
 
   module _ (v : is_valid s ≡ true) where
-    pub deliver_unopened : (s.phase ≡ open_phase → ⊥) → r ≡ unrecorded_by s 63 → Delivered
-    deliver_unopened h q = deliver_gives s id label r (records_on _ _ (ap not v) (records_refused _ 63 _ (ap not (ne_eqb s.phase open_phase h)) q))
+    pub deliver_unopened : (s.phase ≡ open_phase → ⊥) → r ≡ unrecorded_by s Refusal.NotOpen → Delivered
+    deliver_unopened h q = deliver_gives s id label r (records_on _ _ (ap not v) (records_refused _ Refusal.NotOpen _ (ap not (ne_eqb s.phase open_phase h)) q))
 
     module _ (o : s.phase ≡ open_phase) where
-      pub deliver_no_id : length id ≡ 0 → r ≡ unrecorded_by s 64 → Delivered
+      pub deliver_no_id : length id ≡ 0 → r ≡ unrecorded_by s Refusal.NoSubscription → Delivered
       deliver_no_id h q =
           deliver_gives s id label r (records_on _ _ (ap not v) (records_on _ _ (ap not (eq-eqb s.phase open_phase o))
-          (records_refused _ 64 _ (ap (◌|| not (live id (ids_of Subscriptions s))) (empty_zero id h)) q)))
+          (records_refused _ Refusal.NoSubscription _ (ap (◌|| not (live id (ids_of Subscriptions s))) (empty_zero id h)) q)))
 
-      module _ (n : length id ≡ 0 → ⊥) (found : Search) (e : search_says found ≡ place_named s (some id)) where
-        live_is : live id (ids_of Subscriptions s) ≡ is_at found
+      module _ (n : length id ≡ 0 → ⊥) (found : Maybe ℕ) (e : search_says found ≡ place_named s (some id)) where
+        live_is : live id (ids_of Subscriptions s) ≡ has_place found
         live_is = told_any (λ x. same x id) 0 (ids_of Subscriptions s) found e
 
         there : empty id ≡ false
         there = empty_eqb id ∙ ne_eqb (length id) 0 n
 
-        pub deliver_unknown : found ≡ Search.Nowhere → r ≡ unrecorded_by s 64 → Delivered
+        pub deliver_unknown : found ≡ None → r ≡ unrecorded_by s Refusal.NoSubscription → Delivered
         deliver_unknown f q =
             deliver_gives s id label r (records_on _ _ (ap not v) (records_on _ _ (ap not (eq-eqb s.phase open_phase o))
-            (records_refused _ 64 _ (ap₂ (λ a b. a || not b) there (live_is ∙ ap is_at f)) q)))
+            (records_refused _ Refusal.NoSubscription _ (ap₂ (λ a b. a || not b) there (live_is ∙ ap has_place f)) q)))
 
-        pub deliver_placed : (k : ℕ) → found ≡ Search.At k → RecordsAt s k label r → Delivered
+        pub deliver_placed : (k : ℕ) → found ≡ Some k → RecordsAt s k label r → Delivered
         deliver_placed k f g =
             deliver_gives s id label r (records_on _ _ (ap not v) (records_on _ _ (ap not (eq-eqb s.phase open_phase o))
-            (records_on _ _ (ap₂ (λ a b. a || not b) there (live_is ∙ ap is_at f)) (records_placed s id label k r (says_at found _ k e f) g))))
+            (records_on _ _ (ap₂ (λ a b. a || not b) there (live_is ∙ ap has_place f)) (records_placed s id label k r (says_at found _ k e f) g))))
 
 -- ---- the question for a pending delivery
 
@@ -397,7 +397,7 @@ part_front n (suc k) zero xs h = absurd (omega arith)
 part_front n (suc k) (suc m) [] h = refl
 part_front n (suc k) (suc m) (x ∷ xs) h = part_front n k m xs (omega arith)
 
-pub told_invalid : (s : Session) (i : ℕ) → is_valid s ≡ false → nothing_told PendingAnswer.Invalid ≡ pending_answer s i
+pub told_invalid : (s : Session) (i : ℕ) → is_valid s ≡ false → Err (record {}) ≡ pending_answer s i
 unfolding pending_answer
 told_invalid s i h = rw h
 
@@ -408,15 +408,15 @@ module _ (s : Session) (kept : Kept s) (i : ℕ) where
   abbrev laid_few : Laid few
   laid_few = laid_of s kept
 
-  pub told_absent : is_valid s ≡ true → s.deliveries.count ≤ i → nothing_told PendingAnswer.Absent ≡ pending_answer s i
+  pub told_absent : is_valid s ≡ true → s.deliveries.count ≤ i → Ok None ≡ pending_answer s i
   unfolding pending_answer
   told_absent v h =
-      ap told_of (sym (nth_none (delivery_of s) i (pending few) (omega (arith, h, pending_count few kept.holds.sized laid_few))))
-      ∙ ap (λ t. cond t (told_of (nth i (held_deliveries s))) (nothing_told PendingAnswer.Invalid)) (sym v)
+      ap (λ o. Ok (told_of o)) (sym (nth_none (delivery_of s) i (pending few) (omega (arith, h, pending_count few kept.holds.sized laid_few))))
+      ∙ ap (λ t. cond t (Ok (told_of (nth i (held_deliveries s)))) (Err (record {}))) (sym v)
 
-  pub told_held : is_valid s ≡ true → told_of (nth i (held_deliveries s)) ≡ pending_answer s i
+  pub told_held : is_valid s ≡ true → Ok (told_of (nth i (held_deliveries s))) ≡ pending_answer s i
   unfolding pending_answer
-  told_held v = ap (λ t. cond t (told_of (nth i (held_deliveries s))) (nothing_told PendingAnswer.Invalid)) (sym v)
+  told_held v = ap (λ t. cond t (Ok (told_of (nth i (held_deliveries s)))) (Err (record {}))) (sym v)
 
   module _ (h : i < s.deliveries.count) (k : ℕ) (at : k ≡ get_or s.deliveries.places i 0) where
     acks : acknowledging s.subscriptions.lens s.subscriptions.modes k ≡ true
@@ -470,15 +470,14 @@ module _ (s : Session) (kept : Kept s) (i : ℕ) where
         ∙ get_or-take few.count few.lens i 0 h
 
     -- what is told of it
-    abbrev telling : List ℕ → ℕ → ℕ → List ℕ → ℕ → PendingAt
-    telling sub n mode label m = record {
-      answer = PendingAnswer.Held;
+    abbrev telling : List ℕ → ℕ → ℕ → List ℕ → ℕ → Maybe Told
+    telling sub n mode label m = Some (record {
       subscription = sub;
       subscription_len = n;
       mode = mode;
       label = label;
       label_len = m;
-    }
+    })
 
     pub told_at : telling (take 32 (drop (k * 32) s.subscriptions.ids)) (get_or s.subscriptions.lens k 0) (get_or s.subscriptions.modes k 0)
         (take 32 (drop (i * 32) few.labels)) (get_or few.lens i 0)

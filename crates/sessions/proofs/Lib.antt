@@ -8,7 +8,6 @@ pub mod Stores
 pub mod Values
 pub mod Locating
 pub mod Noting
-pub mod Known
 pub mod Tables
 pub mod Pending
 pub mod Taking

@@ -3,8 +3,8 @@
 --     Walked                                          what the walk knows of the notes at a place of the block
 --     walk_begins, walk_ends, walk_fails              its begin and its ends
 --     walk_first, walk_later, walk_passes             its turns
---     located_in                                      what a caller learns
-use Rattle.std.proofs.Common.{◌≡◌, ℕ, zero, suc, ◌+◌, ◌-◌, ◌<◌, ◌≤◌, Bool, true, false, cond, not, eqb, List, [], ◌∷◌, map, length, get_or, drop, set, replicate, sym, refl, ap, ◌∙◌, subst, ap₂, arith, length-set, get_or-set_other, get_or-set_same, eq-eqb, ne_eqb, eqb-true}
+--     later_in                                        what a caller learns
+use Rattle.std.proofs.Common.{◌≡◌, ℕ, zero, suc, ◌+◌, ◌-◌, ◌<◌, ◌≤◌, Bool, true, false, cond, eqb, List, [], ◌∷◌, map, length, get_or, drop, set, replicate, sym, refl, ap, ◌∙◌, subst, ap₂, arith, length-set, get_or-set_other, get_or-set_same, eq-eqb, ne_eqb, eqb-true}
 use mathlib.Core.Option.{Option, none, some}
 use borrow.Author.Tests.{eqb-false}
 use Rattle.headers.specs.Rows.{same, every, is_octet}
@@ -18,10 +18,12 @@ use Rattle.headers.proofs.LaidOut.{block_entries, is_block_sound}
 use Rattle.headers.proofs.Finding.{find_block, spans_named}
 use Rattle.headers.proofs.FirstValues.{find_absent, find_value}
 use Rattle.sessions.specs.Headers.{name_of, value_of}
-use Rattle.sessions.specs.Notes.{known_headers, headers_max, index_of, located, later_noted, value_at, Locates, AllNoted, Notes_of}
+use Rattle.sessions.specs.Notes.{known_headers, headers_max, index_of, located_value, later_noted, Inside, AllNoted, Notes_of}
 use Rattle.sessions.specs.Notes.{number_from, number_of_name, no_notes}
 use Rattle.sessions.specs.declared.command.Header.{Header}
+use Rattle.std.specs.Prelude.{Some, None, Ok, Err}
 use Rattle.sessions.specs.declared.notes.Located.{Located}
+use Rattle.headers.specs.declared.block.Malformed.{Malformed}
 use Rattle.sessions.specs.declared.notes.Notes.{Notes}
 
 -- ## The number of a name
@@ -196,14 +198,14 @@ module _ (count : ℕ) (places : List ℕ) (k v : ℕ) where
 abbrev noted_value : Notes → ℕ → ℕ → ℕ → Notes
 noted_value r k s e =
     let n = get_or r.counts k 0 in
-    record { starts = kept_first n r.starts k s; ends = kept_first n r.ends k e; counts = set r.counts k (n + 1); valid = r.valid }
+    record { starts = kept_first n r.starts k s; ends = kept_first n r.ends k e; counts = set r.counts k (n + 1) }
 
 -- that is its first, or a later one
 abbrev pub noted_first : Notes → ℕ → ℕ → ℕ → Notes
-noted_first r k s e = record { starts = set r.starts k s; ends = set r.ends k e; counts = set r.counts k (get_or r.counts k 0 + 1); valid = r.valid }
+noted_first r k s e = record { starts = set r.starts k s; ends = set r.ends k e; counts = set r.counts k (get_or r.counts k 0 + 1) }
 
 abbrev pub noted_later : Notes → ℕ → Notes
-noted_later r k = record { starts = r.starts; ends = r.ends; counts = set r.counts k (get_or r.counts k 0 + 1); valid = r.valid }
+noted_later r k = record { starts = r.starts; ends = r.ends; counts = set r.counts k (get_or r.counts k 0 + 1) }
 
 module _ (r : Notes) (k s e : ℕ) where
   value_first : get_or r.counts k 0 ≡ 0 → noted_value r k s e ≡ noted_first r k s e
@@ -283,7 +285,6 @@ module _ (m : Mark) where
 pub record Walked (block : List ℕ) (r : Notes) (i : ℕ) : Type 0 where
   pub within : i ≤ length block
   pub sized : Sized r
-  pub so_far : r.valid ≡ true
   pub bounded : (k : ℕ) → Bounded (mark_of r k) i
   pub remains : is_block block ≡ is_block (drop i block)
   pub says : is_block block ≡ true → (h : Header) → Follows (mark_of r (index_of h)) (left_spans block h i) (left_spans block h 0)
@@ -301,7 +302,6 @@ walk_begins block =
     record {
       within = omega arith;
       sized = record { starts_long = refl; ends_long = refl; counts_long = refl };
-      so_far = refl;
       bounded = λ k. subst (λ m. Bounded m 0) (sym (no_mark k)) (record { ordered = omega arith; inside = omega arith; few = omega arith });
       remains = refl;
       says = λ b h.
@@ -330,7 +330,6 @@ module _ (block : List ℕ) (r : Notes) (i : ℕ) (w : Walked block r i) where
         record {
           within = p.inside;
           sized = w.sized;
-          so_far = w.so_far;
           bounded = λ j. bounded_later (mark_of r j) i (place_behind i l) (omega arith) (w.bounded j);
           remains = w.remains ∙ is_block_next block i l p;
           says = λ b h. turn b h false (ne_eqb k (index_of h) (λ e. omega (arith, (tabled h).below)));
@@ -346,7 +345,6 @@ module _ (block : List ℕ) (r : Notes) (i : ℕ) (w : Walked block r i) where
         record {
           within = p.inside;
           sized = sized_value r w.sized k (i + 6 + l.name) (place_behind i l) g;
-          so_far = w.so_far;
           bounded =
               each_mark (λ j m. Bounded m (place_behind i l)) r w.sized k (i + 6 + l.name) (place_behind i l) g
               (bounded_value (mark_of r k) i (i + 6 + l.name) (place_behind i l) (omega arith) (omega arith) (w.bounded k))
@@ -372,8 +370,15 @@ module _ (block : List ℕ) (r : Notes) (i : ℕ) (w : Walked block r i) where
     unfolding spans
     ended b h = subst (λ us. Follows (mark_of r (index_of h)) us (left_spans block h 0)) (ap (λ z. spans (name_of h) i (listed z)) e) (w.says b h)
 
+    abbrev spanned : Header → Located
+    spanned h = record { start = get_or r.starts (index_of h) 0; end = get_or r.ends (index_of h) 0 }
+
+    spans_inside : (h : Header) (t : Bool) → Inside block (cond t None (Some (spanned h)))
+    spans_inside h true = tt
+    spans_inside h false = ((w.bounded (index_of h)).ordered, omega (arith, (w.bounded (index_of h)).inside, w.within))
+
     found : (b : is_block block ≡ true) (h : Header) (t : Bool) → eqb (get_or r.counts (index_of h) 0) 0 ≡ t
-        → cond (not t) (some (value_at block (located r h))) none ≡ value_of h (listed (entries block))
+        → located_value block (cond t None (Some (spanned h))) ≡ value_of h (listed (entries block))
     found b h t q = by t (answer t q)
       where
         es : List Entry
@@ -399,34 +404,28 @@ module _ (block : List ℕ) (r : Notes) (i : ℕ) (w : Walked block r i) where
             (ap (λ ds. first_two (spans (name_of h) 0 ds)) (sym all) ∙ sym (ended b h).first ∙ ap (λ v. cond v [] (m.start ∷ (m.end - m.start) ∷ [])) z))
 
         by : (u : Bool) → find_answer block (name_of h) ≡ accepted (cond u [] (m.start ∷ (m.end - m.start) ∷ count ∷ []))
-            → cond (not u) (some (value_at block (located r h))) none ≡ value_of h (listed (entries block))
+            → located_value block (cond u None (Some (spanned h))) ≡ value_of h (listed (entries block))
         by true a = sym (find_absent (name_of h) block es is a) ∙ ap (first_value (name_of h)) (sym all)
         by false a = sym (find_value (name_of h) block es is m.start (m.end - m.start) count a).0 ∙ ap (first_value (name_of h)) (sym all)
 
-    pub walk_ends : Notes_of block r
+    pub walk_ends : Notes_of block (Ok r)
     walk_ends =
-        record {
-          well_formed = w.so_far ∙ sym (w.remains ∙ is_block_of (drop i block) (some []) e);
-          noted = λ b h. record {
+        let b : is_block block ≡ true = w.remains ∙ is_block_of (drop i block) (some []) e in (
+          b,
+          λ h. record {
             first = record {
-              inside = ((w.bounded (index_of h)).ordered, omega (arith, (w.bounded (index_of h)).inside, w.within));
+              inside = spans_inside h (eqb (get_or r.counts (index_of h) 0) 0);
               first = found b h (eqb (get_or r.counts (index_of h) 0) 0) refl;
             };
             counted = omega (arith, (ended b h).counted);
-          };
-        }
+          },
+        )
 
   -- where no record is
-  pub walk_fails : (s : Notes) → s.valid ≡ false → entries (drop i block) ≡ none → Notes_of block s
-  walk_fails s v e =
-      let no : is_block block ≡ false = w.remains ∙ is_block_of (drop i block) none e in
-      record { well_formed = v ∙ sym no; noted = λ b. never (sym no ∙ b) }
+  pub walk_fails : (x : Malformed) → entries (drop i block) ≡ none → Notes_of block (Err x)
+  walk_fails x e = w.remains ∙ is_block_of (drop i block) none e
 
 -- ## What a caller learns of the notes
-
--- in a valid block, a header is located where the notes say
-pub located_in : (block : List ℕ) (r : Notes) → Notes_of block r → r.valid ≡ true → (h : Header) (l : Located) → l ≡ located r h → Locates block h l
-located_in block r n v h l e = subst (Locates block h) (sym e) (n.noted (sym n.well_formed ∙ v) h).first
 
 -- how many later entries follow the first of a header
 pub later_in : {block : List ℕ} {r : Notes} → AllNoted block r → (h : Header) → later_noted r h ≡ later (name_of h) (listed (entries block))

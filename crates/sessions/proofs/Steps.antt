@@ -1,6 +1,6 @@
 -- What the parts of a session's calls come to: checks one after another, and the groups of Steps put together to the answers and
 -- sessions of Calls. Assumes nothing.
-use Rattle.std.proofs.Common.{◌≡◌, ℕ, Bool, true, false, cond, not, ◌||◌, eqb, ltb, ◌⊎◌, List, [], ◌∷◌, ◌++◌, replicate, sym, refl, ap, ◌∙◌, subst, ap₂, inl, inr, ⊎_elim, arith, eqb-true}
+use Rattle.std.proofs.Common.{◌≡◌, ℕ, Bool, true, false, cond, not, ◌||◌, eqb, ltb, ◌⊎◌, List, [], ◌∷◌, ◌++◌, replicate, sym, refl, ap, ◌∙◌, subst, ap₂, inl, inr, ⊎_elim, arith, eqb-true, true≢false}
 use borrow.Author.Tests.{not-false}
 use Rattle.headers.specs.Rows.{every}
 use Rattle.headers.specs.Block.{Entry, entries, listed}
@@ -11,7 +11,7 @@ use Rattle.sessions.specs.Values.{heart_beat_max}
 use Rattle.sessions.specs.Opening.{may_offer}
 use Rattle.sessions.specs.Headers.{has, is, opens, needed_by, IdUse, changed_id}
 use Rattle.sessions.specs.Sessions.{fresh, with_modes, with_deliveries, closed, heard, spoken, is_valid}
-use Rattle.sessions.specs.Answers.{acceptance_says, answer_says}
+use Rattle.sessions.specs.Answers.{bit, acceptance_says, answer_says}
 use Rattle.sessions.specs.Calls.{left_by, uses_of, id_effect, id_checks, delivery_checks, modes_effect, delivery_effect, named_effect}
 use Rattle.sessions.specs.Calls.{lacks_any, lacks_needed, frame_checks, acceptance_of, no_receipt}
 use Rattle.sessions.specs.Calls.{frame_answer, effect, frame_session, heart_beat_checks, heart_beat_answer, heart_beat_session, making_answer, made}
@@ -22,11 +22,36 @@ use Rattle.sessions.specs.Steps.{Records, unrecorded_by, recorded_as}
 use Rattle.frames.specs.declared.version.Version.{Version}
 use Rattle.sessions.specs.declared.command.Header.TheVariants.{Id}
 use Rattle.sessions.specs.declared.delivery.Deliveries.{Deliveries}
-use Rattle.sessions.specs.declared.session.SessionAnswer.{SessionAnswer}
+use Rattle.std.specs.Prelude.{Result, Ok, Err}
+use Rattle.sessions.specs.Refusals.{number_of}
+use Rattle.sessions.specs.declared.refusals.Refusal.{Refusal}
 use Rattle.sessions.specs.declared.session.Recording.{Recording}
 use Rattle.sessions.specs.declared.session.Session.{Session}
 use Rattle.sessions.specs.declared.session.Acceptance.{Acceptance}
 use Rattle.sessions.specs.declared.session.Outcome.{Outcome}
+
+-- no refusal has the number 0
+pub number_some : (x : Refusal) → eqb (number_of x) 0 ≡ false
+number_some Refusal.BadVersions = refl
+number_some Refusal.NoVersion = refl
+number_some Refusal.BadHeartBeat = refl
+number_some Refusal.BadOffer = refl
+number_some Refusal.Invalid = refl
+number_some Refusal.Malformed = refl
+number_some Refusal.Closed = refl
+number_some Refusal.FromServer = refl
+number_some Refusal.OutOfPhase = refl
+number_some Refusal.Missing = refl
+number_some Refusal.BadId = refl
+number_some Refusal.Live = refl
+number_some Refusal.NotLive = refl
+number_some Refusal.Full = refl
+number_some Refusal.UnknownMode = refl
+number_some Refusal.NotPending = refl
+number_some Refusal.AllPending = refl
+number_some Refusal.BadLabel = refl
+number_some Refusal.NotOpen = refl
+number_some Refusal.NoSubscription = refl
 
 -- the number leaves the session as it was
 abbrev pub keeps : ℕ → Bool
@@ -36,13 +61,13 @@ keeps k = eqb k 38 || eqb k 39
 
 module _ {acceptance : Acceptance} {before after : Session} {r : Outcome} where
   -- the first fails, with a number that closes; with one that leaves the session as it was
-  pub gives_closed : (fails : Bool) (k : ℕ) (cs : List Check) → fails ≡ true → keeps k ≡ false → r ≡ closed_by before k
-      → Gives (record { fails = fails; number = k } ∷ cs) acceptance before after r
-  gives_closed fails k cs h n e = record { answered = rw (h, e) refl; left = rw (h, e, n) refl }
+  pub gives_closed : (fails : Bool) (x : Refusal) (cs : List Check) → fails ≡ true → keeps (number_of x) ≡ false → r ≡ closed_by before x
+      → Gives (record { fails = fails; number = number_of x } ∷ cs) acceptance before after r
+  gives_closed fails x cs h n e = record { answered = rw (h, e) refl; left = rw (h, e, n) refl }
 
-  pub gives_kept : (fails : Bool) (k : ℕ) (cs : List Check) → fails ≡ true → keeps k ≡ true → r ≡ kept_by before k
-      → Gives (record { fails = fails; number = k } ∷ cs) acceptance before after r
-  gives_kept fails k cs h n e = record { answered = rw (h, e) refl; left = rw (h, e, n) refl }
+  pub gives_kept : (fails : Bool) (x : Refusal) (cs : List Check) → fails ≡ true → keeps (number_of x) ≡ true → r ≡ kept_by before x
+      → Gives (record { fails = fails; number = number_of x } ∷ cs) acceptance before after r
+  gives_kept fails x cs h n e = record { answered = rw (h, e) refl; left = rw (h, e, n) refl }
 
   -- the first passes
   pub gives_on : (c : Check) (cs : List Check) → c.fails ≡ false → Gives cs acceptance before after r → Gives (c ∷ cs) acceptance before after r
@@ -54,9 +79,9 @@ module _ {acceptance : Acceptance} {before after : Session} {r : Outcome} where
   gives_alike cs ds e g = record { answered = rw (← e) g.answered; left = rw (← e) g.left }
 
   -- by the answer that the checks settle on
-  pub gives_refused : (cs : List Check) (k : ℕ) → settle cs (acceptance_says acceptance) ≡ refused k → keeps k ≡ false → r ≡ closed_by before k
-      → Gives cs acceptance before after r
-  gives_refused cs k h n e = record { answered = rw (h, e) refl; left = rw (h, e, n) refl }
+  pub gives_refused : (cs : List Check) (x : Refusal) → settle cs (acceptance_says acceptance) ≡ refused (number_of x) → keeps (number_of x) ≡ false
+      → r ≡ closed_by before x → Gives cs acceptance before after r
+  gives_refused cs x h n e = record { answered = rw (h, e) refl; left = rw (h, e, n) refl }
 
 -- accepted, and heard from
 pub gives_accepted : (cs : List Check) (acceptance : Acceptance) (before after : Session) (time : ℕ) (r : Outcome)
@@ -93,20 +118,26 @@ settle_closes (c ∷ cs) v k h e = by c.fails (settle_closes cs v k (and_right (
 abbrev three : Bool → Bool → Bool → List Check → List Check
 three a b c cs = record { fails = a; number = 40 } ∷ record { fails = b; number = 41 } ∷ record { fails = c; number = 42 } ∷ cs
 
-module _ {acceptance : Acceptance} {before after : Session} {r : Outcome} (k : ℕ) (cs : List Check) where
-  pub phase_refuses : (a b c : Bool) → k ≡ cond a 40 (cond b 41 (cond c 42 0)) → (k ≡ 0 → ⊥) → r ≡ closed_by before k
-      → Gives (three a b c cs) acceptance before after r
-  phase_refuses true b c e n q = gives_closed true 40 _ refl refl (q ∙ ap (closed_by before) e)
-  phase_refuses false true c e n q = gives_on _ _ refl (gives_closed true 41 _ refl refl (q ∙ ap (closed_by before) e))
-  phase_refuses false false true e n q = gives_on _ _ refl (gives_on _ _ refl (gives_closed true 42 _ refl refl (q ∙ ap (closed_by before) e)))
-  phase_refuses false false false e n q = absurd (n e)
+module _ {acceptance : Acceptance} {before after : Session} {r : Outcome} (cs : List Check) where
+  -- the first fails, with the number of a refusal that closes
+  gives_numbered : (x : Refusal) (k : ℕ) (ds : List Check) → number_of x ≡ k → keeps k ≡ false → r ≡ closed_by before x
+      → Gives (record { fails = true; number = k } ∷ ds) acceptance before after r
+  gives_numbered x k ds e n q =
+      subst (λ m. Gives (record { fails = true; number = m } ∷ ds) acceptance before after r) e (gives_closed true x ds refl (ap keeps e ∙ n) q)
 
-  pub phase_passes : (a b c : Bool) → k ≡ cond a 40 (cond b 41 (cond c 42 0)) → k ≡ 0 → Gives cs acceptance before after r
+  pub phase_refuses : (x : Refusal) (a b c : Bool) → number_of x ≡ cond a 40 (cond b 41 (cond c 42 0)) → r ≡ closed_by before x
       → Gives (three a b c cs) acceptance before after r
-  phase_passes true b c e n g = absurd (omega (arith, e, n))
-  phase_passes false true c e n g = absurd (omega (arith, e, n))
-  phase_passes false false true e n g = absurd (omega (arith, e, n))
-  phase_passes false false false e n g = gives_on _ _ refl (gives_on _ _ refl (gives_on _ _ refl g))
+  phase_refuses x true b c e q = gives_numbered x 40 _ e refl q
+  phase_refuses x false true c e q = gives_on _ _ refl (gives_numbered x 41 _ e refl q)
+  phase_refuses x false false true e q = gives_on _ _ refl (gives_on _ _ refl (gives_numbered x 42 _ e refl q))
+  phase_refuses x false false false e q = absurd (true≢false (sym (ap (λ k. eqb k 0) e) ∙ number_some x))
+
+  pub phase_passes : (a b c : Bool) → ◌≡◌ {A = ℕ} 0 (cond a 40 (cond b 41 (cond c 42 0))) → Gives cs acceptance before after r
+      → Gives (three a b c cs) acceptance before after r
+  phase_passes true b c e g = absurd (omega (arith, e))
+  phase_passes false true c e g = absurd (omega (arith, e))
+  phase_passes false false true e g = absurd (omega (arith, e))
+  phase_passes false false false e g = gives_on _ _ refl (gives_on _ _ refl (gives_on _ _ refl g))
 
 -- ---- a frame, from the parts that depend on its entries
 
@@ -144,9 +175,9 @@ module _ (s : Session) (n : ℕ) (es : List Entry) (time : ℕ) (r : Outcome) wh
 
 -- the ids that a frame names, by the number that they come to
 module _ (s : Session) (us : List IdUse) (acceptance : Acceptance) (time : ℕ) (r : Outcome) where
-  pub uses_refused : (k : ℕ) → settle (id_checks s us) [] ≡ refused k → r ≡ closed_by s k → GivesUses s us acceptance time r
-  uses_refused k e q =
-      gives_refused (id_checks s us) k (settle_refused (id_checks s us) [] _ k e) (settle_closes (id_checks s us) [] k refl e) q
+  pub uses_refused : (x : Refusal) → settle (id_checks s us) [] ≡ refused (number_of x) → r ≡ closed_by s x → GivesUses s us acceptance time r
+  uses_refused x e q =
+      gives_refused (id_checks s us) x (settle_refused (id_checks s us) [] _ (number_of x) e) (settle_closes (id_checks s us) [] (number_of x) refl e) q
 
   pub uses_accepted : ((v : List ℕ) → settle (id_checks s us) v ≡ accepted v) → r ≡ accepted_by (id_effect s (changed_id us)) acceptance time
       → GivesUses s us acceptance time r
@@ -188,20 +219,20 @@ module _ (cs ds : List Check) (acceptance : Acceptance) (before after : Session)
       says : List ℕ
       says = acceptance_says acceptance
 
-      by : (x : SessionAnswer) (A : Answer) → named.answer ≡ x → settle cs says ≡ A → after_answer x ds before ms d named r
+      by : (x : Result Acceptance Refusal) (A : Answer) → named.answer ≡ x → settle cs says ≡ A → after_answer x ds before ms d named r
           → Gives (cs ++ ds) acceptance before (changed after) r
-      by (SessionAnswer.Refused k) (refused j) e f h =
+      by (Err k) (refused j) e f h =
           let whole : settle (cs ++ ds) says ≡ refused j = settle_append cs ds says ∙ ap (λ A. then A (settle ds says)) f in
           record {
             answered = ap (λ (o : Outcome). answer_says o.answer) h ∙ g.answered ∙ f ∙ sym whole;
             left = ap (λ (o : Outcome). o.session) h ∙ g.left ∙ ap (λ A. left_by A before after) f
                 ∙ ap (λ A. left_by A before (changed after)) (sym whole);
           }
-      by (SessionAnswer.Refused k) (accepted v) e f h =
-          absurd (let q : refused k ≡ accepted v = sym (ap answer_says e) ∙ g.answered ∙ f in let z : ◌≡◌ {A = ℕ} 0 1 = cc in omega arith)
-      by (SessionAnswer.Accepted a) (refused j) e f h =
+      by (Err k) (accepted v) e f h =
+          absurd (let q : refused (number_of k) ≡ accepted v = sym (ap answer_says e) ∙ g.answered ∙ f in let z : ◌≡◌ {A = ℕ} 0 1 = cc in omega arith)
+      by (Ok a) (refused j) e f h =
           absurd (let q : accepted (acceptance_says a) ≡ refused j = sym (ap answer_says e) ∙ g.answered ∙ f in let z : ◌≡◌ {A = ℕ} 0 1 = cc in omega arith)
-      by (SessionAnswer.Accepted a) (accepted v) e f h =
+      by (Ok a) (accepted v) e f h =
           let q : accepted (acceptance_says a) ≡ accepted v = sym (ap answer_says e) ∙ g.answered ∙ f in
           let same : acceptance_says a ≡ says = (let w : acceptance_says a ≡ v = cc in w) ∙ settle_values cs says v f in
           let whole : settle (cs ++ ds) says ≡ settle ds (acceptance_says a) = settle_append cs ds says ∙ ap (λ A. then A (settle ds says)) f
@@ -214,7 +245,7 @@ module _ (cs ds : List Check) (acceptance : Acceptance) (before after : Session)
 
 -- what an outcome that was accepted gives then
 module _ (checks : List Check) (before : Session) (ms : List ℕ) (d : Deliveries) (named r : Outcome) where
-  pub then_accepted : ((v : List ℕ) → settle checks v ≡ accepted v) → (a : Acceptance) → named.answer ≡ SessionAnswer.Accepted a
+  pub then_accepted : ((v : List ℕ) → settle checks v ≡ accepted v) → (a : Acceptance) → named.answer ≡ Ok a
       → r ≡ outcome_with named ms d → GivesThen checks before ms d named r
   then_accepted h a e q =
       subst (λ x. after_answer x checks before ms d named r) (sym e)
@@ -249,9 +280,9 @@ module _ (s : Session) (n : ℕ) (es : List Entry) (there : lacks_needed s n es 
 -- ---- a delivery that is recorded
 
 module _ {before after : Session} {r : Recording} where
-  pub records_refused : (fails : Bool) (k : ℕ) (cs : List Check) → fails ≡ true → r ≡ unrecorded_by before k
-      → Records (record { fails = fails; number = k } ∷ cs) before after r
-  records_refused fails k cs h e = record { answered = rw (h, e) refl; left = rw (h, e) refl }
+  pub records_refused : (fails : Bool) (x : Refusal) (cs : List Check) → fails ≡ true → r ≡ unrecorded_by before x
+      → Records (record { fails = fails; number = number_of x } ∷ cs) before after r
+  records_refused fails x cs h e = record { answered = rw (h, e) refl; left = rw (h, e) refl }
 
   pub records_on : (c : Check) (cs : List Check) → c.fails ≡ false → Records cs before after r → Records (c ∷ cs) before after r
   records_on c cs h g = record { answered = rw h g.answered; left = rw h g.left }
@@ -289,10 +320,6 @@ module _ (s : Session) (time : ℕ) where
   unfolding timed_out_answer
   timed_invalid h = rw h
 
-  pub timed_no : is_valid s ≡ true → is_timed_out s time ≡ false → accepted (0 ∷ []) ≡ timed_out_answer s time
+  pub timed_open : is_valid s ≡ true → (b : Bool) → is_timed_out s time ≡ b → accepted (bit b ∷ []) ≡ timed_out_answer s time
   unfolding timed_out_answer
-  timed_no h t = rw (h, t)
-
-  pub timed_yes : is_valid s ≡ true → is_timed_out s time ≡ true → accepted (1 ∷ []) ≡ timed_out_answer s time
-  unfolding timed_out_answer
-  timed_yes h t = rw (h, t)
+  timed_open h b t = rw (h, t) refl

@@ -9,22 +9,22 @@ use native.Mathlib.Nat.{sub-zero}
 use lib.ListN.{get_or-append}
 use lib.Seq.{drop-append-le}
 use Rattle.headers.specs.Rows.{any, empty, same}
-use Rattle.headers.proofs.Rows.{and_left, and_right, same_eq, refuted, empty_zero, empty_not, or_yes}
+use Rattle.headers.proofs.Rows.{and_left, and_right, same_eq, refuted, empty_not, or_yes}
 use Rattle.stores.specs.Places.{padded, is_zero}
-use Rattle.stores.specs.Searches.{first_from, search_says, is_at}
+use Rattle.std.specs.Prelude.{Option as Maybe, is_some as has_place}
+use Rattle.stores.specs.Searches.{first_from, search_says}
 use Rattle.sessions.specs.Stores.{ids, clean, live, distinct}
 use Rattle.sessions.specs.Places.{Fits, Clean, Keyed, again}
 use Rattle.stores.specs.Compaction.{rows}
 use Rattle.stores.specs.Keys.{key, keys, with_keys, apart}
-use Rattle.stores.specs.declared.search.Search.{Search}
 use Rattle.sessions.proofs.Rows.{or_either}
 use Rattle.stores.proofs.Rows.{not_both}
 use Rattle.stores.proofs.Searching.{told_any}
 use Rattle.stores.proofs.Filling.{padded_take}
 use Rattle.sessions.proofs.Stores.{fits_first, fits_long, fits_next}
 use Rattle.stores.proofs.Keying.{keys_long, keys_turn, with_keys_all}
-use Rattle.stores.proofs.Walking.{Before, part_drop, part_from, drop_one}
-use Rattle.sessions.proofs.Walking.{Turn, room, length_fits, id_at, ids_behind, ids_at, lens_at, behind_fits, empty_front}
+use Rattle.stores.proofs.Walking.{Before, drop_one}
+use Rattle.sessions.proofs.Walking.{Turn, room, length_fits, id_at, ids_behind, ids_at, lens_at, part_fits, next_place, empty_front}
 
 -- ---- an id that is there, by the keys
 
@@ -80,14 +80,11 @@ apart_distinct w n s ls c h =
 
 -- ---- whether an id is among others
 
-pub again_empty : (id : List ℕ) (others : List (List ℕ)) → length id ≡ 0 → false ≡ again id others
-again_empty id others e = ap (λ t. not t && live id others) (sym (empty_zero id e))
-
 some_id : (id : List ℕ) (others : List (List ℕ)) → (length id ≡ 0 → ⊥) → again id others ≡ live id others
 some_id id others n = ap (λ t. not t && live id others) (empty_not id (λ e. n (ap length e)))
 
-pub again_found : (id : List ℕ) (others : List (List ℕ)) → (length id ≡ 0 → ⊥) → (r : Search) (found : Bool) → search_says r ≡ first_from
-    (λ x. same x id) 0 others → found ≡ is_at r
+pub again_found : (id : List ℕ) (others : List (List ℕ)) → (length id ≡ 0 → ⊥) → (r : Maybe ℕ) (found : Bool) → search_says r ≡ first_from
+    (λ x. same x id) 0 others → found ≡ has_place r
     → found ≡ again id others
 again_found id others n r found told is = is ∙ sym (told_any (λ x. same x id) 0 others r told) ∙ sym (some_id id others n)
 
@@ -137,9 +134,7 @@ module _ {w n : ℕ} {s ls : List ℕ} {k at l : ℕ} {fits : Fits w n s ls} {st
   -- the place's octets are its id and 0 after it
   here_padded : padded w (id_at t) ≡ take w (drop at s)
   here_padded =
-      let e : at + l - at ≡ l = omega arith in
-      ap (λ z. padded w (take z (drop at s))) e
-      ∙ padded_take w l (drop at s) (length_fits t) (simp length-drop (omega (arith, room t)))
+      padded_take w l (drop at s) (length_fits t) (simp length-drop (omega (arith, room t)))
       (and_left (is_zero (drop l (take w (drop at s)))) (clean w (drop w (drop at s)) (drop (k + 1) ls)) both_clean)
 
   module _ (wide : w ≡ 32) (few : n ≤ 64) (ks z : List ℕ) (are : ks ≡ keys s ls ++ z) where
@@ -171,25 +166,24 @@ module _ {w n : ℕ} {s ls : List ℕ} {k at l : ℕ} {fits : Fits w n s ls} {st
         ∙ ap (take (n - (k + 1))) (drop-append-le (k + 1) (keys s ls) z (omega (arith, inside)) ∙ ap (◌++ z) behind)
         ∙ take_at (keys (drop (at + w) s) (drop (k + 1) ls)) z (n - (k + 1)) long
 
-    pub rest_keyed : (h : ℕ) → h ≡ get_or ks k 0 → Keyed w (n - (k + 1)) (part_from (at + w) s) (part_from (k + 1) ls)
-        (take (n - (k + 1)) (drop (k + 1) ks)) h (id_at t)
-    rest_keyed h e =
-        record {
+    pub rest_keyed : (h : ℕ) → h ≡ get_or ks k 0 → (octets lens id : List ℕ) → octets ≡ drop (at + w) s → lens ≡ drop (k + 1) ls → id ≡ id_at t
+        → Keyed w (length lens) octets lens (take (n - (k + 1)) (drop (k + 1) ks)) h id
+    rest_keyed h e octets lens id p q same =
+        let f = part_fits fits (next_place t) in
+        rw (p, q, same) (record {
           store = record {
-            fits = behind_fits t;
-            clean_yes = ap₂ (clean w) (part_drop (at + w) s) (part_drop (k + 1) ls) ∙ rest_clean;
+            fits = record { lens_long = refl; store_long = f.store_long ∙ ap (◌* w) (sym f.lens_long); lens_short = f.lens_short };
+            clean_yes = rest_clean;
             wide = wide;
-            few = omega (arith, few);
+            few = omega (arith, few, f.lens_long);
           };
-          keys_are = rest_keys ∙ ap₂ keys (sym (part_drop (at + w) s)) (sym (part_drop (k + 1) ls));
+          keys_are = rest_keys;
           key_is = e ∙ here_key;
-        }
+        })
 
   -- what is left of the test, one place on
-  pub distinct_next : (r : Bool) → r ≡ again (id_at t) (ids w (part_from (at + w) s) (part_from (k + 1) ls)) → distinct (ids w (drop at s) (drop k ls))
-      ≡ not r && distinct (ids_behind t)
+  pub distinct_next : (r : Bool) → r ≡ again (id_at t) (ids_behind t) → distinct (ids w (drop at s) (drop k ls)) ≡ not r && distinct (ids_behind t)
   unfolding distinct
   distinct_next r e =
       ap distinct (ids_at t)
-      ∙ ap (◌&& distinct (ids_behind t)) (not_both (empty (id_at t)) (live (id_at t) (ids_behind t))
-      ∙ ap not (ap (again (id_at t)) (ap₂ (ids w) (sym (part_drop (at + w) s)) (sym (part_drop (k + 1) ls))) ∙ sym e))
+      ∙ ap (◌&& distinct (ids_behind t)) (not_both (empty (id_at t)) (live (id_at t) (ids_behind t)) ∙ ap not (sym e))

@@ -5,34 +5,31 @@
 --     settled_two                 the number of two ids that may be named, by what the store made of each
 --     named_uses, second_stays    the ids that a frame names, by the two that the code has
 --     settled_..                  the session that is left, by what the store made of the first
-use Rattle.std.proofs.Common.{◌≡◌, ℕ, ◌+◌, ◌-◌, ◌<◌, ◌≤◌, Bool, true, false, cond, ◌||◌, eqb, ltb, List, [], ◌∷◌, length, take, drop, sym, refl, ap, ◌∙◌, subst, ap₂, arith, length-drop, length-take-le, take-take, eq-eqb, ne_eqb, eqb-true}
+use Rattle.std.proofs.Common.{◌≡◌, ℕ, ◌+◌, ◌-◌, ◌<◌, ◌≤◌, Bool, true, false, cond, ◌||◌, eqb, ltb, List, [], ◌∷◌, length, take, drop, sym, refl, ap, ◌∙◌, subst, ap₂, arith, length-drop, length-take-le, take-take, eqb-true}
 use mathlib.Core.Option.{Option, none, some}
-use borrow.Author.Tests.{eqb-false}
 use Rattle.headers.specs.Rows.{any}
 use Rattle.headers.specs.Block.{Entry, entries, listed}
 use Rattle.headers.specs.Answers.{Answer, accepted, refused, settle}
 use Rattle.sessions.specs.Stores.{changes, used, bad_length, live_again, not_live, no_room, use_checks}
 use Rattle.sessions.specs.Places.{Settles, stored}
-use Rattle.frames.specs.Grammar.{ACK}
-use Rattle.frames.specs.declared.version.Version.{Version}
-use Rattle.frames.specs.declared.version.Version.TheVariants.{V11, V12}
-use Rattle.sessions.specs.Headers.{namings, namings_by, transaction, acknowledged_subscription, IdUse, id_use, id_uses, put_before, changed_id, value_of}
+use Rattle.sessions.specs.Headers.{namings_by, IdUse, id_use, id_uses, put_before, changed_id, value_of}
 use Rattle.sessions.specs.Sessions.{id_max, ids_of, with_ids, spoken, is_valid, Sized}
 use Rattle.sessions.specs.Calls.{uses_of, id_checks, id_effect}
 use Rattle.sessions.specs.Notes.{value_at, Locates}
 use Rattle.sessions.specs.declared.notes.Located.{Located}
 use Rattle.sessions.proofs.Locating.{value_there}
-use Rattle.sessions.specs.Steps.{closed_by, accepted_by, GivesUses, SettlesUse, settled_number, lower, names_id, naming_list, listed_namings}
-use Rattle.sessions.specs.Steps.{GivesNamings, use_named, put_of, count_of}
+use Rattle.sessions.specs.Steps.{closed_by, accepted_by, GivesUses, SettlesUse, lower_number, both, names_id, naming_list, listed_namings}
+use Rattle.sessions.specs.Steps.{use_named, put_of, count_of}
 use Rattle.sessions.specs.declared.command.Naming.{Naming}
 use Rattle.sessions.specs.declared.command.Namings.{Namings}
 use Rattle.sessions.specs.declared.store.Use.{Use}
 use Rattle.sessions.specs.declared.store.Use.TheVariants.{Nothing, Need, Enter, Free}
-use Rattle.sessions.specs.declared.store.Settled.{Settled}
+use Rattle.std.specs.Prelude.{Option as Maybe, Some, None, Result, Ok, Err}
+use Rattle.sessions.specs.Refusals.{number_of, refused_number}
+use Rattle.sessions.specs.declared.refusals.Refusal.{Refusal}
 use Rattle.sessions.specs.declared.session.Session.{Session}
 use Rattle.sessions.specs.declared.session.Acceptance.{Acceptance}
-use Rattle.sessions.specs.declared.session.Outcome.{Outcome}
-use Rattle.sessions.proofs.Steps.{uses_refused, uses_accepted}
+use Rattle.sessions.proofs.Steps.{number_some, uses_refused, uses_accepted}
 use Rattle.sessions.proofs.Using.{same_ids, put_ids, count_ids, stored_small, stored_fits}
 
 -- ---- the number of the first of four tests that holds
@@ -40,8 +37,12 @@ use Rattle.sessions.proofs.Using.{same_ids, put_ids, count_ids, stored_small, st
 abbrev first_number : Bool → Bool → Bool → Bool → ℕ
 first_number a b c d = cond a 44 (cond b 45 (cond c 46 (cond d 47 0)))
 
+-- an error is no value
+never_ok : {A : Type 0} {x : Refusal} {y : A} → ◌≡◌ {A = Result A Refusal} (Err x) (Ok y) → ⊥
+never_ok e = let z : ◌≡◌ {A = ℕ} 0 1 = cc in omega arith
+
 lower_first : (a₁ a₂ a₃ a₄ b₁ b₂ b₃ b₄ : Bool)
-    → first_number (a₁ || b₁) (a₂ || b₂) (a₃ || b₃) (a₄ || b₄) ≡ lower (first_number a₁ a₂ a₃ a₄) (first_number b₁ b₂ b₃ b₄)
+    → first_number (a₁ || b₁) (a₂ || b₂) (a₃ || b₃) (a₄ || b₄) ≡ lower_number (first_number a₁ a₂ a₃ a₄) (first_number b₁ b₂ b₃ b₄)
 lower_first true a₂ a₃ a₄ true b₂ b₃ b₄ = refl
 lower_first true a₂ a₃ a₄ false true b₃ b₄ = refl
 lower_first true a₂ a₃ a₄ false false true b₄ = refl
@@ -68,21 +69,30 @@ lower_first false false false false false false true b₄ = refl
 lower_first false false false false false false false true = refl
 lower_first false false false false false false false false = refl
 
-lower_none : (a : ℕ) → lower a 0 ≡ a
+lower_none : (a : ℕ) → lower_number a 0 ≡ a
 lower_none a = by (eqb a 0) refl
   where
     by : (t : Bool) → eqb a 0 ≡ t → cond t 0 a ≡ a
     by true e = sym (eqb-true a 0 e)
     by false e = refl
 
-pub lower_zero : (a b : ℕ) → lower a b ≡ 0 → a ≡ 0
-lower_zero a b = by (eqb a 0) (eqb b 0) (ltb b a) refl refl
+-- what becomes of two ids has the lower number
+pub both_number : (a b : Result (Maybe ℕ) Refusal) → refused_number (both a b) ≡ lower_number (refused_number a) (refused_number b)
+both_number (Ok p) (Ok q) = refl
+both_number (Ok p) (Err y) = refl
+both_number (Err x) (Ok q) = sym (lower_none (number_of x))
+both_number (Err x) (Err y) = rw (number_some x, number_some y) (by (ltb (number_of y) (number_of x)))
   where
-    by : (t u w : Bool) → eqb a 0 ≡ t → eqb b 0 ≡ u → cond t b (cond u a (cond w b a)) ≡ 0 → a ≡ 0
-    by true u w e f q = eqb-true a 0 e
-    by false true w e f q = q
-    by false false true e f q = absurd (eqb-false b 0 f q)
-    by false false false e f q = q
+    by : (t : Bool) → number_of (cond t y x) ≡ cond t (number_of y) (number_of x)
+    by true = refl
+    by false = refl
+
+-- and where neither is refused, the place of the first
+pub both_place : (a b : Result (Maybe ℕ) Refusal) (o : Maybe ℕ) → both a b ≡ Ok o → a ≡ Ok o
+both_place (Ok p) (Ok q) o e = e
+both_place (Ok p) (Err y) o e = absurd (never_ok e)
+both_place (Err x) (Ok q) o e = absurd (never_ok e)
+both_place (Err x) (Err y) o e = absurd (never_ok e)
 
 -- an answer by a number, where 0 is none
 abbrev pub by_number : ℕ → List ℕ → Answer
@@ -135,32 +145,27 @@ module _ (s : Session) where
       (any (λ u. not_live u.usage u.id (ids_of u.kind s)) us) (any (λ u. no_room u.usage (ids_of u.kind s)) us) v
 
   -- the first failing check over all ids is the lower of the numbers of the first and of the others
-  pub uses_lower : (u : IdUse) (us : List IdUse) → uses_number (u ∷ us) ≡ lower (use_number u) (uses_number us)
+  pub uses_lower : (u : IdUse) (us : List IdUse) → uses_number (u ∷ us) ≡ lower_number (use_number u) (uses_number us)
   uses_lower u us =
       lower_first (bad_length id_max u.id) (live_again u.usage u.id (ids_of u.kind s)) (not_live u.usage u.id (ids_of u.kind s))
       (no_room u.usage (ids_of u.kind s)) (any (λ u. bad_length id_max u.id) us) (any (λ u. live_again u.usage u.id (ids_of u.kind s)) us)
       (any (λ u. not_live u.usage u.id (ids_of u.kind s)) us) (any (λ u. no_room u.usage (ids_of u.kind s)) us)
 
   -- what the store made of one id is its number
-  settled_one : (u : IdUse) (r : Settled) → SettlesUse s (some u) r → settled_number r ≡ use_number u
-  settled_one u (Settled.Refused k) e = (refused_by (use_number u) k (sym (use_answer u) ∙ e)).0
-  settled_one u Settled.Kept e = accepted_by_none (use_number u) (sym (use_answer u) ∙ e.0)
-  settled_one u (Settled.Put k) e = accepted_by_none (use_number u) (sym (use_answer u) ∙ e.0)
+  settled_one : (u : IdUse) (r : Result (Maybe ℕ) Refusal) → SettlesUse s (some u) r → refused_number r ≡ use_number u
+  settled_one u (Err x) e = (refused_by (use_number u) (number_of x) (sym (use_answer u) ∙ e)).0
+  settled_one u (Ok None) e = accepted_by_none (use_number u) (sym (use_answer u) ∙ e.0)
+  settled_one u (Ok (Some k)) e = accepted_by_none (use_number u) (sym (use_answer u) ∙ e.0)
 
-  pub settled_two : (o p : Option IdUse) (a b : Settled) → SettlesUse s o a → SettlesUse s p b
-      → lower (settled_number a) (settled_number b) ≡ uses_number (put_before o (put_before p []))
-  settled_two none none a b e f = ap₂ (λ x y. lower (settled_number x) (settled_number y)) e f
+  pub settled_two : (o p : Option IdUse) (a b : Result (Maybe ℕ) Refusal) → SettlesUse s o a → SettlesUse s p b
+      → lower_number (refused_number a) (refused_number b) ≡ uses_number (put_before o (put_before p []))
+  settled_two none none a b e f = ap₂ (λ x y. lower_number (refused_number x) (refused_number y)) e f
   settled_two none (some u) a b e f =
-      ap (λ x. lower (settled_number x) (settled_number b)) e ∙ settled_one u b f ∙ sym (uses_lower u [] ∙ lower_none (use_number u))
+      ap (λ x. lower_number (refused_number x) (refused_number b)) e ∙ settled_one u b f ∙ sym (uses_lower u [] ∙ lower_none (use_number u))
   settled_two (some u) none a b e f =
-      ap₂ (λ x y. lower x (settled_number y)) (settled_one u a e) f ∙ sym (uses_lower u [])
+      ap₂ (λ x y. lower_number x (refused_number y)) (settled_one u a e) f ∙ sym (uses_lower u [])
   settled_two (some u) (some w) a b e f =
-      ap₂ lower (settled_one u a e) (settled_one w b f ∙ sym (uses_lower w [] ∙ lower_none (use_number w))) ∙ sym (uses_lower u (w ∷ []))
-
-  -- a refusal has a number
-  pub settled_refused : (o : Option IdUse) (k : ℕ) → SettlesUse s o (Settled.Refused k) → k ≡ 0 → ⊥
-  settled_refused none k e z = let w : ◌≡◌ {A = ℕ} 0 1 = cc in omega arith
-  settled_refused (some u) k e z = (refused_by (use_number u) k (sym (use_answer u) ∙ e)).1 z
+      ap₂ lower_number (settled_one u a e) (settled_one w b f ∙ sym (uses_lower w [] ∙ lower_none (use_number w))) ∙ sym (uses_lower u (w ∷ []))
 
 -- ---- the ids that a frame names, by the two that the code has
 
@@ -175,28 +180,6 @@ pub named_uses : (r : Namings) (es : List Entry)
     → id_uses (listed_namings r) es ≡ put_before (use_named r.first es) (put_before (use_named r.second es) [])
 named_uses r es =
     one_named r.first (naming_list r.second []) es ∙ ap (put_before (use_named r.first es)) (one_named r.second [] es)
-
--- one id, or none, as the code has it
-pub only_gives : (g h : Naming) → h ≡ transaction Nothing → GivesNamings (naming_list g []) (record { first = g; second = h })
-only_gives g h e =
-    record {
-      are = ap (λ (z : Naming). naming_list g (naming_list z [])) e;
-      second_stays = ap (λ (z : Naming). changes z.usage) e;
-    }
-
--- the one id that a command names
-pub named_only : (ver : Version) (n : ℕ) (x g : Naming) (r : Namings) → namings_by ver n ≡ naming_list x [] → g ≡ x → GivesNamings (naming_list g []) r
-    → GivesNamings (namings_by ver n) r
-named_only ver n x g r q e gives = subst (λ gs. GivesNamings gs r) (ap (λ (z : Naming). naming_list z []) e ∙ sym q) gives
-
--- those that an ACK or NACK names
-pub settling_two : (ver : Version) (x y : Naming) → ver ≡ V11 → x ≡ transaction Need → y ≡ acknowledged_subscription
-    → GivesNamings (namings ver ACK) (record { first = x; second = y })
-settling_two ver x y e p q = rw (e, p, q) (record { are = refl; second_stays = refl })
-
-pub settling_one : (ver : Version) (x : Naming) (r : Namings) → ver ≡ V12 → x ≡ transaction Need → GivesNamings (naming_list x []) r
-    → GivesNamings (namings ver ACK) r
-settling_one ver x r e p gives = rw e (subst (λ (z : Naming). GivesNamings (naming_list z []) r) p gives)
 
 -- an id that is neither entered nor freed is not the one that changes
 stays_last : (o p : Option IdUse) → ((u : IdUse) → p ≡ some u → changes u.usage ≡ false)
@@ -225,12 +208,12 @@ module _ (s : Session) (sized : Sized s) (valid : is_valid s ≡ true) where
   effect_used u Need e = same_ids s sized valid u.kind
   effect_used u Nothing e = same_ids s sized valid u.kind
 
-  pub settled_kept : (o : Option IdUse) → SettlesUse s o Settled.Kept → s ≡ id_effect s (changed_id (put_before o []))
+  pub settled_kept : (o : Option IdUse) → SettlesUse s o (Ok None) → s ≡ id_effect s (changed_id (put_before o []))
   settled_kept none e = refl
   settled_kept (some u) e =
       sym (same_ids s sized valid u.kind) ∙ ap (with_ids u.kind s) (sym e.1) ∙ effect_used u u.usage refl
 
-  pub settled_put : (u : IdUse) (i : ℕ) (part : List ℕ) → SettlesUse s (some u) (Settled.Put i) → part ≡ take (stored u.usage (length u.id)) u.id
+  pub settled_put : (u : IdUse) (i : ℕ) (part : List ℕ) → SettlesUse s (some u) (Ok (Some i)) → part ≡ take (stored u.usage (length u.id)) u.id
       → put_of u.kind s i part ≡ id_effect s (changed_id (u ∷ []))
   settled_put u i part (e, h, f) p =
       ap (put_of u.kind s i) p
@@ -239,44 +222,47 @@ module _ (s : Session) (sized : Sized s) (valid : is_valid s ≡ true) where
       ∙ ap (with_ids u.kind s) (sym f) ∙ effect_used u u.usage refl
 
   -- what putting it asks
-  pub put_asked : (u : IdUse) (i : ℕ) (part : List ℕ) → SettlesUse s (some u) (Settled.Put i) → part ≡ take (stored u.usage (length u.id)) u.id
+  pub put_asked : (u : IdUse) (i : ℕ) (part : List ℕ) → SettlesUse s (some u) (Ok (Some i)) → part ≡ take (stored u.usage (length u.id)) u.id
       → (i < count_of u.kind) × (length part ≤ id_max)
   put_asked u i part (e, h, f) p =
       (omega (arith, h, count_ids s sized valid u.kind), rw p (stored_fits id_max u.usage u.id (ids_of u.kind s) e))
 
 -- an id that is put somewhere was named
-pub put_named : (s : Session) (g : Naming) (es : List Entry) (i : ℕ) → SettlesUse s (use_named g es) (Settled.Put i)
+pub put_named : (s : Session) (g : Naming) (es : List Entry) (i : ℕ) → SettlesUse s (use_named g es) (Ok (Some i))
     → (u : IdUse) × (use_named g es ≡ some u) × (value_of g.header es ≡ some u.id) × (u.kind ≡ g.kind) × (u.usage ≡ g.usage)
 put_named s g es i = by (names_id g.usage) (value_of g.header es)
   where
-    by : (t : Bool) (v : Option (List ℕ)) → SettlesUse s (cond t (id_use g v) none) (Settled.Put i)
+    by : (t : Bool) (v : Option (List ℕ)) → SettlesUse s (cond t (id_use g v) none) (Ok (Some i))
         → (u : IdUse) × (cond t (id_use g v) none ≡ some u) × (v ≡ some u.id) × (u.kind ≡ g.kind) × (u.usage ≡ g.usage)
     by true none e = absurd (let z : ◌≡◌ {A = ℕ} 0 1 = cc in omega arith)
     by true (some id) e = (record { kind = g.kind; usage = g.usage; id = id }, refl, refl, refl, refl)
     by false v e = absurd (let z : ◌≡◌ {A = ℕ} 0 1 = cc in omega arith)
 
+-- and its header's value is located
+pub put_there : (s : Session) (g : Naming) (block : List ℕ) (i : ℕ) → SettlesUse s (use_named g (listed (entries block))) (Ok (Some i))
+    → Locates block g.header None → ⊥
+put_there s g block i e l =
+    let (u, is, v, kind, usage) = put_named s g (listed (entries block)) i e in
+    let q : none ≡ some u.id = l.first ∙ v in
+    let z : ◌≡◌ {A = ℕ} 0 1 = cc in omega arith
+
 -- ---- what the store made of an id that may be named
 
 module _ (s : Session) (g : Naming) (es : List Entry) where
-  pub unnamed : names_id g.usage ≡ false → SettlesUse s (use_named g es) Settled.Kept
-  unnamed h = subst (λ t. SettlesUse s (cond t (id_use g (value_of g.header es)) none) Settled.Kept) (sym h) refl
+  pub unnamed : names_id g.usage ≡ false → SettlesUse s (use_named g es) (Ok None)
+  unnamed h = subst (λ t. SettlesUse s (cond t (id_use g (value_of g.header es)) none) (Ok None)) (sym h) refl
 
-  pub missing : value_of g.header es ≡ none → SettlesUse s (use_named g es) Settled.Kept
+  pub missing : value_of g.header es ≡ none → SettlesUse s (use_named g es) (Ok None)
   missing h = by (names_id g.usage)
     where
-      by : (t : Bool) → SettlesUse s (cond t (id_use g (value_of g.header es)) none) Settled.Kept
-      by true = subst (λ o. SettlesUse s (id_use g o) Settled.Kept) (sym h) refl
+      by : (t : Bool) → SettlesUse s (cond t (id_use g (value_of g.header es)) none) (Ok None)
+      by true = subst (λ o. SettlesUse s (id_use g o) (Ok None)) (sym h) refl
       by false = refl
 
-  pub named_settles : (id : List ℕ) (r : Settled) → names_id g.usage ≡ true → value_of g.header es ≡ some id
+  pub named_settles : (id : List ℕ) (r : Result (Maybe ℕ) Refusal) → names_id g.usage ≡ true → value_of g.header es ≡ some id
       → Settles id_max g.usage id (ids_of g.kind s) r → SettlesUse s (use_named g es) r
   named_settles id r t h e =
       subst (λ z. SettlesUse s (cond z (id_use g (value_of g.header es)) none) r) (sym t) (subst (λ o. SettlesUse s (id_use g o) r) (sym h) e)
-
--- a refusal has a number
-pub refused_none : (s : Session) (o : Option IdUse) (r : Settled) (k : ℕ) → r ≡ Settled.Refused k → SettlesUse s o r → settled_number r ≡ 0 → ⊥
-refused_none s o r k e h z =
-    settled_refused s o k (subst (SettlesUse s o) e h) (sym (ap settled_number e) ∙ z)
 
 -- ---- the outcome of both
 
@@ -288,36 +274,30 @@ module _ (s : Session) (r : Namings) (es : List Entry) where
     uses_are : uses_of s n es ≡ uses
     uses_are = ap (λ gs. id_uses gs es) (sym is) ∙ named_uses r es
 
-    module _ (a b : Settled) (p : SettlesUse s (use_named r.first es) a) (q : SettlesUse s (use_named r.second es) b)
-        (k : ℕ) (lowest : k ≡ lower (settled_number a) (settled_number b)) where
-      number_is : k ≡ uses_number s (uses_of s n es)
-      number_is = lowest ∙ settled_two s (use_named r.first es) (use_named r.second es) a b p q ∙ ap (uses_number s) (sym uses_are)
+    module _ (a b : Result (Maybe ℕ) Refusal) (p : SettlesUse s (use_named r.first es) a) (q : SettlesUse s (use_named r.second es) b) where
+      number_is : refused_number (both a b) ≡ uses_number s (uses_of s n es)
+      number_is = both_number a b ∙ settled_two s (use_named r.first es) (use_named r.second es) a b p q ∙ ap (uses_number s) (sym uses_are)
 
-      answer_is : (v : List ℕ) → settle (id_checks s (uses_of s n es)) v ≡ by_number k v
+      answer_is : (v : List ℕ) → settle (id_checks s (uses_of s n es)) v ≡ by_number (refused_number (both a b)) v
       answer_is v = uses_answer s (uses_of s n es) v ∙ ap (λ m. by_number m v) (sym number_is)
 
-      pub both_refused : (k ≡ 0 → ⊥) → (acceptance : Acceptance) (time : ℕ) (o : Outcome) → o ≡ closed_by s k
-          → GivesUses s (uses_of s n es) acceptance time o
-      both_refused Some_number acceptance time o e =
-          uses_refused s (uses_of s n es) acceptance time o k (answer_is [] ∙ ap (λ t. cond t (accepted []) (refused k)) (ne_eqb k 0 Some_number)) e
+      pub both_refused : (x : Refusal) → both a b ≡ Err x → (acceptance : Acceptance) (time : ℕ) → GivesUses s (uses_of s n es) acceptance time (closed_by s x)
+      both_refused x h acceptance time =
+          uses_refused s (uses_of s n es) acceptance time (closed_by s x) x
+          (answer_is [] ∙ ap (λ z. by_number (refused_number z) []) h ∙ ap (λ t. cond t (accepted []) (refused (number_of x))) (number_some x)) refl
 
-      module _ (stays : changes r.second.usage ≡ false) (none_refused : k ≡ 0) (x : Session)
-          (left : settled_number a ≡ 0 → x ≡ id_effect s (changed_id (put_before (use_named r.first es) []))) where
-        left_is : x ≡ id_effect s (changed_id (uses_of s n es))
-        left_is =
-            left (lower_zero (settled_number a) (settled_number b) (sym lowest ∙ none_refused))
-            ∙ ap (id_effect s) (sym (second_stays (use_named r.first es) r.second es stays) ∙ ap changed_id (sym uses_are))
-
-        pub both_accepted : (acceptance : Acceptance) (time : ℕ) (o : Outcome) → o ≡ accepted_by x acceptance time
-            → GivesUses s (uses_of s n es) acceptance time o
-        both_accepted acceptance time o e =
-            uses_accepted s (uses_of s n es) acceptance time o
-            (λ v. answer_is v ∙ ap (λ t. cond t (accepted v) (refused k)) (eq-eqb k 0 none_refused))
-            (e ∙ ap (λ z. accepted_by z acceptance time) left_is)
+      pub both_accepted : (o : Maybe ℕ) → both a b ≡ Ok o → changes r.second.usage ≡ false → (acceptance : Acceptance) (time : ℕ)
+          → GivesUses s (uses_of s n es) acceptance time
+          (accepted_by (id_effect s (changed_id (put_before (use_named r.first es) []))) acceptance time)
+      both_accepted o h stays acceptance time =
+          uses_accepted s (uses_of s n es) acceptance time _
+          (λ v. answer_is v ∙ ap (λ z. by_number (refused_number z) v) h)
+          (ap (λ us. accepted_by (id_effect s us) acceptance time)
+          (sym (second_stays (use_named r.first es) r.second es stays) ∙ ap changed_id (sym uses_are)))
 
 -- an id that was put somewhere, by where its header's value is
-module _ (s : Session) (sized : Sized s) (valid : is_valid s ≡ true) (g : Naming) (block : List ℕ) (l : Located) (at : Locates block g.header l) (i : ℕ)
-    (e : SettlesUse s (use_named g (listed (entries block))) (Settled.Put i)) (n : ℕ) (to : n ≡ l.start + stored g.usage (l.end - l.start)) where
+module _ (s : Session) (sized : Sized s) (valid : is_valid s ≡ true) (g : Naming) (block : List ℕ) (l : Located) (at : Locates block g.header (Some l)) (i : ℕ)
+    (e : SettlesUse s (use_named g (listed (entries block))) (Ok (Some i))) (n : ℕ) (to : n ≡ l.start + stored g.usage (l.end - l.start)) where
   named : (u : IdUse) × (use_named g (listed (entries block)) ≡ some u) × (value_of g.header (listed (entries block)) ≡ some u.id)
       × (u.kind ≡ g.kind) × (u.usage ≡ g.usage)
   named = put_named s g (listed (entries block)) i e
@@ -339,7 +319,7 @@ module _ (s : Session) (sized : Sized s) (valid : is_valid s ≡ true) (g : Nami
   pub naming_asked : (i < count_of g.kind) × (length (take (n - l.start) (drop l.start block)) ≤ id_max)
   naming_asked =
       let (u, is, v, kind, usage) = named in
-      let (a, b) = put_asked s sized valid u i (take (n - l.start) (drop l.start block)) (subst (λ o. SettlesUse s o (Settled.Put i)) is e)
+      let (a, b) = put_asked s sized valid u i (take (n - l.start) (drop l.start block)) (subst (λ o. SettlesUse s o (Ok (Some i))) is e)
       (part_is u v usage) in
       (subst (λ k. i < count_of k) kind a, b)
 
@@ -348,5 +328,5 @@ module _ (s : Session) (sized : Sized s) (valid : is_valid s ≡ true) (g : Nami
   naming_put =
       let (u, is, v, kind, usage) = named in
       ap (λ k. put_of k s i (take (n - l.start) (drop l.start block))) (sym kind)
-      ∙ settled_put s sized valid u i (take (n - l.start) (drop l.start block)) (subst (λ o. SettlesUse s o (Settled.Put i)) is e) (part_is u v usage)
+      ∙ settled_put s sized valid u i (take (n - l.start) (drop l.start block)) (subst (λ o. SettlesUse s o (Ok (Some i))) is e) (part_is u v usage)
       ∙ ap (λ o. id_effect s (changed_id (put_before o []))) (sym is)

@@ -8,10 +8,8 @@ use Rattle.sessions.specs.Values.{heart_beat_max}
 use Rattle.sessions.specs.Sessions.{subscriptions_max, transactions_max, id_max, closed_phase}
 use Rattle.sessions.specs.Sessions.{ids_of, with_subscriptions, with_transactions, with_ids, valid_offers, valid_agreed, valid_numbers}
 use Rattle.sessions.specs.Sessions.{valid_subscriptions, valid_ids, right_deliveries, is_valid, Sized}
-use Rattle.sessions.specs.declared.parts.SubscriptionStore.{SubscriptionStore}
-use Rattle.sessions.specs.declared.parts.TransactionStore.{TransactionStore}
-use Rattle.sessions.specs.Places.{Fits, stored, put_in}
-use Rattle.sessions.specs.Steps.{count_of, put_subscription, put_transaction, put_of}
+use Rattle.sessions.specs.Places.{Fits, stored}
+use Rattle.sessions.specs.Steps.{count_of, put_of}
 use Rattle.sessions.specs.declared.store.Use.{Use}
 use Rattle.sessions.specs.declared.store.Use.TheVariants.{Nothing, Need, Enter, Free}
 use Rattle.sessions.specs.declared.command.Kind.{Kind}
@@ -92,16 +90,6 @@ pub stored_fits : (w : ℕ) (u : Use) (id : List ℕ) (is : List (List ℕ)) →
 stored_fits w u id is e =
     let l : length id ≤ w = ltb-false w (length id) (or_false_right (empty id) (ltb w (length id)) (all_pass (use_checks w u id is) [] [] e).0) in
     omega (arith, length-take (stored u (length id)) id, stored_small u (length id))
-
--- ids with one put in a place, as they are stored
-module _ (i : ℕ) (id store : List ℕ) (m : ℕ) (l : m ≡ length id) where
-  pub subscription_put : (s : SubscriptionStore) → store ≡ put_in id_max s.ids i id
-      → record { ids = store; lens = set s.lens i m; modes = s.modes } ≡ put_subscription s i id
-  subscription_put s e = rw (e, l)
-
-  pub transaction_put : (t : TransactionStore) → store ≡ put_in id_max t.ids i id
-      → record { ids = store; lens = set t.lens i m } ≡ put_transaction t i id
-  transaction_put t e = rw (e, l)
 
 -- the interval of a valid session is small
 pub small_inbound : (s : Session) → is_valid s ≡ true → s.agreed.inbound ≤ heart_beat_max

@@ -1,5 +1,4 @@
 -- Laws of header values with parts. Assumes nothing.
---     digits_none, digits_some                                      whether a part is digits, at least one
 --     front, behind                                                 the parts before and after a place
 --     item_none, item_front, item_behind                            an item by its two numbers
 --     heart_beats_none, heart_beats_front, heart_beats_both         a heart-beat value by its two numbers
@@ -12,7 +11,7 @@ use Rattle.headers.specs.Rows.{empty, every}
 use Rattle.headers.specs.Parts.{split, until, parts_from}
 use Rattle.headers.specs.Numbers.{is_digit, amount}
 use Rattle.headers.specs.Answers.{read_says}
-use Rattle.headers.specs.declared.decimal.DecimalRead.{DecimalRead}
+use Rattle.std.specs.Prelude.{Option as Maybe, None}
 use Rattle.headers.proofs.Rows.{and_no, or_no}
 use Rattle.headers.proofs.Parts.{split_first, part_last, part_next}
 use Rattle.sessions.specs.Values.{some_digits, two_numbers, is_item, counts, versions, heart_beat_max, both, heart_beats_in, heart_beats}
@@ -53,15 +52,6 @@ module _ (c : ℕ) where
           })
 
 -- ## Items and heart-beats
-
--- digits, at least one
-pub digits_none : (xs : List ℕ) → length xs ≡ 0 → some_digits xs ≡ false
-digits_none [] h = refl
-digits_none (x ∷ xs) h = absurd (omega arith)
-
-pub digits_some : (xs : List ℕ) → (length xs ≡ 0 → ⊥) → some_digits xs ≡ every is_digit xs
-digits_some [] h = absurd (h refl)
-digits_some (x ∷ xs) h = refl
 
 no_some_digits : (xs : List ℕ) → every is_digit xs ≡ false → some_digits xs ≡ false
 no_some_digits xs h = rw h (and_no (not (empty xs)))
@@ -125,11 +115,11 @@ module _ (v : List ℕ) (n : ℕ) (first : n ≡ 0 + until 44 v) where
       (λ q r ps d. sym (rw (no_amount heart_beat_max (behind n v) d) (both_none (amount heart_beat_max (front n v))))))
 
   -- what is read of its parts
-  module _ (h : n < length v) (a : DecimalRead) (sends : read_says a ≡ amount heart_beat_max (front n v)) where
-    pub heart_beats_front : a ≡ DecimalRead.Invalid → heart_beats v ≡ none
+  module _ (h : n < length v) (a : Maybe ℕ) (sends : read_says a ≡ amount heart_beat_max (front n v)) where
+    pub heart_beats_front : a ≡ None → heart_beats v ≡ none
     heart_beats_front e = heart_beats_parts h ∙ ap (λ o. both o (amount heart_beat_max (behind n v))) (sym sends ∙ ap read_says e)
 
-    pub heart_beats_both : (b : DecimalRead) → read_says b ≡ amount heart_beat_max (behind n v) → (a' b' : DecimalRead) → a ≡ a' → b ≡ b' → heart_beats
+    pub heart_beats_both : (b : Maybe ℕ) → read_says b ≡ amount heart_beat_max (behind n v) → (a' b' : Maybe ℕ) → a ≡ a' → b ≡ b' → heart_beats
         v ≡ both (read_says a') (read_says b')
     heart_beats_both b wants a' b' p q = heart_beats_parts h ∙ ap₂ both (sym sends ∙ ap read_says p) (sym wants ∙ ap read_says q)
 

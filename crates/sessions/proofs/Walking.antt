@@ -1,17 +1,15 @@
 -- Steps of a walk over the places of a store of ids, from the first on: the walk is before place k, at octet `at`. Assumes nothing.
---     part_fits, behind_fits                what is left of a store is a store
+--     ids_fit, fits_long, part_fits         a store that is lent, and what is left of a store
 --     ids_end, clean_end                    behind the last place
---     Turn, next_place, room, length_fits, id_fits   a turn has read the place's length: the place and its id lie inside the store
+--     Turn, next_place, room, length_fits   a turn has read the place's length: the place and its id lie inside the store
 --     ids_at, clean_at                      what is left of the ids, and of the test on what is behind them, one place on
---     part_copied                           a place of 32 octets, copied
-use Rattle.std.proofs.Common.{◌≡◌, ℕ, ◌+◌, ◌-◌, ◌*◌, ◌<◌, ◌≤◌, Bool, true, ◌&&◌, eqb, leb, List, [], ◌∷◌, length, get_or, take, drop, replicate, sym, ap, ◌∙◌, append-nil, add-mul, arith, length-drop, drop_of_length-le, length-take-le, drop-drop, leb-true}
-use Rattle.headers.specs.Rows.{empty, every, copied}
-use Rattle.headers.proofs.Copying.{copied_front}
+use Rattle.std.proofs.Common.{◌≡◌, ℕ, ◌+◌, ◌-◌, ◌*◌, ◌<◌, ◌≤◌, Bool, true, ◌&&◌, eqb, leb, List, [], ◌∷◌, length, get_or, take, drop, sym, refl, ap, ◌∙◌, add-mul, arith, length-drop, drop_of_length-le, length-take-le, drop-drop, leb-true}
+use Rattle.headers.specs.Rows.{empty, every}
 use Rattle.headers.proofs.Rows.{and_left, every_step, every_drop, empty_eqb}
 use Rattle.stores.specs.Places.{is_zero}
 use Rattle.sessions.specs.Stores.{ids, clean}
 use Rattle.sessions.specs.Places.{Fits}
-use Rattle.stores.proofs.Walking.{drop_one, part_from, part_drop, Before, next_place as next_after, room as room_at}
+use Rattle.stores.proofs.Walking.{drop_one, Before, next_place as next_after, room as room_at}
 
 -- ---- rows
 
@@ -23,6 +21,16 @@ pub empty_front : (l : ℕ) (xs : List ℕ) → l ≤ length xs → empty (take 
 empty_front l xs h = empty_eqb (take l xs) ∙ ap (λ n. eqb n 0) (length-take-le l xs h)
 
 -- ---- where the walk stands
+
+-- a store that is lent with lengths that fit
+pub ids_fit : (w : ℕ) (s ls : List ℕ) → length s ≡ length ls * w → every (λ l. leb l w) ls ≡ true → Fits w (length ls) s ls
+ids_fit w s ls e h = record { lens_long = refl; store_long = e; lens_short = h }
+
+pub fits_long : {w n : ℕ} {s ls : List ℕ} → Fits w n s ls → length s ≡ length ls * w
+fits_long {w} f = f.store_long ∙ ap (◌* w) (sym f.lens_long)
+
+pub at_place : (w n k : ℕ) → k ≤ n → Before w n k (k * w)
+at_place w n k h = record { passed = h; starts = refl }
 
 module _ {w n : ℕ} {s ls : List ℕ} {k at : ℕ} (fits : Fits w n s ls) (b : Before w n k at) where
   -- what is left of a store is a store
@@ -57,25 +65,18 @@ module _ {w n : ℕ} {s ls : List ℕ} {k at l : ℕ} {fits : Fits w n s ls} {st
   pub room : at + w ≤ length s
   room = room_at stands t.more s fits.store_long
 
-  -- the store behind the place, as the code takes it
-  pub behind_fits : Fits w (n - (k + 1)) (part_from (at + w) s) (part_from (k + 1) ls)
-  behind_fits = rw (part_drop (at + w) s, part_drop (k + 1) ls) (part_fits fits next_place)
-
   pub lens_room : k < length ls
   lens_room = omega (arith, t.more, fits.lens_long)
 
   pub length_fits : l ≤ w
   length_fits = omega (arith, t.read, leb-true (get_or ls k 0) w (every_at (λ x. leb x w) ls k lens_room fits.lens_short))
 
-  pub id_fits : at + l ≤ length s
-  id_fits = omega (arith, room, length_fits)
-
   pub lens_at : drop k ls ≡ l ∷ drop (k + 1) ls
   lens_at = drop_one ls k 0 lens_room ∙ ap (◌∷ drop (k + 1) ls) (sym t.read)
 
-  -- the id, and the ids and the store behind it, as the code takes parts
+  -- the id, and the ids behind it
   abbrev pub id_at : List ℕ
-  id_at = take (at + l - at) (drop at s)
+  id_at = take l (drop at s)
 
   abbrev pub ids_behind : List (List ℕ)
   ids_behind = ids w (drop (at + w) s) (drop (k + 1) ls)
@@ -83,27 +84,15 @@ module _ {w n : ℕ} {s ls : List ℕ} {k at l : ℕ} {fits : Fits w n s ls} {st
   pub ids_at : ids w (drop at s) (drop k ls) ≡ id_at ∷ ids_behind
   unfolding ids
   ids_at =
-      let e : l ≡ at + l - at = omega arith in
       ap (ids w (drop at s)) lens_at
       ∙ ap (λ z. take l (drop at s) ∷ ids w z (drop (k + 1) ls)) (drop-drop w at s)
-      ∙ ap (λ z. take z (drop at s) ∷ ids w (drop (at + w) s) (drop (k + 1) ls)) e
 
-  pub clean_at : (b : Bool) → is_zero (drop l (take (at + w - at) (drop at s))) ≡ b
+  pub clean_at : (b : Bool) → is_zero (drop l (take w (drop at s))) ≡ b
       → clean w (drop at s) (drop k ls) ≡ b && clean w (drop (at + w) s) (drop (k + 1) ls)
   unfolding clean
   clean_at b is =
-      let e : w ≡ at + w - at = omega arith in
       ap (clean w (drop at s)) lens_at
       ∙ ap (λ z. is_zero (drop l (take w (drop at s))) && clean w z (drop (k + 1) ls)) (drop-drop w at s)
-      ∙ ap (λ z. is_zero (drop l (take z (drop at s))) && clean w (drop (at + w) s) (drop (k + 1) ls)) e
       ∙ ap (◌&& clean w (drop (at + w) s) (drop (k + 1) ls)) is
 
 -- ---- a place of 32 octets, copied
-
-pub part_copied : (at : ℕ) (s out : List ℕ) → at + 32 ≤ length s → out ≡ copied (replicate 32 0) 0 (take (at + 32 - at) (drop at s)) → out ≡ take 32 (drop at s)
-part_copied at s out h e =
-    let wide : at + 32 - at ≡ 32 = omega arith in
-    e
-    ∙ ap (λ n. copied (replicate 32 0) 0 (take n (drop at s))) wide
-    ∙ copied_front (replicate 32 0) 0 (drop at s) 32 (simp length-drop (omega arith)) (omega arith)
-    ∙ append-nil (take 32 (drop at s))

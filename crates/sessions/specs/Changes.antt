@@ -1,5 +1,5 @@
 -- What a frame does to a session, as the code decides it: an answer and a change, and what the change makes of a session. Assumes nothing.
-use Rattle.std.specs.Prelude.{◌≡◌, ℕ, ◌-◌, ◌<◌, ◌≤◌, Bool, false, ◌||◌, List, [], ◌++◌, length, take, drop, ◌==◌, ◌≢◌, slice_index_or, slice_set}
+use Rattle.std.specs.Prelude.{◌≡◌, ℕ, ◌-◌, ◌<◌, ◌≤◌, Bool, false, ◌||◌, List, [], ◌++◌, length, take, drop, ◌==◌, slice_index_or, slice_set, Result, Ok, Err}
 use Rattle.std.proofs.Math.Option.{some}
 use Rattle.headers.specs.Block.{Entry, entries, listed}
 use Rattle.headers.specs.Answers.{Check, accepted, refused, settle}
@@ -7,25 +7,24 @@ use Rattle.sessions.specs.Headers.{put_before, changed_id, value_of, label_named
 use Rattle.stores.specs.Searches.{first_from}
 use Rattle.sessions.specs.Deliveries.{auto_mode, Pending, pending, labelled, settle_label, dropped}
 use Rattle.sessions.specs.Sessions.{subscriptions_max, transactions_max, id_max, with_subscriptions, with_transactions, with_deliveries}
-use Rattle.sessions.specs.Sessions.{nothing_agreed, opened, closed, heard, spoken}
-use Rattle.sessions.specs.declared.parts.Agreed.{Agreed}
+use Rattle.sessions.specs.Sessions.{opened, closed, heard, spoken}
 use Rattle.sessions.specs.Calls.{id_effect, opening, uses_of, id_checks, delivery_checks, modes_effect, delivery_effect, named_effect}
 use Rattle.sessions.specs.Calls.{entry_checks, effect, acceptance_of, phase_checks, place_named, may_name}
-use Rattle.sessions.specs.Steps.{closed_by, accepted_by, Gives, GivesUses, SettlesUse, settled_number, use_named, put_subscription, put_transaction}
+use Rattle.sessions.specs.Steps.{closed_by, accepted_by, Gives, GivesUses, SettlesUse, use_named, put_subscription, put_transaction}
 use Rattle.sessions.specs.Steps.{opening_only, label_checks}
 use Rattle.sessions.specs.declared.command.Header.TheVariants.{Subscription}
 use Rattle.sessions.specs.declared.parts.SubscriptionStore.{SubscriptionStore}
 use Rattle.sessions.specs.declared.parts.TransactionStore.{TransactionStore}
 use Rattle.sessions.specs.declared.delivery.Deliveries.{Deliveries}
 use Rattle.sessions.specs.declared.session.Session.{Session}
-use Rattle.sessions.specs.declared.session.SessionAnswer.{SessionAnswer}
+use Rattle.sessions.specs.Refusals.{number_of}
+use Rattle.sessions.specs.declared.refusals.Refusal.{Refusal}
 use Rattle.sessions.specs.declared.session.Acceptance.{Acceptance}
 use Rattle.sessions.specs.declared.session.Outcome.{Outcome}
 use Rattle.sessions.specs.declared.step.Named.{Named}
 use Rattle.sessions.specs.declared.step.Placing.{Placing}
 use Rattle.sessions.specs.declared.step.Put.{Put}
 use Rattle.sessions.specs.declared.step.Further.{Further}
-use Rattle.sessions.specs.declared.step.Looked.{Looked}
 use Rattle.sessions.specs.declared.step.Change.{Change}
 use Rattle.sessions.specs.declared.step.Step.{Step}
 
@@ -36,14 +35,16 @@ pub record Lends (s : Session) (subs sub_lens txs tx_lens : List ℕ) : Type 0 w
   pub txs_are : s.transactions.ids ≡ txs
   pub tx_lens_are : s.transactions.lens ≡ tx_lens
 
--- the ids that a frame names are settled: refused with the lowest number; or accepted, and then they leave the session with the first
--- entered or freed
-pub record NamesIds (s : Session) (n : ℕ) (es : List Entry) (r : Named) : Type 0 where
-  pub first_settled : SettlesUse s (use_named r.first es) r.settled
-  pub refuses : (r.number ≢ 0) → (acceptance : Acceptance) (time : ℕ) → GivesUses s (uses_of s n es) acceptance time (closed_by s r.number)
-  pub none_refused : r.number ≡ 0 → settled_number r.settled ≡ 0
-  pub accepts : r.number ≡ 0 → (acceptance : Acceptance) (time : ℕ)
+-- the ids that a frame names are settled: accepted, and then they leave the session with the first entered or freed; or refused with the lowest
+-- number
+pub record NamesPlace (s : Session) (n : ℕ) (es : List Entry) (r : Named) : Type 0 where
+  pub first_settled : SettlesUse s (use_named r.first es) (Ok r.place)
+  pub accepts : (acceptance : Acceptance) (time : ℕ)
       → GivesUses s (uses_of s n es) acceptance time (accepted_by (id_effect s (changed_id (put_before (use_named r.first es) []))) acceptance time)
+
+abbrev pub NamesIds : Session → ℕ → List Entry → Result Named Refusal → Type 0
+NamesIds s n es (Ok r) = NamesPlace s n es r
+NamesIds s n es (Err e) = (acceptance : Acceptance) (time : ℕ) → GivesUses s (uses_of s n es) acceptance time (closed_by s e)
 
 -- ---- what is put
 
@@ -126,21 +127,21 @@ pub record Passes (checks : List Check) (s : Session) (ms : List ℕ) (d : Deliv
   pub passed : (v : List ℕ) → settle checks v ≡ accepted v
   pub does : Does s ms d f
 
-abbrev pub Looks : List Check → Session → List ℕ → Deliveries → Looked → Type 0
-Looks checks s ms d (Looked.Refused k) = (settle checks [] ≡ refused k) × (k == 38 || (k == 39) ≡ false)
-Looks checks s ms d (Looked.Does f) = Passes checks s ms d f
+abbrev pub Looks : List Check → Session → List ℕ → Deliveries → Result Further Refusal → Type 0
+Looks checks s ms d (Err e) = (settle checks [] ≡ refused (number_of e)) × (number_of e == 38 || (number_of e == 39) ≡ false)
+Looks checks s ms d (Ok f) = Passes checks s ms d f
 
 -- the label that an ACK or NACK names; and all that a frame does to modes and deliveries
-abbrev pub LooksLabel : Session → (Pending → Bool) → List ℕ → Looked → Type 0
+abbrev pub LooksLabel : Session → (Pending → Bool) → List ℕ → Result Further Refusal → Type 0
 LooksLabel s may l r =
     Looks (label_checks may (some l) s.deliveries) s s.subscriptions.modes (settle_label s.subscriptions.modes l s.deliveries) r
 
 -- the same by the entries: no promise where the label is not there
-abbrev pub LooksNamed : Session → List Entry → Looked → Type 0
+abbrev pub LooksNamed : Session → List Entry → Result Further Refusal → Type 0
 LooksNamed s es r =
     (l : List ℕ) → label_named (spoken s) es ≡ some l → LooksLabel s (may_name (spoken s) (place_named s (value_of Subscription es))) l r
 
-abbrev pub LooksFurther : Session → ℕ → List Entry → Looked → Type 0
+abbrev pub LooksFurther : Session → ℕ → List Entry → Result Further Refusal → Type 0
 LooksFurther s n es r = Looks (delivery_checks s n es) s (modes_effect s n es) (delivery_effect s n es) r
 
 -- ---- the change
@@ -158,12 +159,11 @@ used_by s block p f =
     with_deliveries (with_transactions (with_subscriptions s (set_modes f (put_sub block p s.subscriptions))) (put_tx block p s.transactions))
     (deliveries_by f s)
 
-abbrev pub changed_by : Session → List ℕ → ℕ → Agreed → Change → Session
-changed_by s block time a Change.Close = closed s
-changed_by s block time a Change.Disconnect = heard (closed s) time
-changed_by s block time a Change.Open = heard (opened s a.versions a.inbound a.outbound) time
-changed_by s block time a Change.Hear = heard s time
-changed_by s block time a (Change.Use p f) = heard (used_by s block p f) time
+abbrev pub changed_by : Session → List ℕ → ℕ → Change → Session
+changed_by s block time Change.Disconnect = heard (closed s) time
+changed_by s block time (Change.Open a) = heard (opened s a.versions a.inbound a.outbound) time
+changed_by s block time Change.Hear = heard s time
+changed_by s block time (Change.Use p f) = heard (used_by s block p f) time
 
 -- it can be made
 pub record Uses (s : Session) (block : List ℕ) (p : Put) (f : Further) : Type 0 where
@@ -172,46 +172,42 @@ pub record Uses (s : Session) (block : List ℕ) (p : Put) (f : Further) : Type 
   pub settle_fits : SettleFits f s.deliveries
 
 abbrev pub Applies : Session → List ℕ → Change → Type 0
-Applies s block Change.Close = Unit {0}
 Applies s block Change.Disconnect = Unit {0}
-Applies s block Change.Open = Unit {0}
+Applies s block (Change.Open a) = Unit {0}
 Applies s block Change.Hear = Unit {0}
 Applies s block (Change.Use p f) = Uses s block p f
 
--- ---- steps
+-- ---- steps: what is accepted, and the change; or a refusal, which closes
 
--- one that opens no session
-abbrev pub step_of : SessionAnswer → Change → Step
-step_of a c = record { answer = a; change = c; agreed = nothing_agreed }
-
-abbrev pub closing_step : ℕ → Step
-closing_step k = step_of (SessionAnswer.Refused k) Change.Close
-
-abbrev pub accepting_step : Acceptance → Change → Step
-accepting_step a c = step_of (SessionAnswer.Accepted a) c
-
-abbrev pub opening_step : Acceptance → Agreed → Step
-opening_step a g = record { answer = SessionAnswer.Accepted a; change = Change.Open; agreed = g }
+abbrev pub step_of : Acceptance → Change → Result Step Refusal
+step_of a c = Ok (record { acceptance = a; change = c })
 
 -- what a step comes to
-abbrev pub outcome_of : Session → List ℕ → ℕ → Step → Outcome
-outcome_of s block time r = record { session = changed_by s block time r.agreed r.change; answer = r.answer }
+abbrev pub outcome_of : Session → List ℕ → ℕ → Result Step Refusal → Outcome
+outcome_of s block time (Ok r) = record { session = changed_by s block time r.change; answer = Ok r.acceptance }
+outcome_of s block time (Err e) = closed_by s e
+
+-- its change can be made
+abbrev pub StepApplies : Session → List ℕ → Result Step Refusal → Type 0
+StepApplies s block (Ok r) = Applies s block r.change
+StepApplies s block (Err e) = Unit {0}
 
 -- a step by checks, with what an acceptance says and the session that it leaves then, not yet heard from
-pub record Decides (checks : List Check) (acceptance : Acceptance) (s : Session) (block : List ℕ) (after : Session) (r : Step) : Type 0 where
+pub record Decides (checks : List Check) (acceptance : Acceptance) (s : Session) (block : List ℕ) (after : Session) (r : Result Step Refusal)
+    : Type 0 where
   pub gives : (time : ℕ) → Gives checks acceptance s (heard after time) (outcome_of s block time r)
-  pub applies : Applies s block r.change
+  pub applies : StepApplies s block r
 
 -- the opening frame; a frame that may name ids and a delivery; and all from 40 on
-abbrev pub DecidesOpening : Session → List ℕ → Acceptance → Step → Type 0
+abbrev pub DecidesOpening : Session → List ℕ → Acceptance → Result Step Refusal → Type 0
 DecidesOpening s block acceptance r = Decides (opening_only s (listed (entries block))) acceptance s block (opening s (listed (entries block))) r
 
-abbrev pub DecidesUses : Session → ℕ → List ℕ → Acceptance → Step → Type 0
+abbrev pub DecidesUses : Session → ℕ → List ℕ → Acceptance → Result Step Refusal → Type 0
 DecidesUses s n block acceptance r =
     Decides (id_checks s (uses_of s n (listed (entries block))) ++ delivery_checks s n (listed (entries block))) acceptance s block
     (named_effect s n (listed (entries block))) r
 
-abbrev pub DecidesFrame : Session → ℕ → List ℕ → Step → Type 0
+abbrev pub DecidesFrame : Session → ℕ → List ℕ → Result Step Refusal → Type 0
 DecidesFrame s n block r =
     Decides (phase_checks s n ++ entry_checks s n (listed (entries block))) (acceptance_of n (listed (entries block))) s block
     (effect s n (listed (entries block))) r

@@ -1,6 +1,6 @@
 -- Short lives of sessions as a table, and what a row claims: document 01's session examples, and rows that together have every command,
 -- header, version, limit and number of a session. That all hold is proofs/Examples.antt. Assumes nothing.
-use Rattle.std.specs.Prelude.{◌≡◌, ℕ, zero, suc, Bool, true, false, List, [], ◌∷◌, ◌++◌, map, length, replicate}
+use Rattle.std.specs.Prelude.{Option as Maybe, Some, None, Result, Ok, Err, ◌≡◌, ℕ, zero, suc, Bool, true, false, List, [], ◌∷◌, ◌++◌, map, length, replicate}
 use Rattle.std.proofs.Math.Option.{some}
 use Prim.Native.String.{String}
 use Rattle.headers.specs.Rows.{octets_of}
@@ -21,8 +21,8 @@ use Rattle.sessions.specs.Histories.{Call, frame, heart_beat, deliver, Answered,
 use Rattle.sessions.specs.declared.command.Kind.TheVariants.{Subscriptions, Transactions}
 use Rattle.sessions.specs.declared.delivery.Deliveries.{Deliveries}
 use Rattle.sessions.specs.declared.session.Session.{Session}
-use Rattle.sessions.specs.declared.session.PendingAnswer.{PendingAnswer}
-use Rattle.sessions.specs.declared.session.PendingAt.{PendingAt}
+use Rattle.sessions.specs.declared.session.Pending.{Pending as Told}
+use Rattle.sessions.specs.declared.refusals.InvalidRecord.{InvalidRecord}
 
 -- ---- A row
 
@@ -1215,20 +1215,19 @@ pub record FlagsAndClock : Type 0 where
 
 -- ---- The question for a pending delivery, of a session with one of "a", in client mode, and then one of "c", in client-individual mode
 
-abbrev told_as : PendingAnswer → ℕ → ℕ → ℕ → ℕ → ℕ → PendingAt
-told_as a id id_length mode label label_length = record {
-  answer = a;
+abbrev told_as : ℕ → ℕ → ℕ → ℕ → ℕ → Result (Maybe Told) InvalidRecord
+told_as id id_length mode label label_length = Ok (Some (record {
   subscription = id ∷ replicate 31 0;
   subscription_len = id_length;
   mode = mode;
   label = label ∷ replicate 31 0;
   label_len = label_length;
-}
+}))
 
 pub record PendingAsked : Type 0 where
   -- oldest first; "a" is 97 and "c" 99
-  pub oldest : pending_answer (three_with (two_deliveries 7 8)) 0 ≡ told_as PendingAnswer.Held 97 1 1 7 1
-  pub youngest : pending_answer (three_with (two_deliveries 7 8)) 1 ≡ told_as PendingAnswer.Held 99 1 2 8 1
-  pub no_more : pending_answer (three_with (two_deliveries 7 8)) 2 ≡ told_as PendingAnswer.Absent 0 0 0 0 0
+  pub oldest : pending_answer (three_with (two_deliveries 7 8)) 0 ≡ told_as 97 1 1 7 1
+  pub youngest : pending_answer (three_with (two_deliveries 7 8)) 1 ≡ told_as 99 1 2 8 1
+  pub no_more : pending_answer (three_with (two_deliveries 7 8)) 2 ≡ Ok None
   -- 38
-  pub of_invalid : pending_answer (three_with (two_deliveries 7 7)) 0 ≡ told_as PendingAnswer.Invalid 0 0 0 0 0
+  pub of_invalid : pending_answer (three_with (two_deliveries 7 7)) 0 ≡ Err (record {})

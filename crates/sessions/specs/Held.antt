@@ -1,6 +1,6 @@
 -- The pending deliveries that a session holds, oldest first, and the question for one of them: "Operators ask which messages an ice model
 -- got and never confirmed" (document 02, C-15). Assumes nothing.
-use Rattle.std.specs.Prelude.{ℕ, zero, suc, cond, List, [], ◌∷◌, map, length, replicate, slice_index_or}
+use Rattle.std.specs.Prelude.{ℕ, zero, suc, cond, List, [], ◌∷◌, map, length, slice_index_or, Option as Maybe, Some, None, Result, Ok, Err}
 use Rattle.std.proofs.Math.Option.{Option, none, some}
 use Rattle.stores.specs.Places.{padded}
 use Rattle.sessions.specs.Deliveries.{Pending, pending, mode_of, label_max}
@@ -8,8 +8,8 @@ use Rattle.sessions.specs.Accounts.{Delivery}
 use Rattle.sessions.specs.Sessions.{id_max, ids_of, is_valid}
 use Rattle.sessions.specs.declared.command.Kind.TheVariants.{Subscriptions}
 use Rattle.sessions.specs.declared.session.Session.{Session}
-use Rattle.sessions.specs.declared.session.PendingAnswer.{PendingAnswer}
-use Rattle.sessions.specs.declared.session.PendingAt.{PendingAt}
+use Rattle.sessions.specs.declared.session.Pending.{Pending as Told}
+use Rattle.sessions.specs.declared.refusals.InvalidRecord.{InvalidRecord}
 
 -- the id and the ack mode of the subscription in the place of each, and its label
 abbrev pub delivery_of : Session → Pending → Delivery
@@ -28,29 +28,17 @@ nth i [] = none
 nth zero (x ∷ xs) = some x
 nth (suc i) (x ∷ xs) = nth i xs
 
--- What is told of a delivery: its subscription's id, with 0 after it; the length of that; the ack mode; its label in the same way. Where
--- nothing is told, every field is 0.
-abbrev pub nothing_told : PendingAnswer → PendingAt
-nothing_told a = record {
-  answer = a;
-  subscription = replicate id_max 0;
-  subscription_len = 0;
-  mode = 0;
-  label = replicate label_max 0;
-  label_len = 0;
-}
-
-abbrev pub told_of : Option Delivery → PendingAt
-told_of none = nothing_told PendingAnswer.Absent
-told_of (some d) = record {
-  answer = PendingAnswer.Held;
+-- What is told of a delivery: its subscription's id, with 0 after it; the length of that; the ack mode; its label in the same way.
+abbrev pub told_of : Option Delivery → Maybe Told
+told_of none = None
+told_of (some d) = Some (record {
   subscription = padded id_max d.subscription;
   subscription_len = length d.subscription;
   mode = d.mode;
   label = padded label_max d.label;
   label_len = length d.label;
-}
+})
 
 -- the pending delivery with a number, the oldest being 0; of an invalid record nothing is told (38)
-unfoldable pub pending_answer : Session → ℕ → PendingAt
-pending_answer s i = cond (is_valid s) (told_of (nth i (held_deliveries s))) (nothing_told PendingAnswer.Invalid)
+unfoldable pub pending_answer : Session → ℕ → Result (Maybe Told) InvalidRecord
+pending_answer s i = cond (is_valid s) (Ok (told_of (nth i (held_deliveries s)))) (Err (record {}))

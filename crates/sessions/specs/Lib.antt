@@ -3,6 +3,7 @@ pub mod Stores
 pub mod Deliveries
 pub mod Accounts
 pub mod Values
+pub mod Refusals
 pub mod Opening
 pub mod Headers
 pub mod Notes

@@ -1,9 +1,10 @@
 -- What a session notes of a header block: where the first value of each header is, and how many entries have its name. Assumes nothing.
-use Rattle.std.specs.Prelude.{◌≡◌, ℕ, suc, ◌-◌, ◌≤◌, true, cond, not, List, [], ◌∷◌, length, take, drop, replicate, ◌==◌, slice_index, slice_index_or}
-use Rattle.std.proofs.Math.Option.{none, some}
+use Rattle.std.specs.Prelude.{◌≡◌, ℕ, suc, ◌-◌, ◌≤◌, true, false, cond, Option as Maybe, Some, None, Result, Ok, Err, List, [], ◌∷◌, length, take, drop, replicate, ◌==◌, slice_index, slice_index_or}
+use Rattle.std.proofs.Math.Option.{Option, none, some}
 use Rattle.headers.specs.Rows.{same}
 use Rattle.headers.specs.Block.{entries, listed, spans}
 use Rattle.headers.specs.Answers.{is_block}
+use Rattle.headers.specs.declared.block.Malformed.{Malformed}
 use Rattle.sessions.specs.Headers.{name_of, value_of}
 use Rattle.sessions.specs.declared.command.Header.{Header}
 use Rattle.sessions.specs.declared.command.Header.TheVariants.{AcceptVersion, HeartBeat, Host, Destination, Id, Transaction, Receipt, Ack, Subscription, MessageId}
@@ -30,9 +31,16 @@ index_of Ack = 7
 index_of Subscription = 8
 index_of MessageId = 9
 
+-- the number of what may be a header, as many as there are where it is none
+abbrev pub number_says : Maybe Header → ℕ
+number_says None = headers_max
+number_says (Some h) = index_of h
+
 -- what the notes say of a header
-abbrev pub located : Notes → Header → Located
-located r h = record { start = slice_index r.starts (index_of h); end = slice_index r.ends (index_of h); present = not (slice_index r.counts (index_of h) == 0) }
+abbrev pub located : Notes → Header → Maybe Located
+located r h =
+    cond (slice_index r.counts (index_of h) == 0) None
+    (Some (record { start = slice_index r.starts (index_of h); end = slice_index r.ends (index_of h) }))
 
 abbrev pub later_noted : Notes → Header → ℕ
 later_noted r h = slice_index r.counts (index_of h) - 1
@@ -41,10 +49,19 @@ later_noted r h = slice_index r.counts (index_of h) - 1
 abbrev pub value_at : List ℕ → Located → List ℕ
 value_at block r = take (r.end - r.start) (drop r.start block)
 
+-- the value that is located
+abbrev pub located_value : List ℕ → Maybe Located → Option (List ℕ)
+located_value block None = none
+located_value block (Some r) = some (value_at block r)
+
+abbrev pub Inside : List ℕ → Maybe Located → Type 0
+Inside block None = Unit {0}
+Inside block (Some r) = (r.start ≤ r.end) × (r.end ≤ length block)
+
 -- where a header's first value is
-pub record Locates (block : List ℕ) (h : Header) (r : Located) : Type 0 where
-  pub inside : (r.start ≤ r.end) × (r.end ≤ length block)
-  pub first : cond r.present (some (value_at block r)) none ≡ value_of h (listed (entries block))
+pub record Locates (block : List ℕ) (h : Header) (r : Maybe Located) : Type 0 where
+  pub inside : Inside block r
+  pub first : located_value block r ≡ value_of h (listed (entries block))
 
 -- what the notes say of a header is right: where its first value is, and how many entries have its name
 pub record Noted (block : List ℕ) (h : Header) (r : Notes) : Type 0 where
@@ -54,10 +71,10 @@ pub record Noted (block : List ℕ) (h : Header) (r : Notes) : Type 0 where
 abbrev pub AllNoted : List ℕ → Notes → Type 0
 AllNoted block r = (h : Header) → Noted block h r
 
--- the notes of a block: whether it is well formed, and then what they say of each header
-pub record Notes_of (block : List ℕ) (r : Notes) : Type 0 where
-  pub well_formed : r.valid ≡ is_block block
-  pub noted : is_block block ≡ true → AllNoted block r
+-- the notes of a block: what they say of each header, where it is well formed
+abbrev pub Notes_of : List ℕ → Result Notes Malformed → Type 0
+Notes_of block (Ok r) = (is_block block ≡ true) × AllNoted block r
+Notes_of block (Err e) = is_block block ≡ false
 
 -- The number of the header that has a name, of headers numbered from k on; as many as there are where none has it.
 abbrev pub number_from : ℕ → List Header → List ℕ → ℕ
@@ -69,4 +86,4 @@ number_of_name name = number_from 0 known_headers name
 
 -- nothing noted yet
 abbrev pub no_notes : Notes
-no_notes = record { starts = replicate headers_max 0; ends = replicate headers_max 0; counts = replicate headers_max 0; valid = true }
+no_notes = record { starts = replicate headers_max 0; ends = replicate headers_max 0; counts = replicate headers_max 0 }

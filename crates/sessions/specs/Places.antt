@@ -1,14 +1,14 @@
 -- What the functions over a store give, in the code's types. Assumes nothing.
-use Rattle.std.specs.Prelude.{◌≡◌, ℕ, ◌+◌, ◌*◌, ◌<◌, ◌≤◌, Bool, true, not, ◌&&◌, List, [], ◌++◌, length, take, drop, slice_set}
+use Rattle.std.specs.Prelude.{◌≡◌, ℕ, ◌+◌, ◌*◌, ◌<◌, ◌≤◌, Bool, true, not, ◌&&◌, List, [], ◌++◌, length, take, drop, slice_set, Option, Some, None, Result, Ok, Err}
 use Rattle.headers.specs.Answers.{accepted, refused, settle}
 use Rattle.headers.specs.Rows.{empty}
 use Rattle.stores.specs.Places.{padded}
 use Rattle.sessions.specs.Stores.{short, clean, live, used, use_checks}
 use Rattle.stores.specs.Keys.{key, keys}
-use Rattle.stores.specs.declared.search.Search.{Search}
 use Rattle.sessions.specs.declared.store.Use.{Use}
 use Rattle.sessions.specs.declared.store.Use.TheVariants.{Nothing, Need, Enter, Free}
-use Rattle.sessions.specs.declared.store.Settled.{Settled}
+use Rattle.sessions.specs.Refusals.{number_of}
+use Rattle.sessions.specs.declared.refusals.Refusal.{Refusal}
 
 -- a store of n places of w octets, with lengths that fit
 pub record Fits (w n : ℕ) (s ls : List ℕ) : Type 0 where
@@ -34,20 +34,20 @@ abbrev pub again : List ℕ → List (List ℕ) → Bool
 again id others = not (empty id) && live id others
 
 -- what becomes of an id that must be live, by where it was found
-abbrev pub when_needed : Search → Settled
-when_needed (Search.At k) = Settled.Kept
-when_needed Search.Nowhere = Settled.Refused 46
+abbrev pub when_needed : Option ℕ → Result (Option ℕ) Refusal
+when_needed (Some k) = Ok None
+when_needed None = Err Refusal.NotLive
 
 -- of one that is freed
-abbrev pub when_freed : Search → Settled
-when_freed (Search.At k) = Settled.Put k
-when_freed Search.Nowhere = Settled.Refused 46
+abbrev pub when_freed : Option ℕ → Result (Option ℕ) Refusal
+when_freed (Some k) = Ok (Some k)
+when_freed None = Err Refusal.NotLive
 
 -- of one that is entered, by where it was found and by the first free place
-abbrev pub when_entered : Search → Search → Settled
-when_entered (Search.At k) free = Settled.Refused 45
-when_entered Search.Nowhere (Search.At k) = Settled.Put k
-when_entered Search.Nowhere Search.Nowhere = Settled.Refused 47
+abbrev pub when_entered : Option ℕ → Option ℕ → Result (Option ℕ) Refusal
+when_entered (Some k) free = Err Refusal.Live
+when_entered None (Some k) = Ok (Some k)
+when_entered None None = Err Refusal.Full
 
 -- how many octets of an id its place gets
 abbrev pub stored : Use → ℕ → ℕ
@@ -61,8 +61,8 @@ abbrev pub put_in : ℕ → List ℕ → ℕ → List ℕ → List ℕ
 put_in w s k id = take (k * w) s ++ (padded w id ++ drop (k * w + w) s)
 
 -- what becomes of a use of an id
-abbrev pub Settles : ℕ → Use → List ℕ → List (List ℕ) → Settled → Type 0
-Settles w u id is (Settled.Refused k) = settle (use_checks w u id is) [] ≡ refused k
-Settles w u id is Settled.Kept = (settle (use_checks w u id is) [] ≡ accepted []) × (used u id is ≡ is)
-Settles w u id is (Settled.Put k) =
+abbrev pub Settles : ℕ → Use → List ℕ → List (List ℕ) → Result (Option ℕ) Refusal → Type 0
+Settles w u id is (Err e) = settle (use_checks w u id is) [] ≡ refused (number_of e)
+Settles w u id is (Ok None) = (settle (use_checks w u id is) [] ≡ accepted []) × (used u id is ≡ is)
+Settles w u id is (Ok (Some k)) =
     (settle (use_checks w u id is) [] ≡ accepted []) × (k < length is) × (used u id is ≡ slice_set is k (take (stored u (length id)) id))

@@ -1,12 +1,10 @@
 -- What the readers of header values and blocks give, in the code's types. Assumes nothing.
-use Rattle.std.specs.Prelude.{ℕ, Bool, cond, ◌||◌, List, [], ◌∷◌}
+use Rattle.std.specs.Prelude.{ℕ, Bool, ◌||◌, List, [], ◌∷◌, Option as Maybe, Some, None}
 use Rattle.std.proofs.Math.Option.{Option, none, some}
 use Rattle.headers.specs.Rows.{same}
 use Rattle.sessions.specs.Values.{HeartBeats}
 use Rattle.sessions.specs.Opening.{flag}
-use Rattle.sessions.specs.declared.value.VersionsRead.{VersionsRead}
-use Rattle.sessions.specs.declared.value.HeartBeatsRead.{HeartBeatsRead}
-use Rattle.sessions.specs.declared.value.ModeRead.{ModeRead}
+use Rattle.sessions.specs.declared.value.Beats.{Beats}
 
 -- the version 1.d, by the digit d
 abbrev pub version : ℕ → List ℕ
@@ -16,12 +14,14 @@ version d = 49 ∷ 46 ∷ d ∷ []
 abbrev pub counted : List Bool → List ℕ → List Bool
 counted fs p = (flag fs 0 || same p (version 48)) ∷ (flag fs 1 || same p (version 49)) ∷ (flag fs 2 || same p (version 50)) ∷ []
 
-abbrev pub versions_say : VersionsRead → Option (List Bool)
-versions_say r = cond r.valid (some r.flags) none
+abbrev pub versions_say : Maybe (List Bool) → Option (List Bool)
+versions_say None = none
+versions_say (Some flags) = some flags
 
-abbrev pub heart_beats_say : HeartBeatsRead → Option HeartBeats
-heart_beats_say r = cond r.valid (some (record { sends = r.sends; wants = r.wants })) none
+abbrev pub heart_beats_say : Maybe Beats → Option HeartBeats
+heart_beats_say None = none
+heart_beats_say (Some r) = some (record { sends = r.sends; wants = r.wants })
 
-abbrev pub mode_says : ModeRead → Option ℕ
-mode_says (ModeRead.Mode m) = some m
-mode_says ModeRead.Unknown = none
+abbrev pub mode_says : Maybe ℕ → Option ℕ
+mode_says None = none
+mode_says (Some m) = some m

@@ -1,12 +1,11 @@
 -- What the parts of a session's calls give, in the code's types: the checks of Calls group by group. That they come to Calls' answers
 -- and sessions is proofs/Steps.antt. Assumes nothing.
-use Rattle.std.specs.Prelude.{◌≡◌, ℕ, ◌<◌, ◌≤◌, Bool, true, false, cond, not, ◌&&◌, ◌||◌, List, [], ◌∷◌, ◌++◌, length, ◌==◌, nat_eq, nat_le, nat_lt, slice_set}
+use Rattle.std.specs.Prelude.{◌≡◌, ℕ, ◌<◌, ◌≤◌, Bool, true, false, cond, not, ◌&&◌, ◌||◌, List, [], ◌∷◌, ◌++◌, length, ◌==◌, nat_eq, nat_le, nat_lt, slice_set, Option as Maybe, None, Result, Ok, Err}
 use Rattle.std.proofs.Math.Option.{Option, none, some}
 use Rattle.headers.specs.Block.{Entry}
 use Rattle.headers.specs.Answers.{Check, settle}
 use Rattle.sessions.specs.Stores.{enters, wants_live, changes, bad_length}
 use Rattle.sessions.specs.Deliveries.{deliveries_max, label_max, auto_mode, Pending, mode_of, is_pending, record_label}
-use Rattle.sessions.specs.Deliveries.{valid_labels, valid_places}
 use Rattle.sessions.specs.Opening.{none_shared}
 use Rattle.sessions.specs.Headers.{is_some, from_server, opens, value_of, IdUse, id_use, changed_id}
 use Rattle.sessions.specs.Sessions.{subscriptions_max, transactions_max, id_max, fresh_phase, open_phase, closed_phase, ids_of}
@@ -18,7 +17,6 @@ use Rattle.sessions.specs.Calls.{delivery_checks, named_effect, entry_checks, ac
 use Rattle.sessions.specs.Calls.{recorded_by}
 use Rattle.sessions.specs.Places.{put_in, Settles}
 use Rattle.sessions.specs.declared.store.Use.{Use}
-use Rattle.sessions.specs.declared.store.Settled.{Settled}
 use Rattle.sessions.specs.declared.command.Naming.{Naming}
 use Rattle.sessions.specs.declared.command.Namings.{Namings}
 use Rattle.sessions.specs.declared.command.Kind.{Kind}
@@ -26,22 +24,22 @@ use Rattle.sessions.specs.declared.command.Kind.TheVariants.{Subscriptions, Tran
 use Rattle.sessions.specs.declared.parts.SubscriptionStore.{SubscriptionStore}
 use Rattle.sessions.specs.declared.parts.TransactionStore.{TransactionStore}
 use Rattle.sessions.specs.declared.session.Session.{Session}
-use Rattle.sessions.specs.declared.session.SessionAnswer.{SessionAnswer}
 use Rattle.sessions.specs.declared.session.Acceptance.{Acceptance}
 use Rattle.sessions.specs.declared.session.Outcome.{Outcome}
 use Rattle.sessions.specs.declared.session.Recording.{Recording}
-use Rattle.sessions.specs.declared.session.DeliveryAnswer.{DeliveryAnswer}
+use Rattle.sessions.specs.Refusals.{number_of}
+use Rattle.sessions.specs.declared.refusals.Refusal.{Refusal}
 use Rattle.sessions.specs.declared.delivery.Deliveries.{Deliveries}
 
 -- refused, the session as it was; refused, the session closed; accepted
-abbrev pub kept_by : Session → ℕ → Outcome
-kept_by s k = record { session = s; answer = SessionAnswer.Refused k }
+abbrev pub kept_by : Session → Refusal → Outcome
+kept_by s e = record { session = s; answer = Err e }
 
-abbrev pub closed_by : Session → ℕ → Outcome
-closed_by s k = record { session = closed s; answer = SessionAnswer.Refused k }
+abbrev pub closed_by : Session → Refusal → Outcome
+closed_by s e = record { session = closed s; answer = Err e }
 
 abbrev pub accepted_by : Session → Acceptance → ℕ → Outcome
-accepted_by s acceptance time = record { session = heard s time; answer = SessionAnswer.Accepted acceptance }
+accepted_by s acceptance time = record { session = heard s time; answer = Ok acceptance }
 
 -- what a call gives by its checks, with what it says where it accepts and the session that it leaves then
 pub record Gives (checks : List Check) (acceptance : Acceptance) (before after : Session) (r : Outcome) : Type 0 where
@@ -74,18 +72,23 @@ put_of Subscriptions s k id = with_subscriptions s (put_subscription s.subscript
 put_of Transactions s k id = with_transactions s (put_transaction s.transactions k id)
 
 -- what the store makes of an id that a frame names, or of none
-abbrev pub SettlesUse : Session → Option IdUse → Settled → Type 0
-SettlesUse s none r = r ≡ Settled.Kept
+abbrev pub SettlesUse : Session → Option IdUse → Result (Maybe ℕ) Refusal → Type 0
+SettlesUse s none r = r ≡ Ok None
 SettlesUse s (some u) r = Settles id_max u.usage u.id (ids_of u.kind s) r
 
--- its number, 0 where it is not refused; and the lower of two, where 0 is none
-abbrev pub settled_number : Settled → ℕ
-settled_number (Settled.Refused k) = k
-settled_number Settled.Kept = 0
-settled_number (Settled.Put k) = 0
+-- the lower of two refusals, and of two numbers, where 0 is none
+abbrev pub lower : Refusal → Refusal → Refusal
+lower a b = cond (nat_lt (number_of b) (number_of a)) b a
 
-abbrev pub lower : ℕ → ℕ → ℕ
-lower a b = cond (a == 0) b (cond (b == 0) a (cond (nat_lt b a) b a))
+abbrev pub lower_number : ℕ → ℕ → ℕ
+lower_number a b = cond (a == 0) b (cond (b == 0) a (cond (nat_lt b a) b a))
+
+-- what becomes of two ids: the first's place, or the lowest refusal
+abbrev pub both : Result (Maybe ℕ) Refusal → Result (Maybe ℕ) Refusal → Result (Maybe ℕ) Refusal
+both (Ok place) (Ok other) = Ok place
+both (Ok place) (Err b) = Err b
+both (Err a) (Ok other) = Err a
+both (Err a) (Err b) = Err (lower a b)
 
 -- a use is of an id: of a new one or a live one
 abbrev pub names_id : Use → Bool
@@ -132,16 +135,11 @@ GivesEntries s n es time r = Gives (entry_checks s n es) (acceptance_of n es) s 
 
 -- ---- deliveries
 
--- a valid record of deliveries by its parts, with the lengths of the subscriptions' ids last but one
-abbrev pub valid_parts : List ℕ → List ℕ → List ℕ → List ℕ → List ℕ → ℕ → Bool
-valid_parts labels lens places modes sub_lens count =
-    nat_le count deliveries_max && (valid_labels count labels lens && valid_places count places sub_lens modes)
-
 -- what is given where an outcome was: a refusal stays; what was accepted passes further checks, and its session gets other modes and
 -- deliveries
-abbrev pub after_answer : SessionAnswer → List Check → Session → List ℕ → Deliveries → Outcome → Outcome → Type 0
-after_answer (SessionAnswer.Refused k) checks before ms d named r = r ≡ named
-after_answer (SessionAnswer.Accepted acceptance) checks before ms d named r =
+abbrev pub after_answer : Result Acceptance Refusal → List Check → Session → List ℕ → Deliveries → Outcome → Outcome → Type 0
+after_answer (Err e) checks before ms d named r = r ≡ named
+after_answer (Ok acceptance) checks before ms d named r =
     Gives checks acceptance before (with_deliveries (with_modes named.session ms) d) r
 
 abbrev pub GivesThen : List Check → Session → List ℕ → Deliveries → Outcome → Outcome → Type 0
@@ -167,11 +165,11 @@ pub record Records (checks : List Check) (before after : Session) (r : Recording
   pub left : r.session ≡ recorded_by (settle checks []) before after
 
 -- refused, the session as it was; recorded
-abbrev pub unrecorded_by : Session → ℕ → Recording
-unrecorded_by s k = record { session = s; answer = DeliveryAnswer.Refused k }
+abbrev pub unrecorded_by : Session → Refusal → Recording
+unrecorded_by s e = record { session = s; answer = Err e }
 
 abbrev pub recorded_as : Session → Recording
-recorded_as s = record { session = s; answer = DeliveryAnswer.Recorded }
+recorded_as s = record { session = s; answer = Ok tt }
 
 -- 62 and 61, of a delivery to the subscription in a place
 abbrev pub recording_checks : Session → ℕ → List ℕ → List Check

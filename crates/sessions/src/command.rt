@@ -3,11 +3,13 @@ ghost use Rattle.std.specs.Prelude.{◌≡◌, []};
 ghost use Rattle.frames.specs.Grammar.{ACK};
 ghost use Rattle.sessions.specs.Headers.{unknown, from_server, opens as opens_by, settles as settles_by, subscription, transaction};
 ghost use Rattle.sessions.specs.Headers.{acknowledged_subscription, namings, namings_by, label_header};
+ghost use Rattle.sessions.specs.Refusals.{refused_number};
 ghost use Rattle.sessions.specs.Steps.{phase_number, names_id, naming_list, GivesNamings};
 
+use crate::commands;
+use crate::refusals::Refusal;
 use crate::session::Session;
 use crate::store::Use;
-use crate::{commands, refusals};
 use frames::version::Version;
 
 // Whether the number is no command's.
@@ -178,24 +180,24 @@ pub(crate) fn names_id(usage: Use) -> bool
     }
 }
 
-// The number of what is out of its phase: 40 closed, 41 a server's command, 42 not open, or a second opening; or 0.
-pub(crate) fn phase_refusal(phase: u8, command: u32) -> u32
-    ensures { result ≡ phase_number phase command }
+// Whether the command may come in the phase: not where the session is closed, nor a server's, nor before the opening, nor a second opening.
+pub(crate) fn check_phase(phase: u8, command: u32) -> Result<(), Refusal>
+    ensures { refused_number result ≡ phase_number phase command }
 {
     if phase == Session::CLOSED {
-        return refusals::CLOSED;
+        return Err(Refusal::Closed);
     }
     if is_from_server(command) {
-        return refusals::FROM_SERVER;
+        return Err(Refusal::FromServer);
     }
     if opens(command) {
         if phase == Session::FRESH {
-            return 0;
+            return Ok(());
         }
-        return refusals::OUT_OF_PHASE;
+        return Err(Refusal::OutOfPhase);
     }
     if phase == Session::OPEN {
-        return 0;
+        return Ok(());
     }
-    refusals::OUT_OF_PHASE
+    Err(Refusal::OutOfPhase)
 }

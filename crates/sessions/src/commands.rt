@@ -1,4 +1,4 @@
-// The numbers of the commands.
+// The numbers of the commands. They stay numbers, since a call may get any, and one that is no command's is answered with 39.
 pub const ABORT: u32 = 1;
 
 pub const ACK: u32 = 2;

@@ -5,16 +5,17 @@ ghost use Rattle.stores.specs.Searches.{first_from, search_says};
 ghost use Rattle.stores.specs.Compaction.{kept};
 ghost use Rattle.sessions.specs.Sessions.{subscriptions_max};
 ghost use Rattle.sessions.specs.Deliveries.{pending, labelled, places_of, deliveries_of, dropped, settle_label, no_deliveries};
-ghost use Rattle.sessions.specs.Deliveries.{some_lengths, acknowledging, valid_labels, valid_places, Laid};
+ghost use Rattle.sessions.specs.Deliveries.{valid_deliveries, some_lengths, acknowledging, valid_labels, valid_places, Laid};
 ghost use Rattle.sessions.specs.Calls.{may_name};
-ghost use Rattle.sessions.specs.Steps.{valid_parts};
 ghost use Rattle.headers.specs.Rows.{every};
 
 use crate::parts::SubscriptionStore;
 use crate::session::Session;
+use crate::store::Ids;
 use frames::version::Version;
-use stores::{Range, Search};
+use stores::Range;
 
+// They stay arrays with a count, since a session has fixed memory and no heap.
 #[derive(Clone, Copy)]
 pub struct Deliveries {
     pub labels: [u8; Deliveries::MAX * Session::ID],
@@ -43,7 +44,7 @@ impl Deliveries {
         requires { Laid self }
         ensures { result ≡ deliveries_of (kept range 0 (places_of (pending self)) (pending self)) }
     {
-        let n = wide(self.count);
+        let n = usize::from(self.count);
         let end = n * 32;
         let labels = self.labels;
         let lens = self.lens;
@@ -68,32 +69,36 @@ impl Deliveries {
         requires { (Laid self) × (place < subscriptions_max) }
         ensures { result ≡ dropped (some place) self }
     {
-        let n = wide(self.count);
+        let n = usize::from(self.count);
         if n == 0 {
             return self;
         }
         let range = Range {
             from: 0,
             to: n,
-            of: (place % 256) as u8,
+            of: place as u8,
         };
         self.without(range)
     }
 
     // The number of the pending delivery with a label, the oldest being 0.
-    pub(crate) fn find(self, label: &[u8]) -> Search
+    pub(crate) fn find(self, label: &[u8]) -> Option<usize>
         requires { Laid self }
         ensures { search_says result ≡ first_from (labelled label.now) 0 (pending self) }
     {
-        let n = wide(self.count);
+        let n = usize::from(self.count);
         let end = n * 32;
         let labels = self.labels;
         let lens = self.lens;
-        crate::store::find(&labels[0..end], &lens[0..n], n, 32, label)
+        let ids = Ids {
+            octets: &labels[0..end],
+            lens: &lens[0..n],
+        };
+        ids.find(label)
     }
 
     // Whether an ACK or NACK may name the one with a number: in 1.2 any, in 1.1 one of the subscription that it names, which has a place.
-    pub(crate) fn may_name(self, index: usize, version: Version, place: Search) -> bool
+    pub(crate) fn may_name(self, index: usize, version: Version, place: Option<usize>) -> bool
         requires { (Laid self) × (index < self.count) }
         ensures { result ≡ may_name version (search_says place) (slice_index_or (pending self) index (record { place = 0; label = [] })) }
     {
@@ -102,8 +107,8 @@ impl Deliveries {
                 let places = self.places;
                 let of = places[index];
                 match place {
-                    Search::At(k) => wide(of) == k,
-                    Search::Nowhere => false,
+                    Some(k) => usize::from(of) == k,
+                    None => false,
                 }
             }
             Version::V12 => true,
@@ -117,7 +122,7 @@ impl Deliveries {
     {
         let places = self.places;
         let of = places[index];
-        let mode = stores::octet_at(modes, wide(of));
+        let mode = stores::octet_at(modes, usize::from(of));
         if mode == SubscriptionStore::CLIENT {
             return self.without(Range {
                 from: 0,
@@ -132,26 +137,31 @@ impl Deliveries {
         })
     }
 
+    // Whether the record is valid, over the lengths and the modes of the subscriptions.
+    pub(crate) fn is_valid(&self, subscriptions: &SubscriptionStore) -> bool
+        ensures { result ≡ valid_deliveries subscriptions.now self.now }
+    {
+        let n = usize::from(self.count);
+        if Deliveries::MAX < n {
+            return false;
+        }
+        if !are_valid_labels(&self.labels, &self.lens, n) {
+            return false;
+        }
+        are_valid_places(&self.places, n, &subscriptions.lens, &subscriptions.modes)
+    }
+
     // One more, the youngest.
     pub(crate) fn entered(mut self, place: u8, label: &[u8]) -> Deliveries
         requires { (Laid self) × (self.count < 64) × (length label.now ≤ 32) }
         ensures { result ≡ deliveries_of (pending self ++ (record { place = place; label = label.now } ∷ [])) }
     {
-        let n = wide(self.count);
-        let mut labels = self.labels;
-        crate::store::put(&mut labels, n, 32, label);
-        self.labels = labels;
-        self.lens[n] = (label.len() % 256) as u8;
+        let n = usize::from(self.count);
+        crate::store::put(&mut self.labels, &mut self.lens, n, label);
         self.places[n] = place;
         self.count = self.count + 1;
         self
     }
-}
-
-pub(crate) fn wide(x: u8) -> usize
-    ensures { (result ≡ x) × (result < 256) }
-{
-    x as usize
 }
 
 // Whether each length is above 0.
@@ -159,10 +169,8 @@ fn are_some(lens: &[u8]) -> bool
     ensures { result ≡ some_lengths lens.now }
 {
     let mut some = true;
-    let mut i = 0usize;
-    while i < lens.len() {
-        some = some & (lens[i] != 0);
-        i += 1;
+    for len in lens {
+        some = some & (*len != 0);
     }
     some
 }
@@ -171,7 +179,7 @@ fn are_some(lens: &[u8]) -> bool
 fn acknowledges(place: u8, lens: &[u8], modes: &[u8]) -> bool
     ensures { result ≡ acknowledging lens.now modes.now place }
 {
-    let p = wide(place);
+    let p = usize::from(place);
     if lens.len() <= p {
         return false;
     }
@@ -185,12 +193,10 @@ fn acknowledges(place: u8, lens: &[u8], modes: &[u8]) -> bool
 fn all_acknowledge(places: &[u8], lens: &[u8], modes: &[u8]) -> bool
     ensures { result ≡ every (acknowledging lens.now modes.now) places.now }
 {
-    let mut i = 0usize;
-    while i < places.len() {
-        if !acknowledges(places[i], lens, modes) {
+    for place in places {
+        if !acknowledges(*place, lens, modes) {
             return false;
         }
-        i += 1;
     }
     true
 }
@@ -201,7 +207,7 @@ fn are_valid_labels(labels: &[u8], lens: &[u8], n: usize) -> bool
     ensures { result ≡ valid_labels n labels.now lens.now }
 {
     let end = n * 32;
-    if !crate::store::is_valid(&labels[0..end], &lens[0..n], n, 32) {
+    if !crate::store::is_valid(&labels[0..end], &lens[0..n]) {
         return false;
     }
     if !are_some(&lens[0..n]) {
@@ -222,27 +228,4 @@ fn are_valid_places(places: &[u8], n: usize, lens: &[u8], modes: &[u8]) -> bool
         return false;
     }
     stores::is_zero(&places[n..])
-}
-
-// Whether a record of deliveries is valid, by its parts, over the modes and the lengths of the subscriptions. The parts are lent, and all at one
-// lifetime, since they are fields of one session.
-pub(crate) fn are_valid<'a>(
-    labels: &'a [u8],
-    label_lens: &'a [u8],
-    places: &'a [u8],
-    modes: &'a [u8],
-    lens: &'a [u8],
-    count: u8,
-) -> bool
-    requires { (length labels.now ≡ 2048) × (length label_lens.now ≡ 64) × (length places.now ≡ 64) }
-    ensures { result ≡ valid_parts labels.now label_lens.now places.now modes.now lens.now count }
-{
-    let n = wide(count);
-    if Deliveries::MAX < n {
-        return false;
-    }
-    if !are_valid_labels(labels, label_lens, n) {
-        return false;
-    }
-    are_valid_places(places, n, lens, modes)
 }

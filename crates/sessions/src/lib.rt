@@ -6,7 +6,7 @@ pub mod delivery; // pending deliveries
 mod value; // header values: accept-version, heart-beat and ack
 mod clock; // time passed
 pub mod commands; // their numbers
-pub mod refusals; // the numbers that a session refuses with
+pub mod refusals; // what a session refuses, by number
 mod command; // which ids a command names, and in which phase it may come
 mod notes; // one walk over a header block: where the first value of each header is
 mod locate; // what the headers of a frame say

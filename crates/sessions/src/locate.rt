@@ -12,11 +12,11 @@ use crate::commands;
 use crate::notes::{Located, Notes};
 use crate::parts::SubscriptionStore;
 use crate::session::Acceptance;
-use crate::value::{HeartBeatsRead, ModeRead, VersionsRead};
+use crate::value::Beats;
 use frames::version::Version;
 
-// Where a header's first value is in the block that the notes are of.
-pub(crate) fn locate(notes: Notes, block: &[u8], header: Header) -> Located
+// Where a header's first value is in the block that the notes are of, if it has one.
+pub(crate) fn locate(notes: Notes, block: &[u8], header: Header) -> Option<Located>
     requires { AllNoted block.now notes }
     ensures { Locates block.now header result }
 {
@@ -27,7 +27,7 @@ pub(crate) fn locate(notes: Notes, block: &[u8], header: Header) -> Located
 fn lacks(notes: Notes, header: Header) -> bool
     ensures { (block : List ℕ) → AllNoted block notes → result ≡ not (has_header header (listed (entries block))) }
 {
-    !crate::notes::locate(notes, header).present
+    crate::notes::locate(notes, header).is_none()
 }
 
 // Whether a header that an ACK or NACK needs is missing.
@@ -67,50 +67,40 @@ pub(crate) fn lacks_needed(version: Version, command: u32, notes: Notes) -> bool
     false
 }
 
-// The versions that the client has; none are well formed where it does not say.
-pub(crate) fn client_versions(notes: Notes, block: &[u8]) -> VersionsRead
+// The versions that the client has; none where it does not say, or they are malformed.
+pub(crate) fn client_versions(notes: Notes, block: &[u8]) -> Option<[bool; 3]>
     requires { AllNoted block.now notes }
     ensures { versions_say result ≡ client_versions (listed (entries block.now)) }
 {
-    let l = locate(notes, block, Header::AcceptVersion);
-    if !l.present {
-        return VersionsRead {
-            flags: [false; 3],
-            valid: false,
-        };
-    }
+    let Some(l) = locate(notes, block, Header::AcceptVersion) else {
+        return None;
+    };
     let start = l.start;
     let end = l.end;
     crate::value::read_versions(&block[start..end])
 }
 
 // The client's heart-beats; 0 and 0 where it does not say.
-pub(crate) fn client_heart_beats(notes: Notes, block: &[u8]) -> HeartBeatsRead
+pub(crate) fn client_heart_beats(notes: Notes, block: &[u8]) -> Option<Beats>
     requires { AllNoted block.now notes }
     ensures { heart_beats_say result ≡ client_heart_beats (listed (entries block.now)) }
 {
-    let l = locate(notes, block, Header::HeartBeat);
-    if !l.present {
-        return HeartBeatsRead {
-            sends: 0,
-            wants: 0,
-            valid: true,
-        };
-    }
+    let Some(l) = locate(notes, block, Header::HeartBeat) else {
+        return Some(Beats { sends: 0, wants: 0 });
+    };
     let start = l.start;
     let end = l.end;
     crate::value::read_heart_beats(&block[start..end])
 }
 
 // The ack mode that a SUBSCRIBE asks for; auto where it does not say.
-pub(crate) fn mode_asked(notes: Notes, block: &[u8]) -> ModeRead
+pub(crate) fn mode_asked(notes: Notes, block: &[u8]) -> Option<u8>
     requires { AllNoted block.now notes }
     ensures { mode_says result ≡ mode_asked (listed (entries block.now)) }
 {
-    let l = locate(notes, block, Header::Ack);
-    if !l.present {
-        return ModeRead::Mode(SubscriptionStore::AUTO);
-    }
+    let Some(l) = locate(notes, block, Header::Ack) else {
+        return Some(SubscriptionStore::AUTO);
+    };
     let start = l.start;
     let end = l.end;
     crate::value::read_mode(&block[start..end])

@@ -1,18 +1,17 @@
 // What a session notes of a header block: one walk finds where the first value of each header that it knows is, how many entries
-// have that header's name, and whether the block is well formed.
+// have that header's name. A block that is not well formed has no notes.
 ghost use Rattle.std.specs.Prelude.{◌≡◌, if◌then◌else◌};
 ghost use Rattle.headers.specs.Rows.{same};
-ghost use Rattle.sessions.specs.Notes.{Notes_of, located, later_noted, index_of, headers_max, number_of_name, no_notes};
+ghost use Rattle.sessions.specs.Notes.{Notes_of, located, later_noted, index_of, headers_max, number_of_name, number_says, no_notes};
 
 use crate::command::Header;
-use headers::EntryAt;
+use headers::Malformed;
 
-// A value from start to end, if there is one.
+// A value, from start to end.
 #[derive(Clone, Copy)]
 pub(crate) struct Located {
     pub start: usize,
     pub end: usize,
-    pub present: bool,
 }
 
 // Where the first value of each header that a session knows is in a block, and how many entries have its name. Headers go by
@@ -22,7 +21,6 @@ pub(crate) struct Notes {
     pub starts: [usize; Notes::HEADERS],
     pub ends: [usize; Notes::HEADERS],
     pub counts: [usize; Notes::HEADERS],
-    pub valid: bool,
 }
 
 impl Notes {
@@ -37,7 +35,6 @@ impl Notes {
             starts: [0; Notes::HEADERS],
             ends: [0; Notes::HEADERS],
             counts: [0; Notes::HEADERS],
-            valid: true,
         }
     }
 }
@@ -46,105 +43,85 @@ impl Notes {
 fn index_of(header: Header) -> usize
     ensures { result ≡ index_of header }
 {
-    match header {
-        Header::AcceptVersion => 0,
-        Header::HeartBeat => 1,
-        Header::Host => 2,
-        Header::Destination => 3,
-        Header::Id => 4,
-        Header::Transaction => 5,
-        Header::Receipt => 6,
-        Header::Ack => 7,
-        Header::Subscription => 8,
-        Header::MessageId => 9,
-    }
+    header as usize
 }
 
-// The number of a header where a name is its name, or as many as there are headers.
-fn number_if(name: &[u8], known: &[u8], number: usize) -> usize
-    ensures { result ≡ (if same name.now known.now then number else headers_max) }
+// A header where a name is its name.
+fn header_if(name: &[u8], known: &[u8], header: Header) -> Option<Header>
+    ensures { number_says result ≡ (if same name.now known.now then index_of header else headers_max) }
 {
     if headers::equal(name, known) {
-        number
+        Some(header)
     } else {
-        Notes::HEADERS
+        None
     }
 }
 
-// The number of the header that has a name, or as many as there are headers where none has it. Its length and first octet leave one
-// to compare it with.
-fn number_of(name: &[u8]) -> usize
-    ensures { result ≡ number_of_name name.now }
+// The header that has a name, if one has it. Its length and first octet leave one to compare it with.
+fn header_of(name: &[u8]) -> Option<Header>
+    ensures { number_says result ≡ number_of_name name.now }
 {
     let n = name.len();
     match n {
-        2 => number_if(name, b"id", 4),
-        3 => number_if(name, b"ack", 7),
-        4 => number_if(name, b"host", 2),
-        7 => number_if(name, b"receipt", 6),
+        2 => header_if(name, b"id", Header::Id),
+        3 => header_if(name, b"ack", Header::Ack),
+        4 => header_if(name, b"host", Header::Host),
+        7 => header_if(name, b"receipt", Header::Receipt),
         10 => {
             if name[0] == b'h' {
-                number_if(name, b"heart-beat", 1)
+                header_if(name, b"heart-beat", Header::HeartBeat)
             } else {
-                number_if(name, b"message-id", 9)
+                header_if(name, b"message-id", Header::MessageId)
             }
         }
         11 => {
             if name[0] == b'd' {
-                number_if(name, b"destination", 3)
+                header_if(name, b"destination", Header::Destination)
             } else {
-                number_if(name, b"transaction", 5)
+                header_if(name, b"transaction", Header::Transaction)
             }
         }
-        12 => number_if(name, b"subscription", 8),
-        14 => number_if(name, b"accept-version", 0),
-        _ => Notes::HEADERS,
+        12 => header_if(name, b"subscription", Header::Subscription),
+        14 => header_if(name, b"accept-version", Header::AcceptVersion),
+        _ => None,
     }
 }
 
 // One walk over the block.
-pub(crate) fn note(block: &[u8]) -> Notes
+pub(crate) fn note(block: &[u8]) -> Result<Notes, Malformed>
     ensures { Notes_of block.now result }
 {
     let mut notes = Notes::none();
     let mut i = 0usize;
-    loop {
-        match headers::entry_at(block, i) {
-            EntryAt::Entry(l) => {
-                let from = i + 6;
-                let start = from + l.name;
-                i = start + l.value;
-                let k = number_of(&block[from..start]);
-                if k < Notes::HEADERS {
-                    let count = notes.counts[k];
-                    notes.counts[k] = count + 1;
-                    if count == 0 {
-                        notes.starts[k] = start;
-                        notes.ends[k] = i;
-                    }
-                }
-            }
-            EntryAt::End => {
-                return notes;
-            }
-            EntryAt::Malformed => {
-                notes.valid = false;
-                return notes;
+    while let Some(l) = headers::entry_at(block, i)? {
+        let from = i + 6;
+        let start = from + l.name;
+        i = start + l.value;
+        if let Some(header) = header_of(&block[from..start]) {
+            let k = index_of(header);
+            let count = notes.counts[k];
+            notes.counts[k] = count + 1;
+            if count == 0 {
+                notes.starts[k] = start;
+                notes.ends[k] = i;
             }
         }
     }
+    Ok(notes)
 }
 
-// Where a header's first value is.
-pub(crate) fn locate(notes: Notes, header: Header) -> Located
+// Where a header's first value is, if it has one.
+pub(crate) fn locate(notes: Notes, header: Header) -> Option<Located>
     ensures { result ≡ located notes header }
 {
     let k = index_of(header);
-    Located {
+    if notes.counts[k] == 0 {
+        return None;
+    }
+    Some(Located {
         start: notes.starts[k],
         end: notes.ends[k],
-        present: notes.counts[k] != 0,
-    }
+    })
 }
 
 // How many later entries follow the first of a header.

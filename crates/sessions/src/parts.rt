@@ -1,7 +1,7 @@
 // The parts of a session's record: what the server offers, what both sides agreed on, the subscriptions and the transactions.
 ghost use Rattle.std.specs.Prelude.{◌≡◌, ◌<◌, ◌≤◌, length};
 ghost use Rattle.sessions.specs.Sessions.{subscriptions_max, transactions_max, id_max, nothing_agreed, no_subscriptions, no_transactions};
-ghost use Rattle.sessions.specs.Sessions.{valid_offers, valid_agreed};
+ghost use Rattle.sessions.specs.Sessions.{valid_offers, valid_agreed, valid_subscriptions, valid_transactions};
 ghost use Rattle.sessions.specs.Deliveries.{known_modes, idle_modes, valid_modes};
 ghost use Rattle.sessions.specs.Steps.{put_subscription, put_transaction, put_mode};
 ghost use Rattle.sessions.specs.Changes.{PutFits, ModeFits, put_sub, put_tx, set_modes};
@@ -37,7 +37,8 @@ pub struct SubscriptionStore {
     pub modes: [u8; Session::SUBSCRIPTIONS],
 }
 
-// The ids of the transactions that are open, in the same way but for the mode.
+// The ids of the transactions that are open, in the same way but for the mode. It stays a type of its own: the sizes of one struct's arrays
+// would have to be computed from a const parameter, which Rattle refuses.
 #[derive(Clone, Copy)]
 pub struct TransactionStore {
     pub ids: [u8; Session::TRANSACTIONS * Session::ID],
@@ -92,15 +93,22 @@ impl SubscriptionStore {
         }
     }
 
+    // Whether the ids and the modes are valid.
+    pub(crate) fn is_valid(&self) -> bool
+        ensures { result ≡ valid_subscriptions self.now }
+    {
+        if !crate::store::is_valid(&self.ids, &self.lens) {
+            return false;
+        }
+        are_valid_modes(&self.lens, &self.modes)
+    }
+
     // With an id in a place.
     pub(crate) fn with_id(mut self, index: usize, id: &[u8]) -> SubscriptionStore
         requires { (index < subscriptions_max) × (length id.now ≤ id_max) }
         ensures { result ≡ put_subscription self index id.now }
     {
-        let mut ids = self.ids;
-        crate::store::put(&mut ids, index, Session::ID, id);
-        self.ids = ids;
-        self.lens[index] = (id.len() % 256) as u8;
+        crate::store::put(&mut self.ids, &mut self.lens, index, id);
         self
     }
 
@@ -148,10 +156,8 @@ fn are_known(modes: &[u8]) -> bool
     ensures { result ≡ known_modes modes.now }
 {
     let mut known = true;
-    let mut i = 0usize;
-    while i < modes.len() {
-        known = known & (modes[i] <= 2);
-        i += 1;
+    for mode in modes {
+        known = known & (*mode <= SubscriptionStore::INDIVIDUAL);
     }
     known
 }
@@ -162,10 +168,8 @@ fn are_idle(lens: &[u8], modes: &[u8]) -> bool
     ensures { result ≡ idle_modes lens.now modes.now }
 {
     let mut idle = true;
-    let mut i = 0usize;
-    while i < lens.len() {
-        idle = idle & ((lens[i] != 0) | (modes[i] == 0));
-        i += 1;
+    for (i, len) in lens.iter().enumerate() {
+        idle = idle & ((*len != 0) | (modes[i] == SubscriptionStore::AUTO));
     }
     idle
 }
@@ -189,6 +193,13 @@ impl TransactionStore {
         }
     }
 
+    // Whether the ids are valid.
+    pub(crate) fn is_valid(&self) -> bool
+        ensures { result ≡ valid_transactions self.now }
+    {
+        crate::store::is_valid(&self.ids, &self.lens)
+    }
+
     // With what a frame puts in a place.
     pub(crate) fn put(self, put: Put, block: &[u8]) -> TransactionStore
         requires { PutFits block.now put }
@@ -210,10 +221,7 @@ impl TransactionStore {
         requires { (index < transactions_max) × (length id.now ≤ id_max) }
         ensures { result ≡ put_transaction self index id.now }
     {
-        let mut ids = self.ids;
-        crate::store::put(&mut ids, index, Session::ID, id);
-        self.ids = ids;
-        self.lens[index] = (id.len() % 256) as u8;
+        crate::store::put(&mut self.ids, &mut self.lens, index, id);
         self
     }
 }

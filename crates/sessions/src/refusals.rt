@@ -1,40 +1,47 @@
-// The numbers that a session refuses with.
-pub const BAD_VERSIONS: u32 = 31; // accept-version is malformed
+// What a session refuses, each with its number.
+ghost use Rattle.std.specs.Prelude.{◌≡◌};
+ghost use Rattle.sessions.specs.Refusals.{number_of};
 
-pub const NO_VERSION: u32 = 32; // no version is shared
+#[derive(Clone, Copy)]
+pub enum Refusal {
+    BadVersions = 31, // accept-version is malformed
+    NoVersion = 32, // no version is shared
+    BadHeartBeat = 33, // heart-beat is malformed
+    BadOffer = 34, // a session is not made
+    Invalid = 38, // the session's record is invalid
+    Malformed = 39, // the command is unknown or the header block malformed
+    Closed = 40, // the session is closed
+    FromServer = 41, // the command is a server's
+    OutOfPhase = 42, // the session is not open, or is opened a second time
+    Missing = 43, // a header that the command needs is missing
+    BadId = 44, // an id is empty or too long
+    Live = 45, // an id that is to be new is live
+    NotLive = 46, // an id that is to be live is not
+    Full = 47, // no place is free
+    UnknownMode = 49, // an ack mode is unknown
+    NotPending = 60, // the id of an ACK or NACK is no pending label
+    AllPending = 61, // no delivery more can be pending
+    BadLabel = 62, // a label is empty, too long, or pending already
+    NotOpen = 63, // a delivery is recorded where the session is not open
+    NoSubscription = 64, // a delivery is recorded for a subscription that is not live
+}
 
-pub const BAD_HEART_BEAT: u32 = 33; // heart-beat is malformed
+impl Refusal {
+    pub fn number(self) -> u32
+        ensures { result ≡ number_of self }
+    {
+        self as u32
+    }
+}
 
-pub const BAD_OFFER: u32 = 34; // a session is not made
+// The record of a session is invalid (38): of questions about it, which refuse nothing else.
+#[derive(Clone, Copy)]
+pub struct InvalidRecord;
 
-pub const INVALID: u32 = 38; // the session's record is invalid
-
-pub const MALFORMED: u32 = 39; // the command is unknown or the header block malformed
-
-pub const CLOSED: u32 = 40; // the session is closed
-
-pub const FROM_SERVER: u32 = 41; // the command is a server's
-
-pub const OUT_OF_PHASE: u32 = 42; // the session is not open, or is opened a second time
-
-pub const MISSING: u32 = 43; // a header that the command needs is missing
-
-pub const BAD_ID: u32 = 44; // an id is empty or too long
-
-pub const LIVE: u32 = 45; // an id that is to be new is live
-
-pub const NOT_LIVE: u32 = 46; // an id that is to be live is not
-
-pub const FULL: u32 = 47; // no place is free
-
-pub const UNKNOWN_MODE: u32 = 49; // an ack mode is unknown
-
-pub const NOT_PENDING: u32 = 60; // the id of an ACK or NACK is no pending label
-
-pub const ALL_PENDING: u32 = 61; // no delivery more can be pending
-
-pub const BAD_LABEL: u32 = 62; // a label is empty, too long, or pending already
-
-pub const NOT_OPEN: u32 = 63; // a delivery is recorded where the session is not open
-
-pub const NO_SUBSCRIPTION: u32 = 64; // a delivery is recorded for a subscription that is not live
+impl InvalidRecord {
+    pub fn number(self) -> u32
+        ensures { result ≡ 38 }
+    {
+        Refusal::Invalid.number()
+    }
+}

@@ -1,5 +1,5 @@
 // One client's session, as a value.
-ghost use Rattle.std.specs.Prelude.{◌≡◌, ◌*◌, ◌<◌, true, false, ◌&&◌, length};
+ghost use Rattle.std.specs.Prelude.{◌≡◌, ◌*◌, ◌<◌, true, false, ◌&&◌, length, Some};
 ghost use Rattle.std.proofs.Math.Option.{some};
 ghost use Rattle.headers.specs.Block.{entries, listed};
 ghost use Rattle.stores.specs.Searches.{search_says};
@@ -10,7 +10,7 @@ ghost use Rattle.sessions.specs.Answers.{answer_says, making_says, timed_out_say
 ghost use Rattle.sessions.specs.Calls.{making_answer, made, frame_answer, frame_session, heart_beat_answer, heart_beat_session};
 ghost use Rattle.sessions.specs.Calls.{timed_out_answer, deliver_answer, deliver_session, free_place, place_named, may_name, lacks_needed};
 ghost use Rattle.sessions.specs.Deliveries.{auto_mode, with_mode, dropped, valid_modes};
-ghost use Rattle.sessions.specs.Held.{held_deliveries, nth, nothing_told, told_of, pending_answer};
+ghost use Rattle.sessions.specs.Held.{held_deliveries, nth, told_of, pending_answer};
 ghost use Rattle.sessions.specs.Headers.{value_of};
 ghost use Rattle.sessions.specs.declared.command.Header.TheVariants.{Subscription};
 ghost use Rattle.sessions.specs.Notes.{AllNoted};
@@ -18,16 +18,18 @@ ghost use Rattle.sessions.specs.Steps.{kept_by, closed_by, accepted_by, unrecord
 ghost use Rattle.sessions.specs.Changes.{NamesIds, Does, LooksLabel, LooksNamed, LooksFurther, DecidesOpening, DecidesUses, DecidesFrame};
 
 use crate::command::Header;
+use crate::commands;
 use crate::delivery::Deliveries;
 use crate::notes::Notes;
 use crate::parts::{Agreed, Offers, SubscriptionStore, TransactionStore};
-use crate::step::{Change, Further, Looked, Named, Step};
-use crate::value::{HEART_BEAT_MAX, ModeRead};
-use crate::{commands, refusals};
+use crate::refusals::{InvalidRecord, Refusal};
+use crate::step::{Change, Further, Named, Step};
+use crate::store::Ids;
+use crate::value::HEART_BEAT_MAX;
 use frames::version::Version;
-use stores::Search;
 
 // The record of a session, made of its parts. The phase is 0 fresh, 1 open, 2 closed.
+// It stays an octet, as the ack modes do: a record may be read back from any octets, and an unknown one makes it invalid (38).
 #[derive(Clone, Copy)]
 pub struct Session {
     pub offers: Offers,
@@ -48,47 +50,23 @@ pub struct Acceptance {
     pub later_transactions: usize,
 }
 
-// The answer to a frame or a heart-beat: accepted, or refused with a number.
-#[derive(Clone, Copy)]
-pub enum SessionAnswer {
-    Accepted(Acceptance),
-    Refused(u32),
-}
-
-// A session after a call, and the answer.
+// A session after a frame or a heart-beat, and the answer.
 #[derive(Clone, Copy)]
 pub struct Outcome {
     pub session: Session,
-    pub answer: SessionAnswer,
-}
-
-// The answer to recording a delivery: recorded, or refused with a number.
-#[derive(Clone, Copy)]
-pub enum DeliveryAnswer {
-    Recorded,
-    Refused(u32),
+    pub answer: Result<Acceptance, Refusal>,
 }
 
 // A session after a delivery was recorded or refused, and the answer.
 #[derive(Clone, Copy)]
 pub struct Recording {
     pub session: Session,
-    pub answer: DeliveryAnswer,
+    pub answer: Result<(), Refusal>,
 }
 
-// Whether a session holds the pending delivery asked for; of an invalid record (38) nobody can say.
+// A pending delivery: the id of its subscription with its length, the ack mode of that, and its label with its length.
 #[derive(Clone, Copy)]
-pub enum PendingAnswer {
-    Held,
-    Absent,
-    Invalid,
-}
-
-// A pending delivery: the id of its subscription with its length, the ack mode of that, and its label with its length. All is 0 where
-// none is held.
-#[derive(Clone, Copy)]
-pub struct PendingAt {
-    pub answer: PendingAnswer,
+pub struct Pending {
     pub subscription: [u8; Session::ID],
     pub subscription_len: u8,
     pub mode: u8,
@@ -96,64 +74,11 @@ pub struct PendingAt {
     pub label_len: u8,
 }
 
-// The answer to making a session: made, or refused (34).
-#[derive(Clone, Copy)]
-pub enum MakingAnswer {
-    Made,
-    Refused,
-}
-
-// A session that was made, or a closed one.
+// A session that was made, or a closed one, and the answer.
 #[derive(Clone, Copy)]
 pub struct Making {
     pub session: Session,
-    pub answer: MakingAnswer,
-}
-
-// Whether the peer is timed out; of an invalid record (38) nobody can say.
-#[derive(Clone, Copy)]
-pub enum TimedOut {
-    Yes,
-    No,
-    Invalid,
-}
-
-// Nothing is told of a pending delivery.
-fn nothing_told(answer: PendingAnswer) -> PendingAt
-    ensures { result ≡ nothing_told answer }
-{
-    PendingAt {
-        answer,
-        subscription: [0; Session::ID],
-        subscription_len: 0,
-        mode: 0,
-        label: [0; Session::ID],
-        label_len: 0,
-    }
-}
-
-// Whether the stores of subscriptions and transactions are valid. They are lent, and all at one lifetime, since they are fields of one
-// session.
-fn are_valid_ids<'a>(
-    subs: &'a [u8],
-    sub_lens: &'a [u8],
-    modes: &'a [u8],
-    txs: &'a [u8],
-    tx_lens: &'a [u8],
-) -> bool
-    requires { (length sub_lens.now ≡ 16) × (length subs.now ≡ 16 * 32) × (length modes.now ≡ 16) × (length tx_lens.now ≡ 4)
-        × (length txs.now ≡ 4 * 32) }
-    ensures { result
-        ≡ (valid_store id_max subs.now sub_lens.now && valid_modes sub_lens.now modes.now)
-        && valid_store id_max txs.now tx_lens.now }
-{
-    if !crate::store::is_valid(subs, sub_lens, Session::SUBSCRIPTIONS, Session::ID) {
-        return false;
-    }
-    if !crate::parts::are_valid_modes(sub_lens, modes) {
-        return false;
-    }
-    crate::store::is_valid(txs, tx_lens, Session::TRANSACTIONS, Session::ID)
+    pub answer: Result<(), Refusal>,
 }
 
 impl Session {
@@ -206,32 +131,32 @@ impl Session {
         {
             return Making {
                 session: Session::fresh(0, 0, [false; 3]).closed(),
-                answer: MakingAnswer::Refused,
+                answer: Err(Refusal::BadOffer),
             };
         }
         Making {
             session: Session::fresh(sends, wants, offered),
-            answer: MakingAnswer::Made,
+            answer: Ok(()),
         }
     }
 
     // Refused, the session as it was.
-    fn kept(self, number: u32) -> Outcome
-        ensures { result ≡ kept_by self number }
+    fn kept(self, refusal: Refusal) -> Outcome
+        ensures { result ≡ kept_by self refusal }
     {
         Outcome {
             session: self,
-            answer: SessionAnswer::Refused(number),
+            answer: Err(refusal),
         }
     }
 
     // Refused, the session closed.
-    fn refused(self, number: u32) -> Outcome
-        ensures { result ≡ closed_by self number }
+    fn refused(self, refusal: Refusal) -> Outcome
+        ensures { result ≡ closed_by self refusal }
     {
         Outcome {
             session: self.closed(),
-            answer: SessionAnswer::Refused(number),
+            answer: Err(refusal),
         }
     }
 
@@ -242,13 +167,13 @@ impl Session {
         self.last_heard = time;
         Outcome {
             session: self,
-            answer: SessionAnswer::Accepted(acceptance),
+            answer: Ok(acceptance),
         }
     }
 
     // Whether phase, offers, intervals, offered and shared versions are those of a valid record.
-    fn has_valid_numbers(self) -> bool
-        ensures { result ≡ valid_numbers self }
+    fn has_valid_numbers(&self) -> bool
+        ensures { result ≡ valid_numbers self.now }
     {
         let offers = self.offers;
         let agreed = self.agreed;
@@ -261,28 +186,22 @@ impl Session {
         (self.phase <= Session::CLOSED) & (small & (flags & chosen))
     }
 
+    // Whether the record is valid, of a session that is lent.
+    fn check(&self) -> bool
+        ensures { result ≡ is_valid self.now }
+    {
+        let numbers = self.has_valid_numbers();
+        let ids = self.subscriptions.is_valid() & self.transactions.is_valid();
+        let deliveries = self.deliveries.is_valid(&self.subscriptions);
+        numbers
+            & (ids & (deliveries & ((self.phase == Session::OPEN) | (self.deliveries.count == 0))))
+    }
+
     // Whether the record is valid (not 38).
     pub fn is_valid(self) -> bool
         ensures { result ≡ is_valid self }
     {
-        let numbers = self.has_valid_numbers();
-        let ids = are_valid_ids(
-            &self.subscriptions.ids,
-            &self.subscriptions.lens,
-            &self.subscriptions.modes,
-            &self.transactions.ids,
-            &self.transactions.lens,
-        );
-        let count = self.deliveries.count;
-        let deliveries = crate::delivery::are_valid(
-            &self.deliveries.labels,
-            &self.deliveries.lens,
-            &self.deliveries.places,
-            &self.subscriptions.modes,
-            &self.subscriptions.lens,
-            count,
-        );
-        numbers & (ids & (deliveries & ((self.phase == Session::OPEN) | (count == 0))))
+        self.check()
     }
 
     // The highest version that both sides have, times ten, or 0 where there is none.
@@ -304,10 +223,10 @@ impl Session {
         ensures { (answer_says result.answer ≡ heart_beat_answer self) × (result.session ≡ heart_beat_session self time) }
     {
         if !self.is_valid() {
-            return self.kept(refusals::INVALID);
+            return self.kept(Refusal::Invalid);
         }
         if self.phase == Session::CLOSED {
-            return self.refused(refusals::CLOSED);
+            return self.refused(Refusal::Closed);
         }
         let acceptance = Acceptance {
             receipt: false,
@@ -318,44 +237,38 @@ impl Session {
         self.accepted(acceptance, time)
     }
 
-    // Whether the peer is timed out.
-    pub fn timed_out(self, time: u32) -> TimedOut
+    // Whether the peer is timed out; of an invalid record nobody can say.
+    pub fn timed_out(self, time: u32) -> Result<bool, InvalidRecord>
         ensures { timed_out_says result ≡ timed_out_answer self time }
     {
         if !self.is_valid() {
-            return TimedOut::Invalid;
+            return Err(InvalidRecord);
         }
         if self.phase != Session::OPEN {
-            return TimedOut::No;
+            return Ok(false);
         }
         if self.agreed.inbound == 0 {
-            return TimedOut::No;
+            return Ok(false);
         }
-        if self.agreed.inbound * 2 < crate::clock::passed_since(time, self.last_heard) {
-            return TimedOut::Yes;
-        }
-        TimedOut::No
+        Ok(self.agreed.inbound * 2 < crate::clock::passed_since(time, self.last_heard))
     }
 
     // The opening frame, with every header that it needs: it opens the session with what both sides came to.
-    fn open(self, notes: Notes, block: &[u8], acceptance: Acceptance) -> Step
+    fn open(self, notes: Notes, block: &[u8], acceptance: Acceptance) -> Result<Step, Refusal>
         requires { AllNoted block.now notes }
         ensures { DecidesOpening self block.now acceptance result }
     {
-        let client = crate::locate::client_versions(notes, block);
-        if !client.valid {
-            return crate::step::closing(refusals::BAD_VERSIONS);
-        }
-        let flags = client.flags;
+        let Some(flags) = crate::locate::client_versions(notes, block) else {
+            return Err(Refusal::BadVersions);
+        };
         let offered = self.offers.versions;
         let shared = crate::value::share(flags, offered);
         if crate::value::is_none_shared(shared) {
-            return crate::step::closing(refusals::NO_VERSION);
+            return Err(Refusal::NoVersion);
         }
-        let heart_beats = crate::locate::client_heart_beats(notes, block);
-        if !heart_beats.valid {
-            return crate::step::closing(refusals::BAD_HEART_BEAT);
-        }
+        let Some(heart_beats) = crate::locate::client_heart_beats(notes, block) else {
+            return Err(Refusal::BadHeartBeat);
+        };
         let inbound = crate::value::interval(heart_beats.sends, self.offers.wants);
         let outbound = crate::value::interval(self.offers.sends, heart_beats.wants);
         let agreed = Agreed {
@@ -363,17 +276,24 @@ impl Session {
             outbound,
             versions: shared,
         };
-        crate::step::opening(acceptance, agreed)
+        Ok(Step {
+            acceptance,
+            change: Change::Open(agreed),
+        })
     }
 
     // The place of a subscription's id.
-    fn find_subscription(self, id: &[u8]) -> Search
+    fn find_subscription(self, id: &[u8]) -> Option<usize>
         requires { is_valid self ≡ true }
         ensures { search_says result ≡ place_named self (some id.now) }
     {
-        let ids = self.subscriptions.ids;
+        let octets = self.subscriptions.ids;
         let lens = self.subscriptions.lens;
-        crate::store::find(&ids, &lens, Session::SUBSCRIPTIONS, Session::ID, id)
+        let ids = Ids {
+            octets: &octets,
+            lens: &lens,
+        };
+        ids.find(id)
     }
 
     // A SUBSCRIBE with a mode: the first free place, which its id takes, gets it. A free place has auto.
@@ -386,8 +306,8 @@ impl Session {
         }
         let lens = self.subscriptions.lens;
         match crate::store::find_free(&lens) {
-            Search::At(k) => Further::Mode(k, mode),
-            Search::Nowhere => Further::Nothing,
+            Some(k) => Further::Mode(k, mode),
+            None => Further::Nothing,
         }
     }
 
@@ -404,50 +324,53 @@ impl Session {
             return Further::Nothing;
         }
         match self.find_subscription(id) {
-            Search::At(k) => Further::Drop(k),
-            Search::Nowhere => Further::Nothing,
+            Some(k) => Further::Drop(k),
+            None => Further::Nothing,
         }
     }
 
     // The place of the subscription that an ACK or NACK names; in 1.2 it names none.
-    fn acknowledged(self, version: Version, notes: Notes, block: &[u8]) -> Search
+    fn acknowledged(self, version: Version, notes: Notes, block: &[u8]) -> Option<usize>
         requires { (is_valid self ≡ true) × AllNoted block.now notes }
         ensures { may_name version (search_says result) ≡ may_name version (place_named self (value_of Subscription (listed (entries block.now)))) }
     {
         match version {
             Version::V11 => {
-                let l = crate::locate::locate(notes, block, Header::Subscription);
-                if !l.present {
-                    return Search::Nowhere;
-                }
+                let Some(l) = crate::locate::locate(notes, block, Header::Subscription) else {
+                    return None;
+                };
                 let start = l.start;
                 let end = l.end;
                 self.find_subscription(&block[start..end])
             }
-            Version::V12 => Search::Nowhere,
+            Version::V12 => None,
         }
     }
 
     // An ACK or NACK of a label: the delivery is settled where it may be named, or 60.
-    fn settle_label(self, label: &[u8], version: Version, place: Search) -> Looked
+    fn settle_label(
+        self,
+        label: &[u8],
+        version: Version,
+        place: Option<usize>,
+    ) -> Result<Further, Refusal>
         requires { is_valid self ≡ true }
         ensures { LooksLabel self (may_name version (search_says place)) label.now result }
     {
         let deliveries = self.deliveries;
         match deliveries.find(label) {
-            Search::At(i) => {
+            Some(i) => {
                 if !deliveries.may_name(i, version, place) {
-                    return Looked::Refused(refusals::NOT_PENDING);
+                    return Err(Refusal::NotPending);
                 }
-                let further = Further::Settle(i);
-                Looked::Does(further)
+                Ok(Further::Settle(i))
             }
-            Search::Nowhere => Looked::Refused(refusals::NOT_PENDING),
+            None => Err(Refusal::NotPending),
         }
     }
 
     // An ACK or NACK: the delivery that it names is settled, or 60.
-    fn settle(self, notes: Notes, block: &[u8]) -> Looked
+    fn settle(self, notes: Notes, block: &[u8]) -> Result<Further, Refusal>
         requires { (is_valid self ≡ true) × AllNoted block.now notes }
         ensures { LooksNamed self (listed (entries block.now)) result }
     {
@@ -455,88 +378,87 @@ impl Session {
         let version = crate::value::chosen(shared);
         let place = self.acknowledged(version, notes, block);
         let header = crate::command::label_header(version);
-        let l = crate::locate::locate(notes, block, header);
+        let Some(l) = crate::locate::locate(notes, block, header) else {
+            return Err(Refusal::NotPending);
+        };
         let start = l.start;
         let end = l.end;
         self.settle_label(&block[start..end], version, place)
     }
 
     // What a frame whose ids are settled does to modes and deliveries, or 49 or 60.
-    fn further(self, command: u32, notes: Notes, block: &[u8]) -> Looked
+    fn further(self, command: u32, notes: Notes, block: &[u8]) -> Result<Further, Refusal>
         requires { (is_valid self ≡ true) × AllNoted block.now notes × (lacks_needed self command (listed (entries block.now)) ≡ false) }
         ensures { LooksFurther self command (listed (entries block.now)) result }
     {
         if command == commands::SUBSCRIBE {
             return match crate::locate::mode_asked(notes, block) {
-                ModeRead::Mode(mode) => {
-                    let further = self.keep_mode(mode);
-                    Looked::Does(further)
-                }
-                ModeRead::Unknown => Looked::Refused(refusals::UNKNOWN_MODE),
+                Some(mode) => Ok(self.keep_mode(mode)),
+                None => Err(Refusal::UnknownMode),
             };
         }
         if command == commands::UNSUBSCRIBE {
-            let l = crate::locate::locate(notes, block, Header::Id);
+            let Some(l) = crate::locate::locate(notes, block, Header::Id) else {
+                return Ok(Further::Nothing);
+            };
             let start = l.start;
             let end = l.end;
-            let further = self.drop_deliveries(&block[start..end]);
-            return Looked::Does(further);
+            return Ok(self.drop_deliveries(&block[start..end]));
         }
         if crate::command::settles(command) {
             return self.settle(notes, block);
         }
-        Looked::Does(Further::Nothing)
+        Ok(Further::Nothing)
     }
 
-    // The ids that a frame names, which are settled, and what it does to modes and deliveries: the number that it is refused with, or what
-    // changes.
+    // The ids that a frame names, which are settled, and what it does to modes and deliveries: what it is refused for, or what changes.
     fn use_ids(
         self,
         command: u32,
-        named: Named,
+        named: Result<Named, Refusal>,
         notes: Notes,
         block: &[u8],
         acceptance: Acceptance,
-    ) -> Step
+    ) -> Result<Step, Refusal>
         requires { (is_valid self ≡ true) × AllNoted block.now notes × NamesIds self command (listed (entries block.now)) named
             × (lacks_needed self command (listed (entries block.now)) ≡ false) }
         ensures { DecidesUses self command block.now acceptance result }
     {
-        let number = named.number;
-        if number != 0 {
-            return crate::step::closing(number);
-        }
-        let first = named.first;
-        let settled = named.settled;
-        match self.further(command, notes, block) {
-            Looked::Refused(n) => crate::step::closing(n),
-            Looked::Does(further) => {
-                let put = crate::step::put_of(first, settled, notes, block);
-                crate::step::accepting(acceptance, crate::step::use_of(put, further))
-            }
-        }
+        let named = named?;
+        let further = self.further(command, notes, block)?;
+        let put = crate::step::put_of(named.first, named.place, notes, block);
+        Ok(Step {
+            acceptance,
+            change: crate::step::use_of(put, further),
+        })
     }
 
     // A frame of a known command, with a well-formed block, of a valid session: what it is answered, and what becomes of the session.
-    fn act(self, command: u32, named: Named, notes: Notes, block: &[u8]) -> Step
+    fn act(
+        self,
+        command: u32,
+        named: Result<Named, Refusal>,
+        notes: Notes,
+        block: &[u8],
+    ) -> Result<Step, Refusal>
         requires { (is_valid self ≡ true) × AllNoted block.now notes × NamesIds self command (listed (entries block.now)) named }
         ensures { DecidesFrame self command block.now result }
     {
-        let number = crate::command::phase_refusal(self.phase, command);
-        if number != 0 {
-            return crate::step::closing(number);
-        }
+        crate::command::check_phase(self.phase, command)?;
         let shared = self.agreed.versions;
         let version = crate::value::chosen(shared);
         if crate::locate::lacks_needed(version, command, notes) {
-            return crate::step::closing(refusals::MISSING);
+            return Err(Refusal::Missing);
         }
         let acceptance = crate::locate::acceptance(command, notes);
         if crate::command::opens(command) {
             return self.open(notes, block, acceptance);
         }
         if command == commands::DISCONNECT {
-            return crate::step::accepting(acceptance, Change::Disconnect);
+            return Ok(Step {
+                acceptance,
+                change: Change::Disconnect,
+            });
         }
         self.use_ids(command, named, notes, block, acceptance)
     }
@@ -547,53 +469,39 @@ impl Session {
         ensures { (answer_says result.answer ≡ frame_answer self command block.now)
             × (result.session ≡ frame_session self command block.now time) }
     {
-        let numbers = self.has_valid_numbers();
-        let ids = are_valid_ids(
-            &self.subscriptions.ids,
-            &self.subscriptions.lens,
-            &self.subscriptions.modes,
-            &self.transactions.ids,
-            &self.transactions.lens,
-        );
-        let count = self.deliveries.count;
-        let deliveries = crate::delivery::are_valid(
-            &self.deliveries.labels,
-            &self.deliveries.lens,
-            &self.deliveries.places,
-            &self.subscriptions.modes,
-            &self.subscriptions.lens,
-            count,
-        );
-        if !(numbers & (ids & (deliveries & ((self.phase == Session::OPEN) | (count == 0))))) {
-            return self.kept(refusals::INVALID);
+        if !self.check() {
+            return self.kept(Refusal::Invalid);
         }
-        let notes = crate::notes::note(block);
-        if crate::command::is_unknown(command) | !notes.valid {
-            return self.kept(refusals::MALFORMED);
+        if crate::command::is_unknown(command) {
+            return self.kept(Refusal::Malformed);
         }
+        let Ok(notes) = crate::notes::note(block) else {
+            return self.kept(Refusal::Malformed);
+        };
         let shared = self.agreed.versions;
         let version = crate::value::chosen(shared);
+        let subscriptions = Ids {
+            octets: &self.subscriptions.ids,
+            lens: &self.subscriptions.lens,
+        };
+        let transactions = Ids {
+            octets: &self.transactions.ids,
+            lens: &self.transactions.lens,
+        };
         let named = crate::step::settle_ids(
-            &self.subscriptions.ids,
-            &self.subscriptions.lens,
-            &self.transactions.ids,
-            &self.transactions.lens,
+            subscriptions,
+            transactions,
             version,
             command,
             notes,
             block,
         );
-        let step = self.act(command, named, notes, block);
-        let change = step.change;
-        let answer = step.answer;
-        let agreed = step.agreed;
-        match change {
-            Change::Close => {
-                return Outcome {
-                    session: self.closed(),
-                    answer,
-                };
-            }
+        let step = match self.act(command, named, notes, block) {
+            Ok(step) => step,
+            Err(refusal) => return self.refused(refusal),
+        };
+        let answer = Ok(step.acceptance);
+        match step.change {
             Change::Disconnect => {
                 self.last_heard = time;
                 return Outcome {
@@ -601,7 +509,7 @@ impl Session {
                     answer,
                 };
             }
-            Change::Open => {
+            Change::Open(agreed) => {
                 self.agreed = agreed;
                 self.phase = Session::OPEN;
                 self.last_heard = time;
@@ -637,12 +545,12 @@ impl Session {
     }
 
     // No delivery recorded, the session as it was.
-    fn unrecorded(self, number: u32) -> Recording
-        ensures { result ≡ unrecorded_by self number }
+    fn unrecorded(self, refusal: Refusal) -> Recording
+        ensures { result ≡ unrecorded_by self refusal }
     {
         Recording {
             session: self,
-            answer: DeliveryAnswer::Refused(number),
+            answer: Err(refusal),
         }
     }
 
@@ -654,11 +562,11 @@ impl Session {
         let deliveries = self.deliveries;
         let modes = self.subscriptions.modes;
         if modes[place] != SubscriptionStore::AUTO {
-            self.deliveries = deliveries.entered((place % 256) as u8, label);
+            self.deliveries = deliveries.entered(place as u8, label);
         }
         Recording {
             session: self,
-            answer: DeliveryAnswer::Recorded,
+            answer: Ok(()),
         }
     }
 
@@ -669,14 +577,14 @@ impl Session {
     {
         let deliveries = self.deliveries;
         if (label.len() == 0) | (Session::ID < label.len()) {
-            return self.unrecorded(refusals::BAD_LABEL);
+            return self.unrecorded(Refusal::BadLabel);
         }
-        if stores::is_found(deliveries.find(label)) {
-            return self.unrecorded(refusals::BAD_LABEL);
+        if deliveries.find(label).is_some() {
+            return self.unrecorded(Refusal::BadLabel);
         }
         let modes = self.subscriptions.modes;
         if (modes[place] != SubscriptionStore::AUTO) & (64 <= deliveries.count) {
-            return self.unrecorded(refusals::ALL_PENDING);
+            return self.unrecorded(Refusal::AllPending);
         }
         self.recorded(place, label)
     }
@@ -687,24 +595,24 @@ impl Session {
             × (result.session ≡ deliver_session self subscription.now label.now) }
     {
         if !self.is_valid() {
-            return self.unrecorded(refusals::INVALID);
+            return self.unrecorded(Refusal::Invalid);
         }
         if self.phase != Session::OPEN {
-            return self.unrecorded(refusals::NOT_OPEN);
+            return self.unrecorded(Refusal::NotOpen);
         }
         if subscription.len() == 0 {
-            return self.unrecorded(refusals::NO_SUBSCRIPTION);
+            return self.unrecorded(Refusal::NoSubscription);
         }
         match self.find_subscription(subscription) {
-            Search::At(k) => self.record_at(k, label),
-            Search::Nowhere => self.unrecorded(refusals::NO_SUBSCRIPTION),
+            Some(k) => self.record_at(k, label),
+            None => self.unrecorded(Refusal::NoSubscription),
         }
     }
 
     // What is told of a pending delivery that is held.
-    fn told(self, index: usize) -> PendingAt
+    fn told(self, index: usize) -> Pending
         requires { (is_valid self ≡ true) × (index < self.deliveries.count) }
-        ensures { result ≡ told_of (nth index (held_deliveries self)) }
+        ensures { Some result ≡ told_of (nth index (held_deliveries self)) }
     {
         let deliveries = self.deliveries;
         let places = deliveries.places;
@@ -713,9 +621,8 @@ impl Session {
         let lens = deliveries.lens;
         let ids = self.subscriptions.ids;
         let id_lens = self.subscriptions.lens;
-        let place = crate::delivery::wide(places[index]);
-        PendingAt {
-            answer: PendingAnswer::Held,
+        let place = usize::from(places[index]);
+        Pending {
             subscription: crate::store::row(&ids, place),
             subscription_len: id_lens[place],
             mode: modes[place],
@@ -724,17 +631,17 @@ impl Session {
         }
     }
 
-    // The pending delivery with a number, the oldest being 0.
-    pub fn pending_at(self, index: usize) -> PendingAt
+    // The pending delivery with a number, the oldest being 0; of an invalid record nobody can say.
+    pub fn pending_at(self, index: usize) -> Result<Option<Pending>, InvalidRecord>
         ensures { result ≡ pending_answer self index }
     {
         if !self.is_valid() {
-            return nothing_told(PendingAnswer::Invalid);
+            return Err(InvalidRecord);
         }
         let deliveries = self.deliveries;
-        if crate::delivery::wide(deliveries.count) <= index {
-            return nothing_told(PendingAnswer::Absent);
+        if usize::from(deliveries.count) <= index {
+            return Ok(None);
         }
-        self.told(index)
+        Ok(Some(self.told(index)))
     }
 }

@@ -1,6 +1,6 @@
 // Header values: accept-version, heart-beat and ack.
 ghost use Rattle.std.specs.Prelude.{◌≡◌, ◌+◌, ◌≤◌, length, drop};
-ghost use Rattle.std.proofs.Math.Option.{none, some};
+ghost use Rattle.std.proofs.Math.Option.{some};
 ghost use Rattle.headers.specs.Rows.{same};
 ghost use Rattle.headers.specs.Parts.{until};
 ghost use Rattle.sessions.specs.Values.{some_digits, is_item, versions, heart_beats};
@@ -10,28 +10,12 @@ ghost use Rattle.sessions.specs.Reads.{version, counted, versions_say, heart_bea
 
 use crate::parts::SubscriptionStore;
 use frames::version::Version;
-use headers::DecimalRead;
 
-// The versions of an accept-version value, as flags for 1.0, 1.1 and 1.2, and whether it is well formed.
+// The two numbers of a heart-beat value.
 #[derive(Clone, Copy)]
-pub(crate) struct VersionsRead {
-    pub flags: [bool; 3],
-    pub valid: bool,
-}
-
-// The two numbers of a heart-beat value, and whether it is well formed.
-#[derive(Clone, Copy)]
-pub(crate) struct HeartBeatsRead {
+pub(crate) struct Beats {
     pub sends: u32,
     pub wants: u32,
-    pub valid: bool,
-}
-
-// An ack value: a mode, or none that is known.
-#[derive(Clone, Copy)]
-pub(crate) enum ModeRead {
-    Mode(u8),
-    Unknown,
 }
 
 // No offer and no interval is larger.
@@ -42,14 +26,12 @@ fn end_of(value: &[u8], from: usize, octet: u8) -> usize
     requires { from ≤ length value.now }
     ensures { (result ≡ from + until octet (drop from value.now)) × (result ≤ length value.now) }
 {
-    let mut i = from;
-    while i < value.len() {
+    for i in from..value.len() {
         if value[i] == octet {
             return i;
         }
-        i += 1;
     }
-    i
+    value.len()
 }
 
 // Whether a part is digits, at least one.
@@ -59,15 +41,13 @@ fn is_digits(part: &[u8]) -> bool
     if part.len() == 0 {
         return false;
     }
-    let mut i = 0usize;
-    while i < part.len() {
-        if part[i] < 48 {
+    for x in part {
+        if *x < b'0' {
             return false;
         }
-        if 57 < part[i] {
+        if b'9' < *x {
             return false;
         }
-        i += 1;
     }
     true
 }
@@ -106,8 +86,8 @@ fn with_item(flags: [bool; 3], item: &[u8]) -> [bool; 3]
     ]
 }
 
-// The versions of an accept-version value, item by item.
-pub(crate) fn read_versions(value: &[u8]) -> VersionsRead
+// The versions of an accept-version value, item by item, as flags for 1.0, 1.1 and 1.2; none where it is malformed.
+pub(crate) fn read_versions(value: &[u8]) -> Option<[bool; 3]>
     ensures { versions_say result ≡ versions value.now }
 {
     let mut flags = [false; 3];
@@ -115,15 +95,12 @@ pub(crate) fn read_versions(value: &[u8]) -> VersionsRead
     loop {
         let end = end_of(value, at, 44);
         if !is_item(&value[at..end]) {
-            return VersionsRead {
-                flags,
-                valid: false,
-            };
+            return None;
         }
         let counted = with_item(flags, &value[at..end]);
         flags = counted;
         if value.len() <= end {
-            return VersionsRead { flags, valid: true };
+            return Some(flags);
         }
         at = end + 1;
     }
@@ -171,64 +148,46 @@ pub(crate) fn chosen(flags: [bool; 3]) -> Version
     }
 }
 
-// A heart-beat value that is malformed.
-fn no_heart_beats() -> HeartBeatsRead
-    ensures { heart_beats_say result ≡ none }
-{
-    HeartBeatsRead {
-        sends: 0,
-        wants: 0,
-        valid: false,
-    }
-}
-
-// The two numbers of a heart-beat value.
-pub(crate) fn read_heart_beats(value: &[u8]) -> HeartBeatsRead
+// The two numbers of a heart-beat value; none where it is malformed.
+pub(crate) fn read_heart_beats(value: &[u8]) -> Option<Beats>
     ensures { heart_beats_say result ≡ heart_beats value.now }
 {
     let comma = end_of(value, 0, 44);
     if value.len() <= comma {
-        return no_heart_beats();
+        return None;
     }
     let next = comma + 1;
-    let DecimalRead::Number(sends) = headers::read_decimal(&value[0..comma], HEART_BEAT_MAX) else {
-        return no_heart_beats();
+    let Some(sends) = headers::read_decimal(&value[0..comma], HEART_BEAT_MAX) else {
+        return None;
     };
-    let DecimalRead::Number(wants) = headers::read_decimal(&value[next..], HEART_BEAT_MAX) else {
-        return no_heart_beats();
+    let Some(wants) = headers::read_decimal(&value[next..], HEART_BEAT_MAX) else {
+        return None;
     };
-    HeartBeatsRead {
-        sends,
-        wants,
-        valid: true,
-    }
+    Some(Beats { sends, wants })
 }
 
 // The interval of heart-beats from a side that can send every a milliseconds to one that wants to hear every b.
 pub(crate) fn interval(a: u32, b: u32) -> u32
     ensures { result ≡ interval_of a b }
 {
-    if a == 0 {
+    if (a == 0) | (b == 0) {
         return 0;
     }
-    if b == 0 {
-        return 0;
-    }
-    if a < b { b } else { a }
+    a.max(b)
 }
 
-// The ack mode that a word names.
-pub(crate) fn read_mode(word: &[u8]) -> ModeRead
+// The ack mode that a word names, if it is one.
+pub(crate) fn read_mode(word: &[u8]) -> Option<u8>
     ensures { mode_says result ≡ mode_named (some word.now) }
 {
     if headers::equal(word, b"auto") {
-        return ModeRead::Mode(SubscriptionStore::AUTO);
+        return Some(SubscriptionStore::AUTO);
     }
     if headers::equal(word, b"client") {
-        return ModeRead::Mode(SubscriptionStore::CLIENT);
+        return Some(SubscriptionStore::CLIENT);
     }
     if headers::equal(word, b"client-individual") {
-        return ModeRead::Mode(SubscriptionStore::INDIVIDUAL);
+        return Some(SubscriptionStore::INDIVIDUAL);
     }
-    ModeRead::Unknown
+    None
 }

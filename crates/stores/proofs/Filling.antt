@@ -1,42 +1,26 @@
 -- A text in a place: its octets, and 0 after it. Assumes nothing.
 --     padded_long, padded_at, padded_take, filled_all   the octets of a place
 --     zeros, zeros_zero                                 a row of zeros
---     fill_more, fill_end                               a loop that fills a place from the front
 --     put_placed                                        what a store holds when one of its places is filled
 use mathlib.Core.Path.{◌≡◌, refl, sym, ap, ap₂, ◌∙◌}
 use mathlib.Core.Bool.{true}
-use mathlib.Core.List.{List, [], ◌∷◌, ◌++◌, append-nil}
-use Prim.Native.Nat.{ℕ, zero, suc, ◌+◌, ◌-◌, ◌≤◌, ◌<◌}
+use mathlib.Core.List.{List, [], ◌∷◌, ◌++◌}
+use Prim.Native.Nat.{ℕ, ◌+◌, ◌-◌, ◌≤◌}
 use native.Mathlib.Omega.{arith}
 use lib.Dec.{eqb}
-use lib.ListN.{length, take, drop, set, get_or, replicate, length-append, length-replicate, length-drop, drop_of_length-le, take-append-drop}
+use lib.ListN.{length, take, drop, replicate, length-append, length-replicate, length-drop, take-append-drop}
 use lib.Seq.{drop-drop, take_all, take-take, length-take-le}
 use borrow.Author.Tests.{eqb-true}
 use borrow.Rule.Slice.PartMut.{put_mid, mid_of, mid_len}
-use Rattle.headers.proofs.Put.{copy_more}
 use Rattle.headers.proofs.Rows.{and_left, and_right, every_replicate}
 use Rattle.stores.specs.Places.{is_zero, padded, filled}
 
 pub padded_long : (w : ℕ) (x : List ℕ) → length x ≤ w → length (padded w x) ≡ w
 padded_long w x h = simp (length-append, length-replicate) (omega arith)
 
-padded_wide : (w : ℕ) (x : List ℕ) → w ≤ length (padded w x)
-padded_wide w x = simp (length-append, length-replicate) (omega arith)
-
 -- a text that the place holds is all in it
 pub filled_all : (w : ℕ) (x : List ℕ) → length x ≤ w → filled w x ≡ padded w x
 filled_all w x h = take_all w (padded w x) (omega (arith, padded_long w x h))
-
--- past the end of a row counts as 0
-zeros_at : (n i : ℕ) → ◌≡◌ {A = ℕ} (get_or (replicate n 0) i 0) 0
-zeros_at zero i = refl
-zeros_at (suc n) zero = refl
-zeros_at (suc n) (suc i) = zeros_at n i
-
-pub padded_at : (x : List ℕ) (n i : ℕ) → get_or (x ++ replicate n 0) i 0 ≡ get_or x i 0
-padded_at [] n i = zeros_at n i
-padded_at (a ∷ x) n zero = refl
-padded_at (a ∷ x) n (suc i) = padded_at x n i
 
 -- a row of zeros
 pub zeros : (s : List ℕ) → is_zero s ≡ true → s ≡ replicate (length s) 0
@@ -54,19 +38,6 @@ padded_take w l s h k z =
     ap (λ m. take l s ++ replicate m 0) (ap (w -◌) long ∙ sym rest)
     ∙ ap₂ (◌++◌) (sym (take-take l w s h)) (sym (zeros (drop l (take w s)) z))
     ∙ take-append-drop l (take w s)
-
--- a loop that fills place d₀ has written i octets
-module _ (d d₀ x : List ℕ) (i : ℕ) (e : d ≡ take i (padded (length d₀) x) ++ drop i d₀) where
-  pub fill_more : (v : ℕ) → i < length d₀ → v ≡ get_or x i 0 → set d i v ≡ take (i + 1) (padded (length d₀) x) ++ drop (i + 1) d₀
-  fill_more v l is =
-      ap (set d i) (is ∙ sym (padded_at x (length d₀ - length x) i))
-      ∙ copy_more d d₀ (padded (length d₀) x) i (omega (arith, padded_wide (length d₀) x)) l e
-
-  pub fill_end : i ≤ length d₀ → length d₀ ≤ i → d ≡ filled (length d₀) x
-  fill_end k l =
-      let at : i ≡ length d₀ = omega arith in
-      e ∙ ap (take i (padded (length d₀) x) ++◌) (drop_of_length-le d₀ l) ∙ append-nil (take i (padded (length d₀) x))
-      ∙ ap (λ n. take n (padded (length d₀) x)) at
 
 pub put_placed : (w at : ℕ) (s ys x : List ℕ) → at + w ≤ length s → length x ≤ w → ys ≡ filled (length (mid_of at (at + w - at) s)) x
     → put_mid at (at + w - at) s ys ≡ take at s ++ (padded w x ++ drop (at + w) s)

@@ -1,21 +1,18 @@
 -- Keys of places, one place on. Assumes nothing.
 --     keys_long, keys_turn        the keys of a store
 --     Keyed, keyed_..             a loop that puts them
---     with_keys_..                what is put, by whether the sizes fit
+--     with_keys_all               what is put where the sizes fit
 use mathlib.Core.Path.{◌≡◌, refl, ap, ap₂, sym, ◌∙◌}
-use mathlib.Core.Bool.{false, cond, ◌&&◌}
 use mathlib.Core.List.{List, [], ◌∷◌, ◌++◌}
 use Prim.Native.Nat.{ℕ, suc, ◌+◌, ◌-◌, ◌*◌, ◌≤◌, ◌<◌}
 use native.Mathlib.Omega.{arith}
-use lib.Dec.{eqb}
 use lib.ListN.{length, take, drop, set, length-map, drop_of_length-le}
 use lib.Seq.{drop-drop}
-use borrow.Author.Tests.{eq-eqb, le-leb, lt-leb}
+use borrow.Author.Tests.{eq-eqb, le-leb}
 use Rattle.headers.proofs.Put.{Partly, partly_none, partly_done, partly_here, partly_store}
-use Rattle.headers.proofs.Rows.{and_no}
 use Rattle.stores.specs.Compaction.{rows}
 use Rattle.stores.specs.Keys.{key, keys, with_keys}
-use Rattle.stores.proofs.Walking.{drop_one, Before, first_place, next_place, room}
+use Rattle.stores.proofs.Walking.{drop_one, after_row, row_room}
 
 rows_long : (w : ℕ) (s ls : List ℕ) → length (rows w s ls) ≡ length ls
 unfolding rows
@@ -37,42 +34,39 @@ keys_turn s ls k at h =
     ap (keys (drop at s)) (drop_one ls k 0 h)
     ∙ ap₂ (λ a b. key (take a (drop at s)) ∷ keys b (drop (k + 1) ls)) e (drop-drop 32 at s)
 
--- ---- a loop that puts keys is before place k, at octet `at`
+-- ---- a loop that puts keys is before place k
 
-pub record Keyed (s ls d₀ d : List ℕ) (k at : ℕ) : Type 0 where
-  pub place : Before 32 (length ls) k at
-  pub partly : Partly (keys s ls) (keys (drop at s) (drop k ls)) d₀ d k
+pub record Keyed (s ls d₀ d : List ℕ) (k : ℕ) : Type 0 where
+  pub passed : k ≤ length ls
+  pub partly : Partly (keys s ls) (keys (drop (k * 32) s) (drop k ls)) d₀ d k
 
-pub keyed_first : (s ls d : List ℕ) → length ls ≤ length d → Keyed s ls d d 0 0
-keyed_first s ls d h = record { place = first_place 32 (length ls); partly = partly_none (keys s ls) d (omega (arith, h, keys_long s ls)) }
+pub keyed_first : (s ls d : List ℕ) → length ls ≤ length d → Keyed s ls d d 0
+keyed_first s ls d h = record { passed = omega arith; partly = partly_none (keys s ls) d (omega (arith, h, keys_long s ls)) }
 
-pub keyed_put : (s ls d₀ d : List ℕ) (k at : ℕ) → Keyed s ls d₀ d k at → length ls ≤ k → d ≡ keys s ls ++ drop (length ls) d₀
-keyed_put s ls d₀ d k at st h = (partly_done st.partly (keys_end s ls k at h)).1 ∙ ap (λ z. keys s ls ++ drop z d₀) (keys_long s ls)
+pub keyed_put : (s ls d₀ d : List ℕ) (k : ℕ) → Keyed s ls d₀ d k → length ls ≤ k → d ≡ keys s ls ++ drop (length ls) d₀
+keyed_put s ls d₀ d k st h = (partly_done st.partly (keys_end s ls k (k * 32) h)).1 ∙ ap (λ z. keys s ls ++ drop z d₀) (keys_long s ls)
 
-module _ {s ls d₀ d : List ℕ} {k at : ℕ} (st : Keyed s ls d₀ d k at) (long : length s ≡ length ls * 32) (more : k < length ls) where
-  pub keyed_room : at + 32 ≤ length s
-  keyed_room = room st.place more s long
+module _ {s ls d₀ d : List ℕ} {k : ℕ} (st : Keyed s ls d₀ d k) (long : length s ≡ length ls * 32) (more : k < length ls) where
+  turn : keys (drop (k * 32) s) (drop k ls) ≡ key (take (k * 32 + 32 - k * 32) (drop (k * 32) s)) ∷ keys (drop ((k + 1) * 32) s) (drop (k + 1) ls)
+  turn =
+      keys_turn s ls k (k * 32) more
+      ∙ ap (λ z. key (take (k * 32 + 32 - k * 32) (drop (k * 32) s)) ∷ keys (drop z s) (drop (k + 1) ls)) (after_row 32 k)
+
+  pub keyed_room : k * 32 + 32 ≤ length s
+  keyed_room = row_room 32 (length ls) k s long more
 
   pub keyed_here : k < length d
-  keyed_here = partly_here st.partly _ _ (keys_turn s ls k at more)
+  keyed_here = partly_here st.partly _ _ turn
 
-  pub keyed_next : (v : ℕ) → v ≡ key (take (at + 32 - at) (drop at s)) → Keyed s ls d₀ (set d k v) (k + 1) (at + 32)
+  pub keyed_next : (v : ℕ) → v ≡ key (take (k * 32 + 32 - k * 32) (drop (k * 32) s)) → Keyed s ls d₀ (set d k v) (k + 1)
   keyed_next v e =
       record {
-        place = next_place st.place more;
-        partly = partly_store st.partly v _ (keys_turn s ls k at more ∙ ap (◌∷ keys (drop (at + 32) s) (drop (k + 1) ls)) (sym e));
+        passed = omega (arith, more);
+        partly = partly_store st.partly v _ (turn ∙ ap (◌∷ keys (drop ((k + 1) * 32) s) (drop (k + 1) ls)) (sym e));
       }
 
--- ---- what is put, by whether the sizes fit
+-- ---- what is put where the sizes fit
 
 module _ (s ls d : List ℕ) where
   pub with_keys_all : length s ≡ length ls * 32 → length ls ≤ length d → with_keys s ls d ≡ keys s ls ++ drop (length ls) d
   with_keys_all h k = rw (eq-eqb (length s) (length ls * 32) h, le-leb (length ls) (length d) k)
-
-  pub with_keys_other : eqb (length s) (length ls * 32) ≡ false → with_keys s ls d ≡ d
-  with_keys_other h = rw h
-
-  pub with_keys_full : length d < length ls → with_keys s ls d ≡ d
-  with_keys_full h =
-      ap (λ t. cond (eqb (length s) (length ls * 32) && t) (keys s ls ++ drop (length ls) d) d) (lt-leb (length ls) (length d) h)
-      ∙ ap (λ t. cond t (keys s ls ++ drop (length ls) d) d) (and_no (eqb (length s) (length ls * 32)))

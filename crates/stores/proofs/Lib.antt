@@ -2,7 +2,6 @@
 pub mod Rows
 pub mod Searching
 pub mod Walking
-pub mod Zeros
 pub mod Filling
 pub mod Keying
 pub mod Marking

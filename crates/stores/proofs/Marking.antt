@@ -1,6 +1,5 @@
 -- Keys told apart by marks. Assumes nothing.
 --     not_among              a key whose slot is not marked is not among marked ones
---     clash_..               whether a place clashes with a later one, by the tests in turn
 --     Marking, marking_..    a loop over the places, from the last to the first
 use mathlib.Core.Path.{◌≡◌, refl, sym, ap, ap₂, ◌∙◌}
 use mathlib.Core.Bool.{Bool, true, false, ◌&&◌, ◌||◌, not, true≢false}
@@ -61,14 +60,6 @@ apart_from (suc i) (k ∷ ks) [] h = sym (apart_free (drop i ks)) ∙ h
 apart_from (suc i) (k ∷ ks) (l ∷ ls) h =
     ap ((eqb l 0 || not (any (λ x. eqb x k) ks)) &&◌) (apart_from i ks ls h) ∙ and_no (eqb l 0 || not (any (λ x. eqb x k) ks))
 
--- ---- whether a place clashes
-
-pub clash_free : (l k : ℕ) (ks : List ℕ) → l ≡ 0 → false ≡ clash l k ks
-clash_free l k ks e = sym (ap (λ t. not t && any (λ x. eqb x k) ks) (eq-eqb l 0 e))
-
-pub clash_among : (l k : ℕ) (ks : List ℕ) (r : Bool) → (l ≡ 0 → ⊥) → r ≡ any (λ x. eqb x k) ks → r ≡ clash l k ks
-clash_among l k ks r n e = e ∙ sym (ap (λ t. not t && any (λ x. eqb x k) ks) (refuted (eqb l 0) (λ q. n (eqb-true l 0 q))))
-
 -- ---- a loop that is before place i, seen from the end: the places from i on are marked, and apart
 
 pub record Marking (ks ls ms : List ℕ) (i : ℕ) : Type 0 where
@@ -93,23 +84,26 @@ marking_all {ks} {ls} {ms} {i} st h =
     sym (ap (λ z. apart (drop z ks) (drop z ls)) (sym e) ∙ st.all_apart)
 
 module _ {ks ls ms : List ℕ} {i : ℕ} (st : Marking ks ls ms i) (more : 0 < i) where
-  pub later_marked : marked ms (part_from i ks) ≡ true
-  later_marked = ap (marked ms) (part_drop i ks) ∙ st.all_marked
-
   back : i - 1 + 1 ≡ i
   back = omega (arith, more)
+
+  later : part_from (i - 1 + 1) ks ≡ drop i ks
+  later = part_drop (i - 1 + 1) ks ∙ ap (λ z. drop z ks) back
+
+  pub later_marked : marked ms (part_from (i - 1 + 1) ks) ≡ true
+  later_marked = ap (marked ms) later ∙ st.all_marked
 
   keys_back : drop (i - 1) ks ≡ get_or ks (i - 1) 0 ∷ drop i ks
   keys_back = drop_one ks (i - 1) 0 (omega (arith, more, st.inside)) ∙ ap (λ z. get_or ks (i - 1) 0 ∷ drop z ks) back
 
-  module _ (l k : ℕ) (r : Bool) (len_is : l ≡ get_or ls (i - 1) 0) (key_is : k ≡ get_or ks (i - 1) 0) (told : r ≡ clash l k (part_from i ks)) where
+  module _ (l k : ℕ) (r : Bool) (len_is : l ≡ get_or ls (i - 1) 0) (key_is : k ≡ get_or ks (i - 1) 0) (told : r ≡ clash l k (part_from (i - 1 + 1) ks)) where
     apart_back : apart (drop (i - 1) ks) (drop (i - 1) ls) ≡ not r
     apart_back =
         let same_len : get_or (drop (i - 1) ls) 0 0 ≡ l = get_or-drop (i - 1) ls 0 0 ∙ ap (λ z. get_or ls z 0) (omega arith) ∙ sym len_is in
         let rest : drop 1 (drop (i - 1) ls) ≡ drop i ls = drop-drop 1 (i - 1) ls ∙ ap (λ z. drop z ls) back in
         ap (λ z. apart z (drop (i - 1) ls)) keys_back
         ∙ apart_cons (get_or ks (i - 1) 0) (drop i ks) (drop (i - 1) ls)
-        ∙ ap₂ (λ a b. not a && b) (ap₂ (λ a b. clash a b (drop i ks)) same_len (sym key_is) ∙ ap (clash l k) (sym (part_drop i ks)) ∙ sym told)
+        ∙ ap₂ (λ a b. not a && b) (ap₂ (λ a b. clash a b (drop i ks)) same_len (sym key_is) ∙ ap (clash l k) (sym later) ∙ sym told)
         (ap (apart (drop i ks)) rest ∙ st.all_apart)
         ∙ and_yes (not r)
 

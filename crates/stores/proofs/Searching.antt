@@ -13,16 +13,16 @@ use native.Mathlib.Omega.{arith}
 use lib.ListN.{length, get_or, set}
 use Rattle.headers.specs.Rows.{any, All}
 use Rattle.headers.proofs.Rows.{cond_case}
-use Rattle.stores.specs.Searches.{first_from, replaced, search_says, is_at}
-use Rattle.stores.specs.declared.search.Search.{Search}
+use Rattle.stores.specs.Searches.{first_from, replaced, search_says}
+use Rattle.std.specs.Prelude.{Option as CodeOption, Some, None, is_some as has_place}
 
 abbrev pub is_some : Option ℕ → Bool
 is_some none = false
 is_some (some k) = true
 
-says_some : (r : Search) → is_some (search_says r) ≡ is_at r
-says_some (Search.At k) = refl
-says_some Search.Nowhere = refl
+says_some : (r : CodeOption ℕ) → is_some (search_says r) ≡ has_place r
+says_some (Some k) = refl
+says_some None = refl
 
 module _ {A : Type 0} (p : A → Bool) where
   pub first_hit : (k : ℕ) (x : A) (xs : List A) → p x ≡ true → first_from p k (x ∷ xs) ≡ some k
@@ -47,7 +47,7 @@ module _ {A : Type 0} (p : A → Bool) where
       by true go = refl
       by false go = go
 
-  pub told_any : (j : ℕ) (xs : List A) (r : Search) → search_says r ≡ first_from p j xs → any p xs ≡ is_at r
+  pub told_any : (j : ℕ) (xs : List A) (r : CodeOption ℕ) → search_says r ≡ first_from p j xs → any p xs ≡ has_place r
   told_any j xs r e = any_first j xs ∙ ap is_some (sym e) ∙ says_some r
 
 -- a search among what elements are mapped to

@@ -1,5 +1,6 @@
 -- A walk over n places of w octets, from the first on: it is before place k, at octet `at`. Assumes nothing.
 --     drop_one, drop_take, part_from, part_drop     what is left of a row, as the code takes it
+--     after_row, row_room                           row k of a store, and the store's room for it
 --     Before, first_place, next_place, room         where the walk is, and the place inside the store
 use mathlib.Core.Path.{◌≡◌, sym, ap, ◌∙◌}
 use mathlib.Core.List.{List, [], ◌∷◌}
@@ -40,6 +41,13 @@ part_long w at s h = length-take-le (at + w - at) (drop at s) (simp length-drop 
 pub place_after : (w j k : ℕ) → j < k → j * w + w ≤ k * w
 place_after w j k h = rw (← suc-mul j w) (mul-le-mul_right w h)
 
+-- row k of w octets, and the next; it is inside a store of n rows
+pub after_row : (w k : ℕ) → k * w + w ≡ (k + 1) * w
+after_row w k = sym (ap (◌* w) (add-one k) ∙ suc-mul k w)
+
+pub row_room : {A : Type 0} (w n k : ℕ) (s : List A) → length s ≡ n * w → k < n → k * w + w ≤ length s
+row_room w n k s long more = omega (arith, place_after w k n more, long)
+
 -- before place k of n, at octet `at`
 pub record Before (w n k at : ℕ) : Type 0 where
   pub passed : k ≤ n
@@ -50,7 +58,7 @@ first_place w n = record { passed = omega arith; starts = omega arith }
 
 module _ {w n k at : ℕ} (b : Before w n k at) (more : k < n) where
   pub next_place : Before w n (k + 1) (at + w)
-  next_place = record { passed = omega (arith, more); starts = ap (◌+ w) b.starts ∙ sym (ap (◌* w) (add-one k) ∙ suc-mul k w) }
+  next_place = record { passed = omega (arith, more); starts = ap (◌+ w) b.starts ∙ after_row w k }
 
   -- the place is inside a store of n places
   pub room : {A : Type 0} (s : List A) → length s ≡ n * w → at + w ≤ length s

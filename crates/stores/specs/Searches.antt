@@ -1,7 +1,6 @@
 -- Searches for the first element that passes a test. Assumes nothing.
-use Rattle.std.specs.Prelude.{Bool, true, false, cond, List, [], ◌∷◌, ℕ, suc}
+use Rattle.std.specs.Prelude.{Bool, cond, List, [], ◌∷◌, ℕ, suc, Option as CodeOption, Some, None}
 use Rattle.std.proofs.Math.Option.{Option, none, some}
-use Rattle.stores.specs.declared.search.Search.{Search}
 
 -- the place of the first that passes the test, counted from k
 unfoldable pub first_from : {A : Type 0} → (A → Bool) → ℕ → List A → Option ℕ
@@ -14,10 +13,6 @@ replaced p y [] = []
 replaced p y (x ∷ xs) = cond (p x) (y ∷ xs) (x ∷ replaced p y xs)
 
 -- where the code's search ended
-abbrev pub search_says : Search → Option ℕ
-search_says (Search.At k) = some k
-search_says Search.Nowhere = none
-
-abbrev pub is_at : Search → Bool
-is_at (Search.At k) = true
-is_at Search.Nowhere = false
+abbrev pub search_says : CodeOption ℕ → Option ℕ
+search_says (Some k) = some k
+search_says None = none

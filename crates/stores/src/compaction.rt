@@ -21,18 +21,6 @@ pub fn are_rows(len: usize, count: usize, width: usize) -> bool
     (len / width == count) & (len % width == 0)
 }
 
-// Octets at the front of others.
-fn copy_front(d: &mut [u8], s: &[u8])
-    requires { length s.now ≤ length d.old }
-    ensures { d.new ≡ s.now ++ drop (length s.now) d.old }
-{
-    let mut i = 0usize;
-    while i < s.len() {
-        d[i] = s[i];
-        i += 1;
-    }
-}
-
 // Whether row i, of a place, stays.
 fn stays(range: Range, i: usize, place: u8) -> bool
     ensures { result ≡ stays_at range i place }
@@ -45,11 +33,11 @@ fn keep_row(d: &mut [u8], row: &[u8], stay: bool) -> usize
     requires { length (if_kept stay row.now) ≤ length d.old }
     ensures { Puts (if_kept stay row.now) result d.old d.new }
 {
-    if stay {
-        copy_front(d, row);
-        return row.len();
+    if !stay {
+        return 0;
     }
-    0
+    d[..row.len()].copy_from_slice(row);
+    row.len()
 }
 
 // The rows that stay, one after another, at the front of out; how many octets they have.
@@ -57,15 +45,12 @@ fn keep_each(out: &mut [u8], store: &[u8], width: usize, places: &[u8], range: R
     requires { Compacts width store.now places.now out.old }
     ensures { Puts (kept_octets range width 0 store.now places.now) result out.old out.new }
 {
-    let mut i = 0usize;
-    let mut at = 0usize;
     let mut end = 0usize;
-    while i < places.len() {
+    for (i, place) in places.iter().enumerate() {
+        let at = i * width;
         let next = at + width;
-        let stay = stays(range, i, places[i]);
-        end = end + keep_row(&mut out[end..], &store[at..next], stay);
-        at = next;
-        i += 1;
+        let stay = stays(range, i, *place);
+        end += keep_row(&mut out[end..], &store[at..next], stay);
     }
     end
 }

@@ -3,19 +3,13 @@ ghost use Rattle.std.specs.Prelude.{◌≡◌, true, ◌&&◌, not, ◌++◌, �
 ghost use Rattle.headers.specs.Rows.{any};
 ghost use Rattle.stores.specs.Keys.{word_at, key as key_of, keys, with_keys, slot as slot_of, marked, apart};
 
-fn wide(x: u8) -> u64
-    ensures { (result ≡ x) × (result < 256) }
-{
-    x as u64
-}
-
 // The four octets from i on, as a number.
 fn word_at(place: &[u8], i: usize) -> u64
     requires { i + 3 < length place.now }
     ensures { (result ≡ word_at place.now i) × (result < 4294967296) }
 {
-    ((wide(place[i]) * 256 + wide(place[i + 1])) * 256 + wide(place[i + 2])) * 256
-        + wide(place[i + 3])
+    let front = u64::from(place[i]) * 256 + u64::from(place[i + 1]);
+    (front * 256 + u64::from(place[i + 2])) * 256 + u64::from(place[i + 3])
 }
 
 // The key of a place of 32 octets.
@@ -32,6 +26,7 @@ fn key(place: &[u8]) -> u32
         + word_at(place, 20) * 13
         + word_at(place, 24) * 17
         + word_at(place, 28) * 19;
+    // The low 32 bits are meant: a `try_from` would have a branch that never runs.
     (all % 4294967296) as u32
 }
 
@@ -40,10 +35,8 @@ pub fn has_key(keys: &[u32], key: u32) -> bool
     ensures { result ≡ any (λ x. eqb x key) keys.now }
 {
     let mut found = false;
-    let mut i = 0usize;
-    while i < keys.len() {
-        found = found | (keys[i] == key);
-        i += 1;
+    for x in keys {
+        found = found | (*x == key);
     }
     found
 }
@@ -53,13 +46,10 @@ fn put_each(d: &mut [u32], store: &[u8], lens: &[u8])
     requires { (length store.now ≡ length lens.now * 32) × (length lens.now ≤ length d.old) }
     ensures { d.new ≡ keys store.now lens.now ++ drop (length lens.now) d.old }
 {
-    let mut k = 0usize;
-    let mut at = 0usize;
-    while k < lens.len() {
-        let next = at + 32;
-        d[k] = key(&store[at..next]);
-        at = next;
-        k += 1;
+    for k in 0..lens.len() {
+        let at = k * 32;
+        let end = at + 32;
+        d[k] = key(&store[at..end]);
     }
 }
 
@@ -80,7 +70,8 @@ pub fn put_keys(d: &mut [u32], store: &[u8], lens: &[u8])
 fn slot(key: u32) -> usize
     ensures { (result ≡ slot_of key) × (result < 1024) }
 {
-    ((((key as u64) * 2654435761) >> 22) % 1024) as usize
+    // Fewer than 1,024: a `try_from` would have a branch that never runs.
+    (((u64::from(key) * 2654435761) >> 22) % 1024) as usize
 }
 
 // Whether a key is among later ones, each of which has its slot marked: a key whose slot is not marked is compared with none.
@@ -111,10 +102,8 @@ pub fn are_apart(keys: &[u32], lens: &[u8]) -> bool
     ensures { result ≡ apart keys.now lens.now }
 {
     let mut marks = [0u8; 1024];
-    let mut i = keys.len();
-    while 0 < i {
-        let later = i;
-        i -= 1;
+    for i in (0..keys.len()).rev() {
+        let later = i + 1;
         let key = keys[i];
         let len = crate::places::octet_at(lens, i);
         if clashes(&marks, &keys[later..], key, len) {

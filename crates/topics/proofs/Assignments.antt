@@ -29,7 +29,7 @@ module _ {A : Type 0} (f : A → Bool) where
   how_append (x ∷ xs) ys = omega (arith, how_append xs ys)
 
   some_counted : (xs : List A) → any f xs ≡ true → 0 < how_many f xs
-  some_counted [] h = absurd (let z : ◌≡◌ {A = ℕ} 0 1 = cc in omega arith)
+  some_counted [] h = cc
   some_counted (x ∷ xs) h = by (f x) h (some_counted xs)
     where
       by : (t : Bool) → t || any f xs ≡ true → (any f xs ≡ true → 0 < how_many f xs) → 0 < cond t 1 0 + how_many f xs
@@ -42,7 +42,7 @@ module _ {A : Type 0} (f : A → Bool) where
   all_none (x ∷ xs) (p, h) = rw p (all_none xs h)
 
   any_found : (xs : List A) → any f xs ≡ true → (x : A) × (first_of f xs ≡ some x)
-  any_found [] h = absurd (let z : ◌≡◌ {A = ℕ} 0 1 = cc in omega arith)
+  any_found [] h = cc
   any_found (x ∷ xs) h = by (f x) h (any_found xs)
     where
       by : (t : Bool) → t || any f xs ≡ true → (any f xs ≡ true → (y : A) × (first_of f xs ≡ some y)) → (y : A) × (cond t (some x) (first_of f xs) ≡ some y)
@@ -50,7 +50,7 @@ module _ {A : Type 0} (f : A → Bool) where
       by false h go = go h
 
   found_any : (xs : List A) (x : A) → first_of f xs ≡ some x → any f xs ≡ true
-  found_any [] x h = absurd (let z : ◌≡◌ {A = ℕ} 0 1 = cc in omega arith)
+  found_any [] x h = cc
   found_any (y ∷ ys) x h = by (f y) h (found_any ys x)
     where
       by : (t : Bool) → cond t (some y) (first_of f ys) ≡ some x → (first_of f ys ≡ some x → any f ys ≡ true) → t || any f ys ≡ true
@@ -58,7 +58,7 @@ module _ {A : Type 0} (f : A → Bool) where
       by false h go = go h
 
   all_first : (P : A → Type 0) (xs : List A) (x : A) → All P xs → first_of f xs ≡ some x → P x
-  all_first P [] x h e = absurd (let z : ◌≡◌ {A = ℕ} 0 1 = cc in omega arith)
+  all_first P [] x h e = cc
   all_first P (y ∷ ys) x (p, h) e = by (f y) e (all_first P ys x h)
     where
       by : (t : Bool) → cond t (some y) (first_of f ys) ≡ some x → (first_of f ys ≡ some x → P x) → P x
@@ -105,8 +105,8 @@ module _ (ms ss : List Entry) where
   test_matching p = by (first_of (numbered p.message) ms) (first_of (numbered p.subscription) ss) refl refl
     where
       by : (o q : Option Entry) → first_of (numbered p.message) ms ≡ o → first_of (numbered p.subscription) ss ≡ q → matched o q ≡ true → Suits ms ss p
-      by none q eo eq h = absurd (let z : ◌≡◌ {A = ℕ} 0 1 = cc in omega arith)
-      by (some m) none eo eq h = absurd (let z : ◌≡◌ {A = ℕ} 0 1 = cc in omega arith)
+      by none q eo eq h = cc
+      by (some m) none eo eq h = cc
       by (some m) (some s) eo eq h = record { message = m; subscription = s; waiting = eo; live = eq; fits = sound (words s.text) (words m.text) h }
 
   -- what is matched waits: of an assignment, no_other follows from matching
@@ -174,10 +174,10 @@ module _ (ms ss : List Entry) where
           → cond a (Answer.refused 96)
           (cond b (Answer.refused 97) (cond (not c) (Answer.refused 98) (cond d (Answer.refused 99) (Answer.accepted [])))) ≡ Answer.accepted []
           → GoodPair earlier p
-      by true b c d ea eb ec ed h = absurd (let z : ◌≡◌ {A = ℕ} 0 1 = cc in omega arith)
-      by false true c d ea eb ec ed h = absurd (let z : ◌≡◌ {A = ℕ} 0 1 = cc in omega arith)
-      by false false false d ea eb ec ed h = absurd (let z : ◌≡◌ {A = ℕ} 0 1 = cc in omega arith)
-      by false false true true ea eb ec ed h = absurd (let z : ◌≡◌ {A = ℕ} 0 1 = cc in omega arith)
+      by true b c d ea eb ec ed h = cc
+      by false true c d ea eb ec ed h = cc
+      by false false false d ea eb ec ed h = cc
+      by false false true true ea eb ec ed h = cc
       by false false true false ea eb ec ed h = record { known = ea; new = eb; fits = ec; room = omega (arith, ltb-false (room_of (first_of (numbered p.subscription) ss)) (how_many (with_subscription p.subscription) earlier + 1) ed) }
 
   none_counted : {A : Type 0} (f : A → Bool) (xs : List A) → any f xs ≡ false → how_many f xs ≡ 0
@@ -223,7 +223,7 @@ module _ (ms ss : List Entry) where
     accepted_pair : (a : Answer) (i : ℕ) (v : Verdict) → ((values : List ℕ) → a ≡ Answer.accepted values → values ≡ []) → bad_or a i v ≡ accepted
         → (a ≡ Answer.accepted []) × (v ≡ accepted)
     accepted_pair (Answer.accepted values) i v e h = (ap Answer.accepted (e values refl), h)
-    accepted_pair (Answer.refused k) i v e h = absurd (let z : ◌≡◌ {A = ℕ} 0 1 = cc in omega arith)
+    accepted_pair (Answer.refused k) i v e h = cc
 
     pair_values : (earlier : List Pair) (p : Pair) (values : List ℕ) → pair_answer ms ss earlier p ≡ Answer.accepted values → values ≡ []
     unfolding pair_answer
@@ -242,7 +242,7 @@ module _ (ms ss : List Entry) where
 
     left_none : (o : Option Entry) → left_out_answer o ≡ accepted → o ≡ none
     left_none none h = refl
-    left_none (some m) h = absurd (let z : ◌≡◌ {A = ℕ} 0 1 = cc in omega arith)
+    left_none (some m) h = cc
 
     so_far_assigned : (earlier ps : List Pair) → SoFar earlier → checked ms ss earlier ps ≡ accepted → Assignment ms ss (earlier ++ ps)
     unfolding checked
@@ -290,20 +290,20 @@ module _ (messages subscriptions plan : List ℕ) where
     where
       lists : length plan / 8 ≤ pairs_max → (a b : Option (List Entry)) (c : Option (List Pair)) → messages_in messages ≡ a
           → subscriptions_in subscriptions ≡ b → pairs_in plan ≡ c → plan_of a b c ≡ accepted → Acceptable messages subscriptions plan
-      lists few none b c p q r h = absurd (let z : ◌≡◌ {A = ℕ} 0 1 = cc in omega arith)
-      lists few (some ms) none c p q r h = absurd (let z : ◌≡◌ {A = ℕ} 0 1 = cc in omega arith)
-      lists few (some ms) (some ss) none p q r h = absurd (let z : ◌≡◌ {A = ℕ} 0 1 = cc in omega arith)
+      lists few none b c p q r h = cc
+      lists few (some ms) none c p q r h = cc
+      lists few (some ms) (some ss) none p q r h = cc
       lists few (some ms) (some ss) (some ps) p q r h = sound (is_valid (some ms)) (is_valid (some ss)) refl refl h
         where
           sound : (t u : Bool) → is_valid (some ms) ≡ t → is_valid (some ss) ≡ u → cond (t && u) (checked ms ss [] ps) (refusal 102 0) ≡ accepted
               → Acceptable messages subscriptions plan
-          sound false u a b h = absurd (let z : ◌≡◌ {A = ℕ} 0 1 = cc in omega arith)
-          sound true false a b h = absurd (let z : ◌≡◌ {A = ℕ} 0 1 = cc in omega arith)
+          sound false u a b h = cc
+          sound true false a b h = cc
           sound true true a b h =
               record { few = few; ms = ms; ss = ss; ps = ps; messages_are = p; subscriptions_are = q; pairs_are = r; messages_valid = a; subscriptions_valid = b; assigns = accepted_assigned ms ss (and_left (distinct ss) (texts_formed ss) b) ps h }
 
       by : (t : Bool) → ltb pairs_max (length plan / 8) ≡ t
           → cond t (refusal 101 0) (plan_of (messages_in messages) (subscriptions_in subscriptions) (pairs_in plan)) ≡ accepted
           → Acceptable messages subscriptions plan
-      by true e h = absurd (let z : ◌≡◌ {A = ℕ} 0 1 = cc in omega arith)
+      by true e h = cc
       by false e h = lists (ltb-false pairs_max (length plan / 8) e) (messages_in messages) (subscriptions_in subscriptions) (pairs_in plan) refl refl refl h

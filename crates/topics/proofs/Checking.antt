@@ -1,13 +1,13 @@
 -- Laws of checking a plan: one pair, pair by pair, and the whole. Assumes nothing.
---     count_none, count_some, valid_whole, valid_text    what is known of a list
+--     count_none, count_some, none_counted, valid_text   what is known of a list
 --     unknown, repeated, not_live, unmatched, over, good     one pair, by its checks
 --     CheckedTo, checked_start, checked_bad, checked_good, checked_end     pair by pair
 --     pairs_whole, pairs_cut, plan_many, plan_pairs, plan_messages, plan_subscriptions, plan_checked     the whole
 use mathlib.Core.Path.{◌≡◌, refl, sym, ◌∙◌, ap, ap₂}
-use mathlib.Core.Bool.{Bool, true, false, cond, ◌&&◌, ◌||◌}
+use mathlib.Core.Bool.{Bool, true, false, cond, ◌&&◌, ◌||◌, not}
 use mathlib.Core.Option.{Option, none, some}
 use mathlib.Core.List.{List, [], ◌∷◌, ◌++◌}
-use Prim.Native.Nat.{ℕ, zero, suc, ◌+◌, ◌-◌, ◌*◌, ◌/◌, ◌%◌, ◌≤◌, ◌<◌}
+use Prim.Native.Nat.{ℕ, zero, suc, ◌+◌, ◌*◌, ◌/◌, ◌%◌, ◌≤◌, ◌<◌}
 use native.Mathlib.Nat.{div-add-mod', mod-lt}
 use native.Mathlib.Omega.{arith}
 use lib.Dec.{eqb}
@@ -16,17 +16,20 @@ use lib.Seq.{take_all}
 use borrow.Author.Tests.{eq-eqb, ne_eqb, lt-ltb, le-ltb}
 use Rattle.headers.specs.Rows.{every, any, first_of}
 use Rattle.headers.specs.Answers.{Answer}
-use Rattle.headers.specs.Numbers.{evaluate}
 use Rattle.headers.proofs.Rows.{and_left, and_right, and_no}
 use Rattle.topics.specs.Topics.{words, well_formed, matches, yes_or_no, match_answer, match_says}
 use Rattle.topics.specs.Lists.{Entry, Pair, before, is_some, listed, messages_in, subscriptions_in, pair_front, pair_format, pairs_in}
-use Rattle.topics.specs.Plans.{Verdict, refusal, numbered, distinct, texts_formed, is_valid, with_message, with_subscription, how_many, pair_answer, is_left_out, left_out_answer, bad_or, checked, pairs_max, plan_of, plan_answer}
-use Rattle.topics.specs.Places.{pair_says}
+use Rattle.topics.specs.Plans.{Verdict, refusal, fault_number, plan_number, plan_names, plan_says, numbered, distinct, texts_formed, is_valid, with_message, with_subscription, how_many, pair_answer, is_left_out, left_out_answer, bad_or, checked, pairs_max, plan_of, plan_answer}
+use Rattle.topics.specs.Waiting.{pair_says}
 use Rattle.topics.proofs.Lists.{some_before, listed_before, place_step, place_end, records_end, records_step, records_none, records_grow, whole_fits}
 use Rattle.topics.proofs.Formats.{pair_local}
-use Rattle.topics.proofs.Places.{number_on}
 use Rattle.topics.proofs.Words.{answered}
-use Rattle.topics.specs.declared.pattern.Match.{Match}
+use Rattle.std.specs.Prelude.{Result, Ok, Err, ⊤, IsErrAnd}
+use Rattle.topics.specs.declared.plan.PairFault.{PairFault}
+use Rattle.topics.specs.declared.plan.PlanError.{PlanError}
+use Rattle.topics.specs.declared.plan.PlanError.TheVariants.{Malformed}
+use Rattle.std.specs.Result.{result_unwrap_or}
+use Rattle.topics.specs.declared.pattern.MatchError.{MatchError}
 
 -- ## What is known of a list
 
@@ -47,41 +50,46 @@ module _ {A : Type 0} (f : A → Bool) where
       by true h go = refl
       by false h go = go (λ e. h (omega arith))
 
+  none_any : (xs : List A) → any f xs ≡ false → how_many f xs ≡ 0
+  none_any [] h = refl
+  none_any (x ∷ xs) h = by (f x) h (none_any xs)
+    where
+      by : (t : Bool) → t || any f xs ≡ false → (any f xs ≡ false → how_many f xs ≡ 0) → cond t 1 0 + how_many f xs ≡ 0
+      by true h go = cc
+      by false h go = omega (arith, go h)
+
+  -- whether the count is 0
+  pub none_counted : (xs : List A) (n : ℕ) → n ≡ how_many f xs → eqb n 0 ≡ not (any f xs)
+  none_counted xs n e = by (any f xs) refl
+    where
+      by : (t : Bool) → any f xs ≡ t → eqb n 0 ≡ not t
+      by false q = eq-eqb n 0 (e ∙ none_any xs q)
+      by true q = ne_eqb n 0 (λ z. let a = count_none xs (sym e ∙ z) in let y : ◌≡◌ {A = ℕ} 0 1 = cc in omega arith)
+
   -- what every element passes, the first that passes another test passes
   pub first_every : (g : A → Bool) (xs : List A) (x : A) → every g xs ≡ true → first_of f xs ≡ some x → g x ≡ true
-  first_every g [] x h e = absurd (let z : ◌≡◌ {A = ℕ} 0 1 = cc in omega arith)
+  first_every g [] x h e = cc
   first_every g (y ∷ ys) x h e = by (f y) e (first_every g ys x (and_right (g y) (every g ys) h))
     where
       by : (t : Bool) → cond t (some y) (first_of f ys) ≡ some x → (first_of f ys ≡ some x → g x ≡ true) → g x ≡ true
       by true e go = let same : y ≡ x = cc in ap g (sym same) ∙ and_left (g y) (every g ys) h
       by false e go = go e
 
-pub valid_whole : (o : Option (List Entry)) → is_valid o ≡ true → is_some o ≡ true
-valid_whole none h = h
-valid_whole (some es) h = refl
-
 pub valid_text : (o : Option (List Entry)) (f : Entry → Bool) (e : Entry) → is_valid o ≡ true → first_of f (listed o) ≡ some e → well_formed e.text ≡ true
-valid_text none f e h k = absurd (let z : ◌≡◌ {A = ℕ} 0 1 = cc in omega arith)
+valid_text none f e h k = cc
 valid_text (some es) f e h k = first_every f (λ d. well_formed d.text) es e (and_right (distinct es) (texts_formed es) h) k
 
 -- what asking for a match says, where both texts are well formed
-abbrev pub is_yes : Match → Bool
-is_yes Match.Yes = true
-is_yes Match.No = false
-is_yes Match.BadName = false
-is_yes Match.BadPattern = false
-
-pub match_told : (name pattern : List ℕ) → well_formed name ≡ true → well_formed pattern ≡ true → (g : Match)
-    → match_says g ≡ match_answer name pattern → is_yes g ≡ matches (words pattern) (words name)
+pub match_told : (name pattern : List ℕ) → well_formed name ≡ true → well_formed pattern ≡ true → (g : Result Bool MatchError)
+    → match_says g ≡ match_answer name pattern → result_unwrap_or g false ≡ matches (words pattern) (words name)
 match_told name pattern n p g e = by g (matches (words pattern) (words name)) (e ∙ answered name pattern n p (matches (words pattern) (words name)) refl)
   where
-    by : (g : Match) (t : Bool) → match_says g ≡ Answer.accepted (yes_or_no t ∷ []) → is_yes g ≡ t
-    by Match.Yes true e = refl
-    by Match.Yes false e = absurd (let z : ◌≡◌ {A = ℕ} 0 1 = cc in omega arith)
-    by Match.No true e = absurd (let z : ◌≡◌ {A = ℕ} 0 1 = cc in omega arith)
-    by Match.No false e = refl
-    by Match.BadName t e = absurd (let z : ◌≡◌ {A = ℕ} 0 1 = cc in omega arith)
-    by Match.BadPattern t e = absurd (let z : ◌≡◌ {A = ℕ} 0 1 = cc in omega arith)
+    by : (g : Result Bool MatchError) (t : Bool) → match_says g ≡ Answer.accepted (yes_or_no t ∷ []) → result_unwrap_or g false ≡ t
+    by (Ok true) true e = refl
+    by (Ok true) false e = cc
+    by (Ok false) true e = cc
+    by (Ok false) false e = refl
+    by (Err x) t e = cc
 
 -- ## One pair, by its checks
 
@@ -132,13 +140,6 @@ module _ (ms ss : List Entry) (plan : List ℕ) where
       record { earlier = []; within = omega arith; few = omega arith; front_is = records_end pair_format pair_local [] refl; index_is = refl; whole = w; verdict = refl }
 
   module _ (at index : ℕ) (j : CheckedTo ms ss plan at index) where
-    -- the octets before the place, as the code takes them
-    front_part : take (at - 0) plan ≡ take at plan
-    front_part = ap (λ k. take k plan) (let e : at - 0 ≡ at = omega arith in e)
-
-    pub front_whole : is_some (pairs_in (take (at - 0) plan)) ≡ true
-    front_whole = ap is_some (ap pairs_in front_part ∙ j.front_is)
-
     pub checked_end : length plan ≤ at → checked ms ss [] (listed (pairs_in plan)) ≡ left_out_answer (first_of (is_left_out (listed (pairs_in plan))) ms)
     unfolding checked
     checked_end h =
@@ -147,21 +148,15 @@ module _ (ms ss : List Entry) (plan : List ℕ) where
         ∙ ap (λ o. checked ms ss j.earlier (listed o)) (place_end pair_format pair_local plan at h)
         ∙ ap (λ ps. left_out_answer (first_of (is_left_out ps) ms)) all
 
-    pub here_fits : at < length plan → at + 8 ≤ length plan
+    here_fits : at < length plan → at + 8 ≤ length plan
     here_fits h = let long = length-drop at plan in omega (arith, whole_fits pair_format pair_local (drop at plan) j.whole (omega arith))
 
-    module _ (h : at < length plan) (m s : ℕ) (em : m ≡ evaluate 256 0 (take (at + 4 - at) (drop at plan)))
-        (es : s ≡ evaluate 256 0 (take (at + 8 - (at + 4)) (drop (at + 4) plan))) where
+    module _ (h : at < length plan) (m s : ℕ) (em : m ≡ (pair_front (drop at plan)).message) (es : s ≡ (pair_front (drop at plan)).subscription) where
       abbrev this : Pair
       this = record { message = m; subscription = s }
 
       this_is : pair_front (drop at plan) ≡ this
-      this_is =
-          let four : 4 ≡ at + 4 - at = omega arith in
-          let more : 4 ≡ at + 8 - (at + 4) = omega arith in
-          ap₂ (λ a b. record { message = a; subscription = b })
-          (ap (λ k. evaluate 256 0 (take k (drop at plan))) four ∙ sym em)
-          (number_on 4 plan at 4 ∙ ap (λ k. evaluate 256 0 (take k (drop (at + 4) plan))) more ∙ sym es)
+      this_is = ap₂ (λ a b. record { message = a; subscription = b }) (sym em) (sym es)
 
       abbrev rest : Option (List Pair)
       rest = pairs_in (drop (at + 8) plan)
@@ -177,18 +172,19 @@ module _ (ms ss : List Entry) (plan : List ℕ) where
       one = j.verdict ∙ ap (checked ms ss j.earlier) (ap listed step ∙ listed_before this rest whole_rest)
 
       -- what is said of the pair with the pairs before it
-      module _ (code : ℕ) (said : pair_says code ≡ pair_answer ms ss (listed (pairs_in (take (at - 0) plan))) this) where
-        answer : (t : Bool) → eqb code 0 ≡ t → pair_answer ms ss j.earlier this ≡ cond t (Answer.accepted []) (Answer.refused code)
-        answer t e =
-            ap (λ o. pair_answer ms ss (listed o) this) (sym (ap pairs_in front_part ∙ j.front_is)) ∙ sym said
-            ∙ ap (λ b. cond b (Answer.accepted []) (Answer.refused code)) e
+      module _ (front : List ℕ) (before_it : front ≡ take at plan) where
+        abbrev pub Said : Result ⊤ PairFault → Type 0
+        Said r = pair_says r ≡ pair_answer ms ss (listed (pairs_in front)) this
 
-        pub checked_bad : (code ≡ 0 → ⊥) → refusal code index ≡ checked ms ss [] (listed (pairs_in plan))
-        checked_bad n =
-            sym (one ∙ ap (λ a. bad_or a (length j.earlier) (checked ms ss (j.earlier ++ (this ∷ [])) (listed rest))) (answer false (ne_eqb code 0 n)) ∙ ap (refusal code) (sym j.index_is))
+        answer : (r : Result ⊤ PairFault) → Said r → pair_answer ms ss j.earlier this ≡ pair_says r
+        answer r said = ap (λ o. pair_answer ms ss (listed o) this) (sym (ap pairs_in before_it ∙ j.front_is)) ∙ sym said
 
-        pub checked_good : code ≡ 0 → CheckedTo ms ss plan (at + 8) (index + 1)
-        checked_good e =
+        pub checked_bad : (f : PairFault) → Said (Err f) → refusal (fault_number f) index ≡ checked ms ss [] (listed (pairs_in plan))
+        checked_bad f said =
+            sym (one ∙ ap (λ a. bad_or a (length j.earlier) (checked ms ss (j.earlier ++ (this ∷ [])) (listed rest))) (answer (Err f) said) ∙ ap (refusal (fault_number f)) (sym j.index_is))
+
+        pub checked_good : (u : ⊤) → Said (Ok u) → CheckedTo ms ss plan (at + 8) (index + 1)
+        checked_good u said =
             record {
               earlier = j.earlier ++ (this ∷ []);
               within = here_fits h;
@@ -198,7 +194,7 @@ module _ (ms ss : List Entry) (plan : List ℕ) where
               whole = whole_rest;
               verdict =
                   one ∙ ap (λ a. bad_or a (length j.earlier) (checked ms ss (j.earlier ++ (this ∷ [])) (listed rest)))
-                  (answer true (eq-eqb code 0 e));
+                  (answer (Ok u) said);
             }
 
 -- ## The whole
@@ -227,7 +223,7 @@ no_pairs : (a b : Option (List Entry)) (c : Option (List Pair)) → is_some c �
 no_pairs none b c h = refl
 no_pairs (some ms) none c h = refl
 no_pairs (some ms) (some ss) none h = refl
-no_pairs (some ms) (some ss) (some ps) h = absurd (let z : ◌≡◌ {A = ℕ} 0 1 = cc in omega arith)
+no_pairs (some ms) (some ss) (some ps) h = cc
 
 no_messages : (a b : Option (List Entry)) (c : Option (List Pair)) → is_valid a ≡ false → plan_of a b c ≡ refusal 102 0
 no_messages none b c h = refl
@@ -244,10 +240,15 @@ no_subscriptions (some ms) (some ss) (some ps) h =
 
 all_valid : (a b : Option (List Entry)) (c : Option (List Pair)) → is_valid a ≡ true → is_valid b ≡ true → is_some c ≡ true
     → plan_of a b c ≡ checked (listed a) (listed b) [] (listed c)
-all_valid none b c h k w = absurd (let z : ◌≡◌ {A = ℕ} 0 1 = cc in omega arith)
-all_valid (some ms) none c h k w = absurd (let z : ◌≡◌ {A = ℕ} 0 1 = cc in omega arith)
-all_valid (some ms) (some ss) none h k w = absurd (let z : ◌≡◌ {A = ℕ} 0 1 = cc in omega arith)
+all_valid none b c h k w = cc
+all_valid (some ms) none c h k w = cc
+all_valid (some ms) (some ss) none h k w = cc
 all_valid (some ms) (some ss) (some ps) h k w = ap (λ t. cond t (checked ms ss [] ps) (refusal 102 0)) (ap₂ (◌&&◌) h k)
+
+-- what a list that is malformed makes of the answer
+pub says_malformed : (r : Result ⊤ PlanError) → IsErrAnd r (λ e. e ≡ Malformed) → plan_says r ≡ refusal 102 0
+says_malformed (Ok u) h = absurd h
+says_malformed (Err e) h = ap (λ x. refusal (plan_number x) (plan_names x)) h
 
 module _ (messages subscriptions plan : List ℕ) where
   abbrev read : Verdict

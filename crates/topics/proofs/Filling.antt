@@ -8,9 +8,8 @@ use native.Mathlib.Nat.{eq-or-lt_of_le}
 use native.Mathlib.Omega.{arith}
 use lib.ListN.{length, drop, get_or, set, length-set, replicate, get_or-replicate, drop_of_length-le}
 use lib.Seq.{get_or-set_same, get_or-set_other, drop-cons}
-use Rattle.topics.specs.Topics.{Word, words, hash, stands, matches}
-use Rattle.topics.specs.Rows.{word_at, Located, Row, Next}
-use Rattle.topics.proofs.Words.{located_word}
+use Rattle.topics.specs.Topics.{Word, hash, stands, matches}
+use Rattle.topics.specs.Rows.{Row, Next}
 use Rattle.topics.proofs.Matching.{hash_last, hash_next, word_last, word_next}
 use Rattle.headers.specs.Rows.{empty, same}
 use Rattle.headers.proofs.Rows.{same_eq}
@@ -33,12 +32,12 @@ hash_start n row l =
       filled = λ ws e ps r k a b. r k (omega arith) ∙ sym (hash_last ps ws k (omega arith));
     }
 
-module _ (n : ℕ) (row next : List Bool) (j i : ℕ) (small : n ≤ 32) (h : Hashed n row next j) (is : j ≡ i + 1) where
+module _ (n : ℕ) (row next : List Bool) (i : ℕ) (small : n ≤ 32) (h : Hashed n row next (i + 1)) where
   abbrev with_entry : List Bool
-  with_entry = set next i (get_or next i false || get_or next j false)
+  with_entry = set next i (get_or next i false || get_or next (i + 1) false)
 
   kept : (k : ℕ) → (k ≡ i → ⊥) → get_or with_entry k false ≡ get_or next k false
-  kept k ne = get_or-set_other next i k (get_or next i false || get_or next j false) false ne
+  kept k ne = get_or-set_other next i k (get_or next i false || get_or next (i + 1) false) false ne
 
   pub hash_fill : Hashed n row with_entry i
   hash_fill =
@@ -54,12 +53,9 @@ module _ (n : ℕ) (row next : List Bool) (j i : ℕ) (small : n ≤ 32) (h : Ha
 
       here : (ws : List Word) → length ws ≡ n → (ps : List Word) → Row ps ws row → get_or with_entry i false ≡ matches (hash ∷ ps) (drop i ws)
       here ws e ps r =
-          get_or-set_same next i (get_or next i false || get_or next j false) false (omega (arith, h.long, h.within))
-          ∙ ap₂ (◌||◌) (h.before i (omega arith) ∙ r i (omega (arith, h.within))) (h.filled ws e ps r j (omega arith) h.within ∙ ap (λ m. matches (hash ∷ ps) (drop m ws)) is)
+          get_or-set_same next i (get_or next i false || get_or next (i + 1) false) false (omega (arith, h.long, h.within))
+          ∙ ap₂ (◌||◌) (h.before i (omega arith) ∙ r i (omega (arith, h.within))) (h.filled ws e ps r (i + 1) (omega arith) h.within)
           ∙ sym (hash_next ps ws i (omega (arith, h.within)))
-
-pub hash_done : (n : ℕ) (row next : List Bool) → Hashed n row next 0 → (ws : List Word) → length ws ≡ n → Next hash ws row next
-hash_done n row next h ws e = record { grows = λ ps r k b. h.filled ws e ps r k (omega arith) (omega arith) }
 
 pub as_hash : (p : Word) {ws : List Word} {row next : List Bool} → same p hash ≡ true → Next hash ws row next → Next p ws row next
 as_hash p {ws} {row} {next} h n = subst (λ q. Next q ws row next) (sym (same_eq p hash h)) n
@@ -72,9 +68,6 @@ pub record Worded (p : Word) (ws : List Word) (row next : List Bool) (j : ℕ) :
   pub long : length next ≡ 33
   pub filled : (ps : List Word) → Row ps ws row → (k : ℕ) → k < j → get_or next k false ≡ matches (p ∷ ps) (drop k ws)
   pub behind : (k : ℕ) → j ≤ k → get_or next k false ≡ get_or row k false
-
-pub word_start : (p : Word) (ws : List Word) (row : List Bool) → length row ≡ 33 → Worded p ws row row 0
-word_start p ws row l = record { within = omega arith; long = l; filled = λ ps r k b. absurd (omega arith); behind = λ k b. refl }
 
 module _ (p : Word) (plain : same p hash ≡ false) (ws : List Word) (small : length ws ≤ 32) (row next : List Bool) (j : ℕ) (h : Worded p ws row next j) where
   -- one entry more; w is word j of the name
@@ -130,14 +123,6 @@ row_start ws n e small k h =
     (λ q. get_or-set_other (replicate 33 false) n k true false (λ o. omega arith) ∙ get_or-replicate 33 k false false (omega arith) ∙ sym (ap empty (drop-cons ws k [] (omega arith))))
     (eq-or-lt_of_le within)
 
--- the row for the words of a pattern from word k on; j is the next word
-pub row_next : (P starts : List ℕ) (m : ℕ) (l : Located P starts m) (k j : ℕ) → j ≡ k + 1 → k < m → (ws : List Word) (row next : List Bool)
-    → Row (drop j (words P)) ws row → Next (word_at P (get_or starts k 0) (get_or starts j 0)) ws row next → Row (drop k (words P)) ws next
-row_next P starts m l k j is h ws row next r f = subst (λ ps. Row ps ws next) (sym (located_word P starts m l k j is h)) (f.grows (drop j (words P)) r)
-
 -- after the last word
-pub row_last : (P starts : List ℕ) (m : ℕ) → Located P starts m → (ws : List Word) (row : List Bool) → Row [] ws row → Row (drop m (words P)) ws row
-row_last P starts m l ws row r = subst (λ ps. Row ps ws row) (sym (drop_of_length-le (words P) {i = m} (omega (arith, l.number)))) r
-
-pub row_done : (ps ws : List Word) (row : List Bool) (j : ℕ) → j ≡ 0 → Row (drop j ps) ws row → get_or row 0 false ≡ matches ps ws
-row_done ps ws row j e r = r 0 (omega arith) ∙ ap (λ k. matches (drop k ps) ws) e
+pub row_last : (ps ws : List Word) (m : ℕ) (row : List Bool) → length ps ≤ m → Row [] ws row → Row (drop m ps) ws row
+row_last ps ws m row h r = subst (λ qs. Row qs ws row) (sym (drop_of_length-le ps {i = m} h)) r

@@ -2,7 +2,6 @@
 pub mod Matching
 pub mod Words
 pub mod Filling
-pub mod Packed
 pub mod Examples
 pub mod Lists
 pub mod Formats

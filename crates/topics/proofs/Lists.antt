@@ -148,8 +148,7 @@ module _ {A : Type 0} (f : Format A) (l : Local f) where
       by true e = leb-true (f.size xs) (length xs) e
       by false e =
           let gone = ap is_some (records_none xs h (leb-false (f.size xs) (length xs) e)) in
-          let z : ◌≡◌ {A = ℕ} 0 1 = cc in
-          absurd (omega arith)
+          cc
 
 -- records before others, and whether there are any
 module _ {A : Type 0} (a : A) where
@@ -158,5 +157,5 @@ module _ {A : Type 0} (a : A) where
   some_before (some rs) = refl
 
   pub listed_before : (o : Option (List A)) → is_some o ≡ true → listed (before a o) ≡ a ∷ listed o
-  listed_before none h = absurd (let z : ◌≡◌ {A = ℕ} 0 1 = cc in omega arith)
+  listed_before none h = cc
   listed_before (some rs) h = refl

@@ -84,12 +84,12 @@ word_one p vs q s = by (same p star) refl (rw q at s)
 pub sound : (ps ws : List Word) → matches ps ws ≡ true → Matches ps ws
 unfolding matches
 sound [] [] h = nothing
-sound [] (w ∷ ws) h = absurd (let z : ◌≡◌ {A = ℕ} 0 1 = cc in omega arith)
+sound [] (w ∷ ws) h = cc
 sound (p ∷ ps) ws h = by (same p hash) refl ws h (sound ps)
   where
     by : (t : Bool) → same p hash ≡ t → (ws : List Word) → cond t (some_rest (matches ps) ws) (first_then (stands p) (matches ps) ws) ≡ true → ((us : List Word) → matches ps us ≡ true → Matches ps us) → Matches (p ∷ ps) ws
     by true q ws h go = let (vs, us, e, m) = rest_of (matches ps) ws h in subst (Matches (p ∷ ps)) (sym e) (word p vs (rw q tt) (go us m))
-    by false q [] h go = absurd (let z : ◌≡◌ {A = ℕ} 0 1 = cc in omega arith)
+    by false q [] h go = cc
     by false q (w ∷ us) h go = word p (w ∷ []) (one_word p w q (and_left (stands p w) (matches ps us) h)) (go us (and_right (stands p w) (matches ps us) h))
 
 pub complete : {ps ws : List Word} → Matches ps ws → matches ps ws ≡ true

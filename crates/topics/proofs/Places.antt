@@ -1,7 +1,6 @@
 -- Laws of records by their places. Assumes nothing.
-use mathlib.Core.Path.{◌≡◌, refl, sym, ◌∙◌, ap, ap₂, subst}
+use mathlib.Core.Path.{◌≡◌, refl, sym, ◌∙◌, ap, ap₂}
 use mathlib.Core.Bool.{Bool, true, false, cond}
-use mathlib.Core.Logic.{◌⊎◌, inl, inr}
 use mathlib.Core.Option.{Option, none, some}
 use mathlib.Core.List.{List}
 use Prim.Native.Nat.{ℕ, ◌+◌, ◌-◌, ◌*◌, ◌≤◌, ◌<◌}
@@ -10,15 +9,18 @@ use native.Mathlib.Numerals.{add-one}
 use native.Mathlib.Omega.{arith}
 use lib.ListN.{length, take, drop, get_or, length-drop, length-take, take-append-drop}
 use lib.Seq.{drop-drop, take-suc}
-use lib.Dec.{eqb}
-use borrow.Author.Tests.{eq-eqb, ne_eqb}
+use lib.Dec.{eqb, ltb}
+use borrow.Author.Tests.{eq-eqb, ne_eqb, ltb-true, ltb-false}
 use Rattle.headers.specs.Rows.{is_octet, every, first_of}
 use Rattle.headers.specs.Numbers.{evaluate}
 use Rattle.headers.proofs.Rows.{every_left}
 use Rattle.headers.proofs.Numerals.{evaluate_snoc, evaluate_below}
 use Rattle.topics.specs.Lists.{Entry, Pair, before, records, is_some, listed, number_at, text_length, entry_format, pair_front, pair_format, pairs_in}
 use Rattle.topics.specs.Plans.{how_many}
-use Rattle.topics.specs.Places.{placed, Stood, entries, in_column}
+use Rattle.topics.specs.Places.{placed, Stood, NoRecord, entries}
+use Rattle.topics.specs.Waiting.{in_column, place_of}
+use Rattle.topics.specs.declared.list.Column.{Column}
+use Rattle.topics.specs.declared.list.Column.TheVariants.{Message, Subscription}
 use Rattle.topics.specs.declared.list.Record.{Record}
 use Rattle.topics.proofs.Lists.{place_step, place_none, place_end, whole_fits, some_before, listed_before}
 use Rattle.topics.proofs.Formats.{entry_of, entry_local, pair_local}
@@ -87,6 +89,17 @@ module _ (w : ℕ) (xs : List ℕ) (at : ℕ) where
         place_step (entry_format w) (entry_local w) xs at (omega (arith, s.size_is, s.inside.list_in))
         ∙ ap₂ (λ e k. before e (records (entry_format w) (drop k xs))) s.entry_is s.size_is
 
+-- where whole records are left, and no record is there, nothing is left
+pub ended : (w : ℕ) (xs : List ℕ) (at : ℕ) → is_some (records (entry_format w) (drop at xs)) ≡ true → NoRecord w xs at → length xs ≤ at
+ended w xs at whole h = by (ltb at (length xs)) refl
+  where
+    by : (t : Bool) → ltb at (length xs) ≡ t → length xs ≤ at
+    by false e = ltb-false at (length xs) e
+    by true e =
+        let below = ltb-true at (length xs) e in
+        let gone = ap is_some (place_none (entry_format w) (entry_local w) xs at below (h below)) in
+        cc
+
 -- ## The first record that passes a test
 
 -- no record before place at passes it
@@ -111,36 +124,40 @@ module _ (w : ℕ) (xs : List ℕ) (f : Entry → Bool) (at : ℕ) (p : Passed w
     pub passed_on : f (placed xs r) ≡ false → Passed w xs f r.next
     passed_on e = record { whole = whole_rest; first_is = first_here ∙ ap (λ t. cond t (some (placed xs r)) (first_of f (listed rest))) e }
 
-  pub first_none : length xs ≤ at → first_of f (entries w xs) ≡ none
+  first_none : length xs ≤ at → first_of f (entries w xs) ≡ none
   first_none h = p.first_is ∙ ap (λ o. first_of f (listed o)) (place_end (entry_format w) (entry_local w) xs at h)
 
-  pub never_malformed : at < length xs → length xs < at + (entry_format w).size (drop at xs) → ⊥
-  never_malformed h k =
-      let gone = ap is_some (place_none (entry_format w) (entry_local w) xs at h k) in
-      let whole = p.whole in
-      let z : ◌≡◌ {A = ℕ} 0 1 = cc in
-      omega arith
+  -- no whole record is left
+  pub first_end : NoRecord w xs at → first_of f (entries w xs) ≡ none
+  first_end h = first_none (ended w xs at p.whole h)
 
 -- ## Counting pairs
 
-pub column_is : (c : ℕ) → (c ≡ 0) ⊎ (c ≡ 4) → (ys : List ℕ) → in_column c (pair_front ys) ≡ number_at 4 ys c
-column_is c (inl e) ys = subst (λ k. in_column k (pair_front ys) ≡ number_at 4 ys k) (sym e) refl
-column_is c (inr e) ys = subst (λ k. in_column k (pair_front ys) ≡ number_at 4 ys k) (sym e) refl
+-- the number in a column, by its octets; p is where it begins
+pub column_is : (c : Column) (xs : List ℕ) (at p v : ℕ) → p ≡ place_of c → v ≡ evaluate 256 0 (take (at + p + 4 - (at + p)) (drop (at + p) xs))
+    → v ≡ in_column c (pair_front (drop at xs))
+column_is c xs at p v e is =
+    let four : at + p + 4 - (at + p) ≡ 4 = omega arith in
+    is ∙ ap (λ k. evaluate 256 0 (take k (drop (at + p) xs))) four ∙ sym (number_on 4 xs at p) ∙ by c e
+  where
+    by : (c : Column) → p ≡ place_of c → number_at 4 (drop at xs) p ≡ in_column c (pair_front (drop at xs))
+    by Message e = ap (number_at 4 (drop at xs)) e
+    by Subscription e = ap (number_at 4 (drop at xs)) e
 
-abbrev has : ℕ → ℕ → Pair → Bool
+abbrev has : Column → ℕ → Pair → Bool
 has c n p = eqb (in_column c p) n
 
 -- the pairs before place at are counted
-pub record Tallied (c n : ℕ) (xs : List ℕ) (at count : ℕ) : Type 0 where
+pub record Tallied (c : Column) (n : ℕ) (xs : List ℕ) (at count : ℕ) : Type 0 where
   pub whole : is_some (pairs_in (drop at xs)) ≡ true
   pub few : count ≤ at
   pub sum : count + how_many (has c n) (listed (pairs_in (drop at xs))) ≡ how_many (has c n) (listed (pairs_in xs))
 
-module _ (c n : ℕ) (xs : List ℕ) (at count : ℕ) (t : Tallied c n xs at count) where
+module _ (c : Column) (n : ℕ) (xs : List ℕ) (at count : ℕ) (t : Tallied c n xs at count) where
   pub tallied_end : length xs ≤ at → count ≡ how_many (has c n) (listed (pairs_in xs))
   tallied_end h = omega (arith, t.sum, ap (λ o. how_many (has c n) (listed o)) (place_end pair_format pair_local xs at h))
 
-  pub pair_fits : at < length xs → at + 8 ≤ length xs
+  pair_fits : at < length xs → at + 8 ≤ length xs
   pair_fits h = let long = length-drop at xs in omega (arith, whole_fits pair_format pair_local (drop at xs) t.whole (omega arith))
 
   module _ (h : at < length xs) where
@@ -156,18 +173,13 @@ module _ (c n : ℕ) (xs : List ℕ) (at count : ℕ) (t : Tallied c n xs at cou
     one_more : how_many (has c n) (listed (pairs_in (drop at xs))) ≡ cond (has c n (pair_front (drop at xs))) 1 0 + how_many (has c n) (listed pairs_left)
     one_more = ap (how_many (has c n)) (ap listed one_step ∙ listed_before (pair_front (drop at xs)) pairs_left whole_left)
 
-    module _ (column : (c ≡ 0) ⊎ (c ≡ 4)) (v : ℕ) (is : v ≡ evaluate 256 0 (take (at + c + 4 - (at + c)) (drop (at + c) xs))) where
-      value_here : in_column c (pair_front (drop at xs)) ≡ v
-      value_here =
-          let four : 4 ≡ at + c + 4 - (at + c) = omega arith in
-          column_is c column (drop at xs) ∙ number_on 4 xs at c ∙ ap (λ k. evaluate 256 0 (take k (drop (at + c) xs))) four ∙ sym is
-
+    module _ (v : ℕ) (is : v ≡ in_column c (pair_front (drop at xs))) where
       pub tallied_hit : v ≡ n → Tallied c n xs (at + 8) (count + 1)
       tallied_hit e =
-          let one : ◌≡◌ {A = ℕ} (cond (has c n (pair_front (drop at xs))) 1 0) 1 = ap (λ b. cond b 1 0) (eq-eqb (in_column c (pair_front (drop at xs))) n (value_here ∙ e)) in
+          let one : ◌≡◌ {A = ℕ} (cond (has c n (pair_front (drop at xs))) 1 0) 1 = ap (λ b. cond b 1 0) (eq-eqb (in_column c (pair_front (drop at xs))) n (sym is ∙ e)) in
           record { whole = whole_left; few = omega (arith, t.few); sum = omega (arith, t.sum, one_more) }
 
       pub tallied_miss : (v ≡ n → ⊥) → Tallied c n xs (at + 8) count
       tallied_miss ne =
-          let no : ◌≡◌ {A = ℕ} (cond (has c n (pair_front (drop at xs))) 1 0) 0 = ap (λ b. cond b 1 0) (ne_eqb (in_column c (pair_front (drop at xs))) n (λ e. ne (sym value_here ∙ e))) in
+          let no : ◌≡◌ {A = ℕ} (cond (has c n (pair_front (drop at xs))) 1 0) 0 = ap (λ b. cond b 1 0) (ne_eqb (in_column c (pair_front (drop at xs))) n (λ e. ne (is ∙ e))) in
           record { whole = whole_left; few = omega (arith, t.few); sum = omega (arith, t.sum, one_more) }

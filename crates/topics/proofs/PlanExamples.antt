@@ -4,7 +4,6 @@
 use mathlib.Core.Path.{◌≡◌, refl, sym, ◌∙◌, ap, subst}
 use mathlib.Core.List.{List, [], ◌∷◌, map}
 use Prim.Native.Nat.{ℕ}
-use native.Mathlib.Omega.{arith}
 use lib.ListN.{get_or, drop}
 use Rattle.headers.specs.Rows.{All}
 use Rattle.headers.specs.Parts.{split}
@@ -20,7 +19,7 @@ claims messages subscriptions plan = by (plan_answer messages subscriptions plan
   where
     by : (v : Verdict) → plan_answer messages subscriptions plan ≡ v → Claims v messages subscriptions plan
     by accepted e = is_acceptable messages subscriptions plan e
-    by (refusal k n) e = λ a. let other = sym e ∙ acceptable messages subscriptions plan a in let z : ◌≡◌ {A = ℕ} 0 1 = cc in omega arith
+    by (refusal k n) e = λ a. let other = sym e ∙ acceptable messages subscriptions plan a in cc
 
 abbrev answer : Example → Verdict
 answer e = plan_answer e.messages e.subscriptions e.plan

@@ -1,39 +1,30 @@
 -- Laws of words by their places. Assumes nothing.
---     same_one                                           a word of one octet
 --     steps, steps_long                                  one word on
---     ended, taken_in, taken_word, taken_rest            the words from word j on
---     count_long, counted_none, _more, _empty, _full     the number of words, counted one by one
---     no_words, noted_none, noted_more, noted_all        where the words begin, noted one by one
---     located_small, located_step, located_word          the word with a number, by where the words begin
---     malformed, formed, counted_formed                  what a count says
+--     taken_word, taken_rest                             the words from word j on
+--     count_long, well_short                             what is known of a well-formed text
+--     counted_none, _more, _empty, _full                 the number of words, counted one by one
+--     noted_none, noted_more, noted_all, noted_good      where the words begin, noted one by one
 --     bad_name, bad_pattern, answered                    what asking for a match answers
 --     rest_none, rest_hash_.., rest_word_..              whether the words that remain match
 use mathlib.Core.Path.{◌≡◌, refl, sym, ◌∙◌, ap, ap₂, subst}
 use mathlib.Core.Logic.{⊎_elim}
-use mathlib.Core.Bool.{Bool, true, false, cond, ◌&&◌, ◌||◌, not}
+use mathlib.Core.Bool.{Bool, true, false, ◌&&◌, ◌||◌, not}
 use mathlib.Core.List.{List, [], ◌∷◌}
 use Prim.Native.Nat.{ℕ, zero, suc, ◌+◌, ◌-◌, ◌≤◌, ◌<◌}
 use native.Mathlib.Nat.{eq-or-lt_of_le}
 use native.Mathlib.Omega.{arith}
-use lib.Dec.{eqb, ltb, leb}
-use lib.ListN.{length, take, drop, get_or, set, length-drop, length-set}
+use lib.Dec.{ltb, leb}
+use lib.ListN.{length, take, drop, get_or, set, replicate, length-drop, length-set, length-replicate}
 use lib.Seq.{get_or-drop, drop-drop, get_or-set_same, get_or-set_other}
-use borrow.Author.Tests.{eq-eqb, ne_eqb, le-leb, lt-leb, leb-true}
+use borrow.Author.Tests.{le-leb, lt-leb, leb-true}
 use Rattle.headers.specs.Rows.{empty, same}
 use Rattle.headers.specs.Answers.{accepted, refused}
-use Rattle.headers.proofs.Rows.{and_no, and_yes, and_left, refuted, same_eq}
+use Rattle.headers.proofs.Rows.{and_no, and_left, same_eq}
 use Rattle.headers.specs.Parts.{until, parts_from}
 use Rattle.topics.specs.Topics.{Word, words, no_word_empty, good_words, well_formed, hash, stands, matches, match_answer, yes_or_no}
-use Rattle.topics.specs.Rows.{word_at, Steps, Located, Splits}
+use Rattle.topics.specs.Rows.{word_at, Steps, Located}
 use Rattle.headers.proofs.Parts.{until_le, parts_step, parts_none, parts_all, empty_parts, some_part}
 use Rattle.topics.proofs.Matching.{hash_end, hash_more, word_end, word_more}
-
--- ## A word of one octet
-
-pub same_one : (xs : List ℕ) (c : ℕ) → length xs ≡ 1 → eqb (get_or xs 0 0) c ≡ same xs (c ∷ [])
-same_one [] c h = absurd (omega arith)
-same_one (x ∷ []) c h = sym (and_yes (eqb x c))
-same_one (x ∷ y ∷ xs) c h = absurd (omega arith)
 
 -- ## One word on
 
@@ -53,13 +44,7 @@ steps_long xs at next s = ap length s.parts
 -- ## The words from word j on
 
 module _ (ws : List Word) (j : ℕ) where
-  pub ended : drop j ws ≡ [] → length ws ≤ j
-  ended e = omega (arith, ap length e, length-drop j ws)
-
   module _ (w : Word) (more : List Word) (e : drop j ws ≡ w ∷ more) where
-    pub taken_in : j < length ws
-    taken_in = omega (arith, ap length e, length-drop j ws)
-
     pub taken_word : get_or ws j [] ≡ w
     taken_word =
         let at : j + 0 ≡ j = omega arith in
@@ -71,29 +56,25 @@ module _ (ws : List Word) (j : ℕ) where
 -- ## The number of words
 
 module _ (xs : List ℕ) where
-  abbrev pub count_of : ℕ
-  count_of = cond (well_formed xs) (length (words xs)) 0
-
-  none_counted : well_formed xs ≡ false → 0 ≡ count_of
-  none_counted h = sym (ap (λ t. cond t (length (words xs)) 0) h)
-
-  pub count_long : 256 < length xs → 0 ≡ count_of
+  pub count_long : 256 < length xs → well_formed xs ≡ false
   unfolding well_formed
-  count_long h = none_counted (rw (lt-leb (length xs) 256 h))
+  count_long h = rw (lt-leb (length xs) 256 h)
 
-  pub count_empty : no_word_empty (words xs) ≡ false → 0 ≡ count_of
+  count_empty : no_word_empty (words xs) ≡ false → well_formed xs ≡ false
   unfolding well_formed
-  count_empty h = none_counted (simp (h, and_no))
+  count_empty h = simp (h, and_no)
 
-  pub count_many : 32 < length (words xs) → 0 ≡ count_of
+  count_many : 32 < length (words xs) → well_formed xs ≡ false
   unfolding well_formed
-  count_many h = none_counted (simp (lt-leb (length (words xs)) 32 h, and_no))
+  count_many h = simp (lt-leb (length (words xs)) 32 h, and_no)
 
-  pub count_good : length xs ≤ 256 → length (words xs) ≤ 32 → no_word_empty (words xs) ≡ true → length (words xs) ≡ count_of
+  count_good : length xs ≤ 256 → length (words xs) ≤ 32 → no_word_empty (words xs) ≡ true → well_formed xs ≡ true
   unfolding well_formed
-  count_good a b e =
-      let good : well_formed xs ≡ true = simp (le-leb (length xs) 256 a, le-leb 1 (length (words xs)) (some_part 46 xs), le-leb (length (words xs)) 32 b, e) in
-      sym (ap (λ t. cond t (length (words xs)) 0) good)
+  count_good a b e = simp (le-leb (length xs) 256 a, le-leb 1 (length (words xs)) (some_part 46 xs), le-leb (length (words xs)) 32 b, e)
+
+  pub well_short : well_formed xs ≡ true → length xs ≤ 256
+  unfolding well_formed
+  well_short w = leb-true (length xs) 256 (and_left (leb (length xs) 256) (good_words (words xs)) w)
 
   -- what remains from a place on, when the words before it are counted and none of them is empty
   pub record Counted (at count : ℕ) : Type 0 where
@@ -116,20 +97,22 @@ module _ (xs : List ℕ) where
       some_octet : empty (word_at xs at next) ≡ false
       some_octet = front (next - 1 - at) (drop at xs) (omega (arith, s.forward)) (omega (arith, s.forward, s.within, length-drop at xs))
 
-  pub counted_empty : (at count next : ℕ) → Counted at count → Steps xs at next → next ≡ at + 1 → 0 ≡ count_of
+  pub counted_empty : (at count next : ℕ) → Counted at count → Steps xs at next → next ≡ at + 1 → well_formed xs ≡ false
   counted_empty at count next c s e =
       let none : next - 1 - at ≡ 0 = omega arith in
       count_empty (c.full ∙ ap no_word_empty s.parts ∙ ap (λ k. not (empty (take k (drop at xs))) && no_word_empty (parts_from 46 xs next)) none)
 
-  pub counted_full : (at count next : ℕ) → Counted at count → Steps xs at next → count ≡ 32 → 0 ≡ count_of
-  counted_full at count next c s e = count_many (omega (arith, c.sum, steps_long xs at next s))
+  pub counted_full : (at count : ℕ) → Counted at count → at ≤ length xs → 32 ≤ count → well_formed xs ≡ false
+  counted_full at count c h f =
+      let end = at + until 46 (drop at xs) in
+      count_many (omega (arith, c.sum, steps_long xs at (end + 1) (steps xs at end h refl)))
 
   module _ (at count : ℕ) (c : Counted at count) (h : length xs < at) where
     pub all_counted : count ≡ length (words xs)
     all_counted = omega (arith, c.sum, ap length (parts_none 46 xs at h))
 
-    pub counted_all : length xs ≤ 256 → count ≤ 32 → count ≡ count_of
-    counted_all a b = all_counted ∙ count_good a (omega (arith, all_counted)) (c.full ∙ ap no_word_empty (parts_none 46 xs at h))
+    pub counted_all : length xs ≤ 256 → count ≤ 32 → well_formed xs ≡ true
+    counted_all a b = count_good a (omega (arith, all_counted)) (c.full ∙ ap no_word_empty (parts_none 46 xs at h))
 
 -- ## Where the words begin
 
@@ -143,32 +126,25 @@ pub record Noted (xs : List ℕ) (at count : ℕ) (starts : List ℕ) : Type 0 w
   pub parts : (j : ℕ) → j ≤ count → parts_from 46 xs (get_or starts j 0) ≡ drop j (words xs)
   pub steps : (j : ℕ) → j < count → Steps xs (get_or starts j 0) (get_or starts (j + 1) 0)
 
-pub no_words : (xs starts : List ℕ) → 0 ≡ count_of xs → Splits xs starts 0
-no_words xs starts e = record { count = e; located = λ n. absurd (n refl) }
-
-module _ (xs starts : List ℕ) (h : length xs ≤ 256) (l : length starts ≡ 33) where
-  first_start : get_or (set starts 0 0) 0 0 ≡ 0
-  first_start = get_or-set_same starts 0 0 0 (omega arith)
-
-  pub noted_none : Noted xs 0 0 (set starts 0 0)
-  noted_none =
-      record {
-        short = h;
-        long = simp length-set l;
-        few = omega arith;
-        counted = counted_none xs;
-        here = first_start;
-        parts = first_parts;
-        steps = λ j b. absurd (omega arith);
-      }
-    where
-      first_parts : (j : ℕ) → j ≤ 0 → parts_from 46 xs (get_or (set starts 0 0) j 0) ≡ drop j (words xs)
-      first_parts zero b = ap (parts_from 46 xs) first_start ∙ parts_all 46 xs
-      first_parts (suc j) b = absurd (omega arith)
+pub noted_none : (xs : List ℕ) → length xs ≤ 256 → Noted xs 0 0 (replicate 33 0)
+noted_none xs h =
+    record {
+      short = h;
+      long = length-replicate {A = ℕ} 33 0;
+      few = omega arith;
+      counted = counted_none xs;
+      here = refl;
+      parts = first_parts;
+      steps = λ j b. absurd (omega arith);
+    }
+  where
+    first_parts : (j : ℕ) → j ≤ 0 → parts_from 46 xs (get_or (replicate 33 0) j 0) ≡ drop j (words xs)
+    first_parts zero b = parts_all 46 xs
+    first_parts (suc j) b = absurd (omega arith)
 
 module _ (xs : List ℕ) (at count : ℕ) (starts : List ℕ) (n : Noted xs at count starts) where
   -- one word more
-  module _ (next : ℕ) (s : Steps xs at next) (room : count ≡ 32 → ⊥) (some_octet : next ≡ at + 1 → ⊥) where
+  module _ (next : ℕ) (s : Steps xs at next) (room : count < 32) (some_octet : next ≡ at + 1 → ⊥) where
     abbrev with_next : List ℕ
     with_next = set starts (count + 1) next
 
@@ -211,54 +187,12 @@ module _ (xs : List ℕ) (at count : ℕ) (starts : List ℕ) (n : Noted xs at c
             (λ q. subst (λ i. Steps xs i (get_or with_next (j + 1) 0)) (sym (same_start j to)) (subst (Steps xs (get_or starts j 0)) (sym (same_start (j + 1) (omega arith))) (n.steps j q)))
             (eq-or-lt_of_le to)
 
-  pub noted_all : length xs < at → Splits xs starts count
-  noted_all h =
-      record {
-        count = counted_all xs at count n.counted h n.short n.few;
-        located = λ e. record { short = n.short; long = n.long; few = n.few; number = sym (all_counted xs at count n.counted h); parts = n.parts; steps = n.steps };
-      }
+  module _ (h : length xs < at) where
+    pub noted_all : Located xs starts count
+    noted_all = record { short = n.short; long = n.long; few = n.few; number = sym (all_counted xs at count n.counted h); parts = n.parts; steps = n.steps }
 
--- the places are small
-pub located_small : (xs starts : List ℕ) (n : ℕ) (l : Located xs starts n) (k : ℕ) → k < n → (get_or starts k 0 ≤ 257) × (get_or starts (k + 1) 0 ≤ 257)
-located_small xs starts n l k h =
-    let s = l.steps k h in
-    (omega (arith, s.forward, s.within, l.short), omega (arith, s.within, l.short))
-
--- word k of a text, and those after it
-module _ (xs starts : List ℕ) (n : ℕ) (l : Located xs starts n) (k j : ℕ) (is : j ≡ k + 1) (h : k < n) where
-  pub located_step : Steps xs (get_or starts k 0) (get_or starts j 0)
-  located_step = subst (λ i. Steps xs (get_or starts k 0) (get_or starts i 0)) (sym is) (l.steps k h)
-
-  pub located_word : drop k (words xs) ≡ word_at xs (get_or starts k 0) (get_or starts j 0) ∷ drop j (words xs)
-  located_word = sym (l.parts k (omega arith)) ∙ located_step.parts ∙ ap (word_at xs (get_or starts k 0) (get_or starts j 0) ∷◌) (l.parts j (omega arith))
-
--- what a count says: 0 that the text is malformed, another that it is not
-pub record Formed (xs : List ℕ) (n : ℕ) : Type 0 where
-  pub well : well_formed xs ≡ true
-  pub short : length xs ≤ 256
-
-module _ (xs : List ℕ) (n : ℕ) (is : n ≡ count_of xs) where
-  pub well_count : well_formed xs ≡ true → n ≡ 0 → ⊥
-  well_count w e = omega (arith, is, ap (λ t. cond t (length (words xs)) 0) w, some_part 46 xs)
-
-  pub malformed : n ≡ 0 → well_formed xs ≡ false
-  malformed e = refuted (well_formed xs) (λ w. well_count w e)
-
-  pub formed : (n ≡ 0 → ⊥) → Formed xs n
-  unfolding well_formed
-  formed ne = by (well_formed xs) refl
-    where
-      by : (t : Bool) → well_formed xs ≡ t → Formed xs n
-      by false w = absurd (ne (is ∙ ap (λ t. cond t (length (words xs)) 0) w))
-      by true w =
-          record { well = w; short = leb-true (length xs) 256 (and_left (leb (length xs) 256) (good_words (words xs)) w) }
-
-  pub counted_formed : not (eqb n 0) ≡ well_formed xs
-  counted_formed = by (well_formed xs) refl
-    where
-      by : (t : Bool) → well_formed xs ≡ t → not (eqb n 0) ≡ t
-      by false w = ap not (eq-eqb n 0 (is ∙ ap (λ t. cond t (length (words xs)) 0) w))
-      by true w = ap not (ne_eqb n 0 (well_count w))
+    pub noted_good : well_formed xs ≡ true
+    noted_good = counted_all xs at count n.counted h n.short n.few
 
 -- ## What asking for a match answers
 

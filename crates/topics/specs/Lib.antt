@@ -5,5 +5,6 @@ pub mod Examples
 pub mod Lists
 pub mod Plans
 pub mod Places
+pub mod Waiting
 pub mod Ascending
 pub mod PlanExamples

@@ -1,11 +1,14 @@
 -- Plans for handing out queued messages (request C-24). Assumes nothing.
-use Rattle.std.specs.Prelude.{◌≡◌, Bool, true, false, cond, ◌&&◌, not, List, [], ◌∷◌, ◌++◌, ℕ, ◌+◌, ◌*◌, ◌/◌, ◌%◌, ◌≤◌, length, eqb, ltb}
+use Rattle.std.specs.Prelude.{◌≡◌, Bool, true, false, cond, ◌&&◌, not, List, [], ◌∷◌, ◌++◌, ℕ, ◌+◌, ◌*◌, ◌/◌, ◌%◌, ◌≤◌, length, eqb, ltb, ⊤, Result, Ok, Err}
 use Rattle.std.proofs.Math.Option.{Option, none, some}
 use Rattle.headers.specs.Rows.{every, any, first_of, All}
 use Rattle.headers.specs.Answers.{Answer, Check, settle}
 use Rattle.topics.specs.Topics.{words, well_formed, Matches, matches}
 use Rattle.topics.specs.Lists.{Entry, Pair, messages_in, subscriptions_in, pairs_in}
-use Rattle.topics.specs.declared.plan.PlanAnswer.{PlanAnswer}
+use Rattle.topics.specs.declared.plan.PairFault.{PairFault}
+use Rattle.topics.specs.declared.plan.PairFault.TheVariants.{UnknownMessage, MessageAgain, NotMatching, OverRoom}
+use Rattle.topics.specs.declared.plan.PlanError.{PlanError}
+use Rattle.topics.specs.declared.plan.PlanError.TheVariants.{TooManyPairs, Malformed, BadPair, LeftOut}
 
 -- What is answered: accepted, or refused with a number and what it names: a pair, from 0, a message by its number, or nothing (0).
 pub data Verdict : Type 0 where
@@ -136,12 +139,29 @@ pub record Acceptable (messages subscriptions plan : List ℕ) : Type 0 where
 
 -- ## What the code's answer says, and its packed number
 
-abbrev pub plan_says : PlanAnswer → Verdict
-plan_says PlanAnswer.Accepted = accepted
-plan_says PlanAnswer.TooManyPairs = refusal 101 0
-plan_says PlanAnswer.Malformed = refusal 102 0
-plan_says (PlanAnswer.BadPair f) = refusal f.code f.index
-plan_says (PlanAnswer.LeftOut n) = refusal 100 n
+-- the number of what is wrong with a pair
+abbrev pub fault_number : PairFault → ℕ
+fault_number UnknownMessage = 96
+fault_number MessageAgain = 97
+fault_number NotMatching = 98
+fault_number OverRoom = 99
+
+-- the number of a refusal, and what it names
+abbrev pub plan_number : PlanError → ℕ
+plan_number TooManyPairs = 101
+plan_number Malformed = 102
+plan_number (BadPair f) = fault_number f.reason
+plan_number (LeftOut n) = 100
+
+abbrev pub plan_names : PlanError → ℕ
+plan_names TooManyPairs = 0
+plan_names Malformed = 0
+plan_names (BadPair f) = f.index
+plan_names (LeftOut n) = n
+
+abbrev pub plan_says : Result ⊤ PlanError → Verdict
+plan_says (Ok u) = accepted
+plan_says (Err e) = refusal (plan_number e) (plan_names e)
 
 -- the answer of stomp_check_plan: 0, or 2^32 times the number of a refusal and what it names; and read back
 abbrev pub packed_plan : Verdict → ℕ

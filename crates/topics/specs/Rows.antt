@@ -1,7 +1,7 @@
 -- Words by their places, and the row of answers that the second matcher fills. Assumes nothing.
-use Rattle.std.specs.Prelude.{◌≡◌, Bool, false, cond, List, ◌∷◌, ℕ, ◌+◌, ◌-◌, ◌≤◌, ◌<◌, length, take, drop, get_or}
+use Rattle.std.specs.Prelude.{◌≡◌, Bool, false, List, ◌∷◌, ℕ, ◌+◌, ◌-◌, ◌≤◌, ◌<◌, length, take, drop, get_or}
 use Rattle.headers.specs.Parts.{parts_from}
-use Rattle.topics.specs.Topics.{Word, words, well_formed, matches}
+use Rattle.topics.specs.Topics.{Word, words, matches}
 
 -- the word at a place, where next is the place after the point that ends it
 abbrev pub word_at : List ℕ → ℕ → ℕ → Word
@@ -21,11 +21,6 @@ pub record Located (xs starts : List ℕ) (n : ℕ) : Type 0 where
   pub number : length (words xs) ≡ n
   pub parts : (j : ℕ) → j ≤ n → parts_from 46 xs (get_or starts j 0) ≡ drop j (words xs)
   pub steps : (j : ℕ) → j < n → Steps xs (get_or starts j 0) (get_or starts (j + 1) 0)
-
--- n is the number of words, 0 where the name or pattern is malformed; else they begin at these places
-pub record Splits (xs starts : List ℕ) (n : ℕ) : Type 0 where
-  pub count : n ≡ cond (well_formed xs) (length (words xs)) 0
-  pub located : (n ≡ 0 → ⊥) → Located xs starts n
 
 -- entry k of a row says whether the words ps of a pattern match the words of a name from word k on
 abbrev pub Row : List Word → List Word → List Bool → Type 0

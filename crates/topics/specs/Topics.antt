@@ -3,7 +3,9 @@ use Rattle.std.specs.Prelude.{◌≡◌, Bool, true, false, cond, ◌&&◌, ◌|
 use Rattle.headers.specs.Rows.{octets_of, empty, every, same}
 use Rattle.headers.specs.Parts.{split}
 use Rattle.headers.specs.Answers.{Answer, Check, settle}
-use Rattle.topics.specs.declared.pattern.Match.{Match}
+use Rattle.std.specs.Prelude.{Result, Ok, Err}
+use Rattle.topics.specs.declared.pattern.MatchError.{MatchError}
+use Rattle.topics.specs.declared.pattern.MatchError.TheVariants.{BadName, BadPattern}
 
 -- ---- Names and patterns
 
@@ -78,11 +80,14 @@ yes_or_no false = 0
 unfoldable pub match_answer : List ℕ → List ℕ → Answer
 match_answer name pattern = settle (match_checks name pattern) (yes_or_no (matches (words pattern) (words name)) ∷ [])
 
-abbrev pub match_says : Match → Answer
-match_says Match.Yes = Answer.accepted (1 ∷ [])
-match_says Match.No = Answer.accepted (0 ∷ [])
-match_says Match.BadName = Answer.refused 80
-match_says Match.BadPattern = Answer.refused 81
+-- the number of a refusal, and what the code's answer says
+abbrev pub match_number : MatchError → ℕ
+match_number BadName = 80
+match_number BadPattern = 81
+
+abbrev pub match_says : Result Bool MatchError → Answer
+match_says (Ok t) = Answer.accepted (yes_or_no t ∷ [])
+match_says (Err e) = Answer.refused (match_number e)
 
 -- The answer of stomp_match: 1 or 0, or 65,536 times the number of a refusal; and read back.
 abbrev pub packed_match : Answer → ℕ

@@ -3,8 +3,10 @@ ghost use Rattle.std.specs.Prelude.{◌≡◌};
 ghost use Rattle.topics.specs.Topics.{match_answer, packed_match, unpacked_match};
 ghost use Rattle.topics.specs.Plans.{plan_answer, packed_plan, unpacked_plan};
 
-use crate::pattern::Match;
-use crate::plan::PlanAnswer;
+// What a refusal's number is multiplied by.
+const MATCH_REFUSED: u64 = 65536;
+
+const PLAN_REFUSED: u64 = 4294967296;
 
 // What matches answers, in one number; it reads back.
 pub fn stomp_match(name: &[u8], pattern: &[u8]) -> u64
@@ -12,10 +14,8 @@ pub fn stomp_match(name: &[u8], pattern: &[u8]) -> u64
         × (unpacked_match result ≡ match_answer name.now pattern.now) }
 {
     match crate::pattern::matches(name, pattern) {
-        Match::Yes => 1,
-        Match::No => 0,
-        Match::BadName => 65536 * Match::BAD_NAME,
-        Match::BadPattern => 65536 * Match::BAD_PATTERN,
+        Ok(yes) => u64::from(yes),
+        Err(e) => MATCH_REFUSED * u64::from(e.number()),
     }
 }
 
@@ -25,10 +25,7 @@ pub fn stomp_check_plan(messages: &[u8], subscriptions: &[u8], plan: &[u8]) -> u
         × (unpacked_plan result ≡ plan_answer messages.now subscriptions.now plan.now) }
 {
     match crate::plan::check_plan(messages, subscriptions, plan) {
-        PlanAnswer::Accepted => 0,
-        PlanAnswer::TooManyPairs => 4294967296 * (PlanAnswer::TOO_MANY_PAIRS as u64),
-        PlanAnswer::Malformed => 4294967296 * (PlanAnswer::MALFORMED as u64),
-        PlanAnswer::BadPair(f) => 4294967296 * (f.code as u64) + (f.index as u64),
-        PlanAnswer::LeftOut(n) => 4294967296 * (PlanAnswer::LEFT_OUT as u64) + (n as u64),
+        Ok(()) => 0,
+        Err(e) => PLAN_REFUSED * u64::from(e.number()) + u64::from(e.names()),
     }
 }

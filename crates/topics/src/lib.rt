@@ -8,6 +8,6 @@ mod numbers; // whether a number is twice in a list
 pub mod plan; // whether a plan hands out the waiting messages as it should
 pub mod exports; // the calls for C
 
-pub use pattern::{Match, matches};
-pub use plan::{Fault, PAIRS_MAX, PlanAnswer, check_plan};
+pub use pattern::{MatchError, matches};
+pub use plan::{Fault, PAIRS_MAX, PairFault, PlanError, check_plan};
 pub use word::{OCTETS_MAX, WORDS_MAX};

@@ -1,9 +1,8 @@
 // Lists of records: messages, subscriptions and pairs.
-ghost use Rattle.std.specs.Prelude.{◌≡◌, true, ◌⊎◌, ◌≤◌, ◌<◌, length, eqb};
+ghost use Rattle.std.specs.Prelude.{◌≡◌, ℕ, Bool, true, ◌+◌, ◌*◌, ◌/◌, ◌%◌, ◌≤◌, ◌<◌, length, take, drop, eqb, is_ok, IfOk};
 ghost use Rattle.headers.specs.Numbers.{evaluate};
-ghost use Rattle.topics.specs.Lists.{entry_format, records, is_some, listed, pairs_in};
+ghost use Rattle.topics.specs.Lists.{entry_format, records, is_some, listed, pair_front, pairs_in};
 ghost use Rattle.topics.specs.Plans.{is_valid, how_many};
-ghost use Rattle.topics.specs.Places.{Standing, Finds, Reads, raised, in_column};
 
 // A number has four octets; with the length of its text, a record's first six.
 const NUMBER: usize = 4;
@@ -15,12 +14,12 @@ pub(crate) const NO_ROOM: usize = 0;
 
 pub(crate) const ROOM: usize = 4;
 
-// A pair has eight octets: the message's number, and from this column on the subscription's.
-pub(crate) const MESSAGE: usize = 0;
-
-pub(crate) const SUBSCRIPTION: usize = 4;
-
+// A pair has eight octets: the message's number, and then the subscription's.
 pub(crate) const PAIR: usize = 8;
+
+// Octets that are not whole records, or whose numbers or texts are not as they should be.
+#[derive(Clone, Copy)]
+pub(crate) struct Malformed;
 
 // A message or a subscription: its number, where its text is, its room, and where the next record begins.
 #[derive(Clone, Copy)]
@@ -32,174 +31,229 @@ pub(crate) struct Record {
     pub next: usize,
 }
 
-// What is at a place of a list: a whole record, nothing more, or no record.
+// Octets to be read as records whose rooms have width octets.
 #[derive(Clone, Copy)]
-pub(crate) enum RecordAt {
-    Record(Record),
-    End,
-    Malformed,
+pub(crate) struct Records<'a> {
+    pub octets: &'a [u8],
+    pub width: usize,
+    pub ghost narrow: { width ≤ 4 },
 }
 
-// What reading a list finds: that it is no list of records with well-formed texts; that it is, with numbers in ascending order; or that
-// it is, with numbers in another order.
+// A list of whole records with no number twice and each text well formed.
 #[derive(Clone, Copy)]
-enum Reading {
-    Malformed,
-    Ascending,
-    Mixed,
+pub(crate) struct ValidList<'a> {
+    pub list: Records<'a>,
+    pub ghost valid: { is_valid (records (entry_format list.width) list.octets.now) ≡ true },
 }
 
-// What looking a number up finds.
+// Which number of a pair is meant.
 #[derive(Clone, Copy)]
-pub(crate) enum Lookup {
-    At(Record),
-    Absent,
+pub(crate) enum Column {
+    Message,
+    Subscription,
 }
 
-fn wide(x: u8) -> usize
-    ensures { (result ≡ x) × (result < 256) }
-{
-    x as usize
+// Whole pairs.
+#[derive(Clone, Copy)]
+pub(crate) struct Pairs<'a> {
+    pub octets: &'a [u8],
+    pub ghost whole: { length octets.now % 8 ≡ 0 },
 }
 
 // The number in up to four octets, high first.
-pub(crate) fn value(octets: &[u8]) -> usize
+fn value(octets: &[u8]) -> usize
     requires { length octets.now ≤ 4 }
     ensures { (result ≡ evaluate 256 0 octets.now) × (result < 4294967296) }
 {
     let mut n = 0usize;
-    let mut i = 0usize;
-    while i < octets.len() {
-        n = n * 256 + wide(octets[i]);
-        i += 1;
+    for x in octets {
+        n = n * 256 + usize::from(*x);
     }
     n
 }
 
-// The record at a place, whose room has width octets.
-pub(crate) fn record_at(list: &[u8], at: usize, width: usize) -> RecordAt
-    requires { width ≤ 4 }
-    ensures { Standing width list.now at result }
-{
-    if list.len() <= at {
-        return RecordAt::End;
-    }
-    let left = list.len() - at;
-    if left < FRONT {
-        return RecordAt::Malformed;
-    }
-    let half = at + NUMBER;
-    let from = at + FRONT;
-    let text = value(&list[half..from]);
-    if left < FRONT + text + width {
-        return RecordAt::Malformed;
-    }
-    let to = from + text;
-    let next = to + width;
-    RecordAt::Record(Record {
-        number: value(&list[at..half]),
-        from,
-        to,
-        room: value(&list[to..next]),
-        next,
-    })
-}
+impl<'a> Records<'a> {
+    ghost use Rattle.topics.specs.Places.{Standing, Stands, Reads};
 
-// The first record of a number.
-pub(crate) fn find(list: &[u8], width: usize, number: usize) -> Lookup
-    requires { (width ≤ 4) × (is_some (records (entry_format width) list.now) ≡ true) }
-    ensures { Finds width list.now number result }
-{
-    let mut at = 0usize;
-    loop {
-        match record_at(list, at, width) {
-            RecordAt::Record(r) => {
-                if r.number == number {
-                    return Lookup::At(r);
-                }
-                at = r.next;
+    // The record at a place; none where nothing is left.
+    fn record_at(&self, at: usize) -> Result<Option<Record>, Malformed>
+        ensures { Standing self.now.width self.now.octets.now at result }
+    {
+        if self.octets.len() <= at {
+            return Ok(None);
+        }
+        let left = self.octets.len() - at;
+        if left < FRONT {
+            return Err(Malformed);
+        }
+        let half = at + NUMBER;
+        let from = at + FRONT;
+        let text = value(&self.octets[half..from]);
+        if left < FRONT + text + self.width {
+            return Err(Malformed);
+        }
+        let to = from + text;
+        let next = to + self.width;
+        Ok(Some(Record {
+            number: value(&self.octets[at..half]),
+            from,
+            to,
+            room: value(&self.octets[to..next]),
+            next,
+        }))
+    }
+
+    // The record at a place; none where no whole one is there.
+    pub fn record_from(&self, at: usize) -> Option<Record>
+        ensures { Stands self.now.width self.now.octets.now at result }
+    {
+        self.record_at(at).unwrap_or(None)
+    }
+
+    // Whether each number is above the one before it, in a list of whole records with well-formed texts.
+    fn is_ascending(&self) -> Result<bool, Malformed>
+        ensures { Reads (records (entry_format self.now.width) self.now.octets.now) result }
+    {
+        let mut at = 0usize;
+        let mut above = 0usize;
+        let mut ascending = true;
+        while let Some(r) = self.record_at(at)? {
+            if !crate::word::is_well_formed(&self.octets[r.from..r.to]) {
+                return Err(Malformed);
             }
-            RecordAt::End => {
-                return Lookup::Absent;
-            }
-            RecordAt::Malformed => {
-                return Lookup::Absent;
-            }
+            ascending = ascending & (above <= r.number);
+            above = r.number + 1;
+            at = r.next;
+        }
+        Ok(ascending)
+    }
+
+    // Whether a list is whole records with no number twice and each text well formed. Numbers in ascending order take one pass.
+    fn is_valid(&self) -> bool
+        ensures { result ≡ is_valid (records (entry_format self.now.width) self.now.octets.now) }
+    {
+        let Ok(ascending) = self.is_ascending() else {
+            return false;
+        };
+        ascending || crate::numbers::is_distinct(self)
+    }
+
+    // The list, where it is a valid one.
+    pub fn validated(&self) -> Result<ValidList<'a>, Malformed>
+        ensures valid { is_ok result ≡ is_valid (records (entry_format self.now.width) self.now.octets.now) }
+        ensures same { IfOk result (λ v. (v.list.octets.now ≡ self.now.octets.now) × (v.list.width ≡ self.now.width)) }
+    {
+        if self.is_valid() {
+            Ok(ValidList { list: *self })
+        } else {
+            Err(Malformed)
         }
     }
 }
 
-// A number above all others, which says that numbers were not in ascending order.
-const MIXED: usize = 4294967297;
+impl<'a> ValidList<'a> {
+    ghost use Rattle.topics.specs.Waiting.{IsTest, FirstOf, has_none};
 
-// The number after this one, where all before it are below above; or MIXED, which stays.
-fn raise(above: usize, number: usize) -> usize
-    requires { number < 4294967296 }
-    ensures { result ≡ raised above number }
-{
-    if above <= number {
-        return number + 1;
+    // The first record whose number passes a test.
+    fn first<F: Fn(usize) -> bool>(&self, test: F) -> Option<Record>
+        requires { F.IsAlwaysCallable test }
+        ensures { (f : ℕ → Bool) → IsTest (F.post test) f → FirstOf f self.now result }
+    {
+        let mut at = 0usize;
+        while let Some(r) = self.list.record_from(at) {
+            if test(r.number) {
+                return Some(r);
+            }
+            at = r.next;
+        }
+        None
     }
-    MIXED
+
+    // The first record of a number.
+    pub fn find(&self, number: usize) -> Option<Record>
+        ensures { FirstOf (λ n. eqb n number) self.now result }
+    {
+        self.first(|n| n == number)
+    }
+
+    // The first message that no pair has.
+    pub fn left_out(&self, plan: &Pairs<'_>) -> Option<Record>
+        ensures { FirstOf (has_none (listed (pairs_in plan.now.octets.now))) self.now result }
+    {
+        self.first(
+            |n: usize| -> bool
+                ensures { result ≡ has_none (listed (pairs_in plan.entry.now.octets.now)) n }
+            { plan.count(Column::Message, n) == 0 },
+        )
+    }
 }
 
-// Whether a list is whole records with well-formed texts, and if so, whether each number is above the one before it.
-fn read_list(list: &[u8], width: usize) -> Reading
-    requires { width ≤ 4 }
-    ensures { Reads (records (entry_format width) list.now) result }
-{
-    let mut at = 0usize;
-    let mut above = 0usize;
-    loop {
-        match record_at(list, at, width) {
-            RecordAt::Record(r) => {
-                let from = r.from;
-                let to = r.to;
-                if !crate::word::is_well_formed(&list[from..to]) {
-                    return Reading::Malformed;
-                }
-                above = raise(above, r.number);
-                at = r.next;
-            }
-            RecordAt::End => {
-                if above == MIXED {
-                    return Reading::Mixed;
-                }
-                return Reading::Ascending;
-            }
-            RecordAt::Malformed => {
-                return Reading::Malformed;
-            }
+impl Column {
+    ghost use Rattle.topics.specs.Waiting.{place_of};
+
+    // Where the number begins in a pair.
+    fn place(self) -> usize
+        ensures { (result ≡ place_of self) × (result ≤ 4) }
+    {
+        match self {
+            Column::Message => 0,
+            Column::Subscription => NUMBER,
         }
     }
 }
 
-// Whether a list is whole records with no number twice and each text well formed. Numbers in ascending order take one pass.
-pub(crate) fn is_valid_list(list: &[u8], width: usize) -> bool
-    requires { width ≤ 4 }
-    ensures { result ≡ is_valid (records (entry_format width) list.now) }
-{
-    match read_list(list, width) {
-        Reading::Malformed => false,
-        Reading::Ascending => true,
-        Reading::Mixed => crate::numbers::is_distinct(list, width),
-    }
-}
+impl<'a> Pairs<'a> {
+    ghost use Rattle.topics.specs.Waiting.{in_column};
 
-// How many pairs have a number in a column, which begins at 0 or 4.
-pub(crate) fn count(pairs: &[u8], column: usize, number: usize) -> usize
-    requires { ((column ≡ 0) ⊎ (column ≡ 4)) × (is_some (pairs_in pairs.now) ≡ true) }
-    ensures { result ≡ how_many (λ p. eqb (in_column column p) number) (listed (pairs_in pairs.now)) }
-{
-    let mut n = 0usize;
-    let mut at = 0usize;
-    while at < pairs.len() {
-        let from = at + column;
+    // The octets as pairs, where they are whole ones.
+    pub fn new(octets: &'a [u8]) -> Result<Pairs<'a>, Malformed>
+        ensures whole { is_ok result ≡ is_some (pairs_in octets.now) }
+        ensures same { IfOk result (λ p. p.octets.now ≡ octets.now) }
+    {
+        if octets.len() % PAIR == 0 {
+            Ok(Pairs { octets })
+        } else {
+            Err(Malformed)
+        }
+    }
+
+    // How many they are.
+    pub fn len(&self) -> usize
+        ensures { result ≡ length self.now.octets.now / 8 }
+    {
+        self.octets.len() / PAIR
+    }
+
+    // The pairs before pair k.
+    pub fn before(&self, k: usize) -> Pairs<'a>
+        requires { k * 8 ≤ length self.now.octets.now }
+        ensures { result.octets.now ≡ take (k * 8) self.now.octets.now }
+    {
+        Pairs {
+            octets: &self.octets[..k * PAIR],
+        }
+    }
+
+    // A number of pair k.
+    pub fn number(&self, k: usize, column: Column) -> usize
+        requires { k * 8 + 8 ≤ length self.now.octets.now }
+        ensures { (result ≡ in_column column (pair_front (drop (k * 8) self.now.octets.now))) }
+    {
+        let from = k * PAIR + column.place();
         let to = from + NUMBER;
-        if value(&pairs[from..to]) == number {
-            n += 1;
-        }
-        at += PAIR;
+        value(&self.octets[from..to])
     }
-    n
+
+    // How many pairs have a number in a column.
+    pub fn count(&self, column: Column, number: usize) -> usize
+        ensures { result ≡ how_many (λ p. eqb (in_column column p) number) (listed (pairs_in self.now.octets.now)) }
+    {
+        let mut n = 0usize;
+        for k in 0..self.len() {
+            if self.number(k, column) == number {
+                n += 1;
+            }
+        }
+        n
+    }
 }

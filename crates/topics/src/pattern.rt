@@ -2,23 +2,28 @@
 ghost use Rattle.std.specs.Prelude.{◌≡◌, false, List, ◌≤◌, length};
 ghost use Rattle.headers.specs.Rows.{same};
 ghost use Rattle.headers.specs.Parts.{parts_from};
-ghost use Rattle.topics.specs.Topics.{Word, words, hash, matches as matching, match_answer, match_says};
-ghost use Rattle.topics.specs.Rows.{Located, Next};
+ghost use Rattle.topics.specs.Topics.{Word, words, hash, matches as matching, match_answer, match_says, match_number};
+ghost use Rattle.topics.specs.Rows.{Next};
 
-// What asking for a match gives: whether the pattern matches, or that the name (80) or the pattern (81) is malformed.
+use crate::word::{PLACES, Words};
+
+// Why asking for a match is refused: the name is malformed (80), or the pattern (81).
 #[derive(Clone, Copy)]
-pub enum Match {
-    Yes,
-    No,
+pub enum MatchError {
     BadName,
     BadPattern,
 }
 
-// The numbers of its refusals.
-impl Match {
-    pub const BAD_NAME: u64 = 80;
-
-    pub const BAD_PATTERN: u64 = 81;
+impl MatchError {
+    // Its number.
+    pub fn number(self) -> u32
+        ensures { result ≡ match_number self }
+    {
+        match self {
+            MatchError::BadName => 80,
+            MatchError::BadPattern => 81,
+        }
+    }
 }
 
 // The plain form: whether the words of a pattern from place p on match those of a name from place n on. From a place after the end
@@ -31,7 +36,8 @@ fn match_rest(pattern: &[u8], p: usize, name: &[u8], n: usize) -> bool
         return name.len() < n;
     }
     let after = crate::word::next_word(pattern, p);
-    if crate::word::is_hash_at(pattern, p, after) {
+    let word = crate::word::word_between(pattern, p, after);
+    if crate::word::is_hash(word) {
         if match_rest(pattern, after, name, n) {
             return true;
         }
@@ -44,7 +50,8 @@ fn match_rest(pattern: &[u8], p: usize, name: &[u8], n: usize) -> bool
         return false;
     }
     let next = crate::word::next_word(name, n);
-    if !crate::word::stands_at(pattern, p, after, name, n, next) {
+    let other = crate::word::word_between(name, n, next);
+    if !crate::word::stands_for(word, other) {
         return false;
     }
     match_rest(pattern, after, name, next)
@@ -52,101 +59,72 @@ fn match_rest(pattern: &[u8], p: usize, name: &[u8], n: usize) -> bool
 
 // The plain form of matches. It tries one way after another to share the name's words out among the `#`, which can take very long, so
 // callers get matches, which meets the same contract.
-fn matches_plainly(name: &[u8], pattern: &[u8]) -> Match
+fn matches_plainly(name: &[u8], pattern: &[u8]) -> Result<bool, MatchError>
     ensures { match_says result ≡ match_answer name.now pattern.now }
 {
-    let mut starts = [0u16; 33];
-    if crate::word::find_words(name, &mut starts) == 0 {
-        return Match::BadName;
+    if !crate::word::is_well_formed(name) {
+        return Err(MatchError::BadName);
     }
-    if crate::word::find_words(pattern, &mut starts) == 0 {
-        return Match::BadPattern;
+    if !crate::word::is_well_formed(pattern) {
+        return Err(MatchError::BadPattern);
     }
-    if match_rest(pattern, 0, name, 0) {
-        return Match::Yes;
-    }
-    Match::No
+    Ok(match_rest(pattern, 0, name, 0))
 }
 
 // The row with `#` before its words; the name has n words.
-fn put_hash(row: &mut [bool], n: usize)
-    requires { (length row.old ≡ 33) × (n ≤ 32) }
+fn put_hash(row: &mut [bool; PLACES], n: usize)
+    requires { n ≤ 32 }
     ensures { (ws : List Word) → length ws ≡ n → Next hash ws row.old row.new }
 {
-    let mut j = n;
-    while 0 < j {
-        let k = j;
-        j -= 1;
-        row[j] = row[j] | row[k];
+    for j in (0..n).rev() {
+        row[j] = row[j] | row[j + 1];
     }
 }
 
 // The row with a word that is not `#` before its words. Words of the name are compared only where the words after them match.
-fn put_word(row: &mut [bool], word: &[u8], name: &[u8], n: usize, starts: &[u16])
-    requires { (length row.old ≡ 33) × (same word.now hash ≡ false) × Located name.now starts.now n }
-    ensures { Next word.now (words name.now) row.old row.new }
+fn put_word(row: &mut [bool; PLACES], word: &[u8], name: &Words<'_>)
+    requires { same word.now hash ≡ false }
+    ensures { Next word.now (words name.now.text.now) row.old row.new }
 {
-    let mut j = 0usize;
-    while j < n {
-        let k = j + 1;
-        row[j] = crate::word::stands_before(
-            row[k],
-            word,
-            name,
-            starts[j] as usize,
-            starts[k] as usize,
-        );
-        j = k;
+    for j in 0..name.count {
+        row[j] = row[j + 1] && crate::word::stands_for(word, name.word(j));
     }
-    row[j] = false;
+    row[name.count] = false;
 }
 
 // The row with any word before its words.
-fn put_any(row: &mut [bool], word: &[u8], name: &[u8], n: usize, starts: &[u16])
-    requires { (length row.old ≡ 33) × Located name.now starts.now n }
-    ensures { Next word.now (words name.now) row.old row.new }
+fn put_any(row: &mut [bool; PLACES], word: &[u8], name: &Words<'_>)
+    ensures { Next word.now (words name.now.text.now) row.old row.new }
 {
-    if crate::word::is_octet(word, crate::word::HASH) {
-        put_hash(row, n);
-        return;
+    if crate::word::is_hash(word) {
+        put_hash(row, name.count);
+    } else {
+        put_word(row, word, name);
     }
-    put_word(row, word, name, n, starts);
 }
 
 // The second form: a row of answers, filled word by word from the pattern's last. Entry k says whether the words passed match those of
 // the name from word k on.
-fn match_row(pattern: &[u8], m: usize, parts: &[u16], name: &[u8], n: usize, starts: &[u16]) -> bool
-    requires { Located pattern.now parts.now m × Located name.now starts.now n }
-    ensures { result ≡ matching (words pattern.now) (words name.now) }
+fn match_row(pattern: &Words<'_>, name: &Words<'_>) -> bool
+    ensures { result ≡ matching (words pattern.now.text.now) (words name.now.text.now) }
 {
-    let mut row = [false; 33];
-    row[n] = true;
-    let mut j = m;
-    while 0 < j {
-        let end = (parts[j] as usize) - 1;
-        j -= 1;
-        let start = parts[j] as usize;
-        put_any(&mut row, &pattern[start..end], name, n, starts);
+    let mut row = [false; PLACES];
+    row[name.count] = true;
+    for j in (0..pattern.count).rev() {
+        put_any(&mut row, pattern.word(j), name);
     }
     row[0]
 }
 
 // Whether a pattern matches a name.
-pub fn matches(name: &[u8], pattern: &[u8]) -> Match
+pub fn matches(name: &[u8], pattern: &[u8]) -> Result<bool, MatchError>
     ensures { match_says result ≡ match_answer name.now pattern.now }
 {
-    let mut starts = [0u16; 33];
-    let n = crate::word::find_words(name, &mut starts);
-    if n == 0 {
-        return Match::BadName;
-    }
-    let mut parts = [0u16; 33];
-    let m = crate::word::find_words(pattern, &mut parts);
-    if m == 0 {
-        return Match::BadPattern;
-    }
-    if match_row(pattern, m, &parts, name, n, &starts) {
-        return Match::Yes;
-    }
-    Match::No
+    let Some(n) = Words::find(name) else {
+        return Err(MatchError::BadName);
+    };
+    let Some(p) = Words::find(pattern) else {
+        return Err(MatchError::BadPattern);
+    };
+    Ok(match_row(&p, &n))
 }

@@ -1,9 +1,9 @@
 // Words between points.
-ghost use Rattle.std.specs.Prelude.{◌≡◌, ◌&&◌, [], ◌∷◌, ◌+◌, ◌-◌, ◌≤◌, length, drop};
+ghost use Rattle.std.specs.Prelude.{◌≡◌, [], ◌∷◌, ◌+◌, ◌≤◌, ◌<◌, length, drop, is_some, IfSome};
 ghost use Rattle.headers.specs.Rows.{same};
 ghost use Rattle.headers.specs.Parts.{until};
-ghost use Rattle.topics.specs.Topics.{well_formed, hash, stands};
-ghost use Rattle.topics.specs.Rows.{word_at, Steps, Splits};
+ghost use Rattle.topics.specs.Topics.{words, well_formed, hash, stands};
+ghost use Rattle.topics.specs.Rows.{word_at, Steps, Located};
 
 // The octet between two words.
 const POINT: u8 = 46;
@@ -18,19 +18,29 @@ pub const OCTETS_MAX: usize = 256;
 
 pub const WORDS_MAX: usize = 32;
 
+// The places where the words begin, and the one after the end.
+pub(crate) const PLACES: usize = 33;
+
+// A well-formed name or pattern, where its words begin, and how many they are.
+#[derive(Clone, Copy)]
+pub(crate) struct Words<'a> {
+    pub text: &'a [u8],
+    pub starts: [u16; PLACES],
+    pub count: usize,
+    pub ghost located: { Located text.now starts count },
+}
+
 // The place of the first point from a place on, or the end.
 fn end_of(text: &[u8], from: usize) -> usize
     requires { from ≤ length text.now }
     ensures { (result ≡ from + until 46 (drop from text.now)) × (result ≤ length text.now) }
 {
-    let mut i = from;
-    while i < text.len() {
+    for i in from..text.len() {
         if text[i] == POINT {
             return i;
         }
-        i += 1;
     }
-    i
+    text.len()
 }
 
 // The place after the word at a place and after the point that ends it; the end counts as a point.
@@ -41,94 +51,74 @@ pub(crate) fn next_word(text: &[u8], at: usize) -> usize
     end_of(text, at) + 1
 }
 
-// The number of words of a name or pattern, 0 where it is malformed; where they begin is left in starts.
-pub(crate) fn find_words(text: &[u8], starts: &mut [u16]) -> usize
-    requires { length starts.old ≡ 33 }
-    ensures { Splits text.now starts.new result }
-{
-    if OCTETS_MAX < text.len() {
-        return 0;
-    }
-    starts[0] = 0;
-    let mut at = 0usize;
-    let mut count = 0usize;
-    while at <= text.len() {
-        let next = next_word(text, at);
-        if next == at + 1 {
-            return 0;
+impl<'a> Words<'a> {
+    // The words of a name or pattern, where it is well formed.
+    pub fn find(text: &'a [u8]) -> Option<Words<'a>>
+        ensures formed { is_some result ≡ well_formed text.now }
+        ensures same { IfSome result (λ w. w.text.now ≡ text.now) }
+    {
+        if OCTETS_MAX < text.len() {
+            return None;
         }
-        if count == WORDS_MAX {
-            return 0;
+        let mut starts = [0u16; PLACES];
+        let mut at = 0usize;
+        for count in 0..WORDS_MAX {
+            let next = next_word(text, at);
+            if next == at + 1 {
+                return None;
+            }
+            let passed = count + 1;
+            // At most 257, so it fits.
+            starts[passed] = next as u16;
+            if text.len() < next {
+                return Some(Words {
+                    text,
+                    starts,
+                    count: passed,
+                });
+            }
+            at = next;
         }
-        count += 1;
-        starts[count] = next as u16;
-        at = next;
+        None
     }
-    count
+
+    // The word with a number, from 0.
+    pub fn word(&self, k: usize) -> &'a [u8]
+        requires { k < self.now.count }
+        ensures { drop k (words self.now.text.now) ≡ result.now ∷ drop (k + 1) (words self.now.text.now) }
+    {
+        let start = usize::from(self.starts[k]);
+        let end = usize::from(self.starts[k + 1]) - 1;
+        &self.text[start..end]
+    }
 }
 
 // Whether a name or pattern is well formed.
 pub(crate) fn is_well_formed(text: &[u8]) -> bool
     ensures { result ≡ well_formed text.now }
 {
-    let mut starts = [0u16; 33];
-    find_words(text, &mut starts) != 0
-}
-
-// Whether a word is one octet, as `*` and `#` are.
-pub(crate) fn is_octet(word: &[u8], octet: u8) -> bool
-    ensures { result ≡ same word.now (octet ∷ []) }
-{
-    if word.len() != 1 {
-        return false;
-    }
-    word[0] == octet
+    Words::find(text).is_some()
 }
 
 // Whether a pattern's word, which is not `#`, stands for a word of a name.
 pub(crate) fn stands_for(word: &[u8], other: &[u8]) -> bool
     ensures { result ≡ stands word.now other.now }
 {
-    if is_octet(word, STAR) {
-        return true;
-    }
-    headers::equal(word, other)
+    headers::equal(word, &[STAR]) || headers::equal(word, other)
 }
 
-// Whether the word at a place is `#`; next is the place after its point.
-pub(crate) fn is_hash_at(text: &[u8], at: usize, next: usize) -> bool
+// Whether a word is `#`.
+pub(crate) fn is_hash(word: &[u8]) -> bool
+    ensures { result ≡ same word.now hash }
+{
+    headers::equal(word, &[HASH])
+}
+
+// The word at a place; next is the place after its point.
+pub(crate) fn word_between(text: &[u8], at: usize, next: usize) -> &[u8]
     requires { Steps text.now at next }
-    ensures { result ≡ same (word_at text.now at next) hash }
+    ensures { result.now ≡ word_at text.now at next }
 {
     let end = next - 1;
-    is_octet(&text[at..end], HASH)
-}
-
-// Whether a pattern's word at a place, which is not `#`, stands for a name's word at another.
-pub(crate) fn stands_at(
-    pattern: &[u8],
-    p: usize,
-    after: usize,
-    name: &[u8],
-    n: usize,
-    next: usize,
-) -> bool
-    requires { Steps pattern.now p after × Steps name.now n next }
-    ensures { result ≡ stands (word_at pattern.now p after) (word_at name.now n next) }
-{
-    let end = after - 1;
-    let stop = next - 1;
-    stands_for(&pattern[p..end], &name[n..stop])
-}
-
-// Whether a pattern's word, which is not `#`, stands for the name's word at a place, and the words after both match, as rest says.
-pub(crate) fn stands_before(rest: bool, word: &[u8], name: &[u8], n: usize, next: usize) -> bool
-    requires { Steps name.now n next }
-    ensures { result ≡ rest && stands word.now (word_at name.now n next) }
-{
-    if !rest {
-        return false;
-    }
-    let stop = next - 1;
-    stands_for(word, &name[n..stop])
+    &text[at..end]
 }

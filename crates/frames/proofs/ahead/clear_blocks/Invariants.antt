@@ -1,12 +1,10 @@
 use Rattle.headers.specs.Stretches.{span}
 use Rattle.frames.specs.Scanning.{not_zero}
-use Prim.Native.Nat.{◌≤◌, ◌-◌, ◌+◌}
-use lib.ListN.{length, drop}
+use Prim.Native.Nat.{◌+◌, ◌*◌}
+use lib.ListN.{drop}
 use mathlib.Core.Path.{◌≡◌}
 use Rattle.frames.proofs.ahead.clear_blocks.Given as goal
 
-abbrev pub invariant-loop-i : goal.invariant-loop-i
-invariant-loop-i l = (l.i ≤ length l.s) × (l.i + span not_zero (drop l.i l.s) ≡ l.from + span not_zero (drop l.from l.s))
-
-abbrev pub decreases-loop-i : goal.decreases-loop-i
-decreases-loop-i l = length l.s - l.i
+abbrev pub invariant-loop-k : goal.invariant-loop-k
+invariant-loop-k g l =
+    l.from + l.k * g.row.SIZE + span not_zero (drop (l.from + l.k * g.row.SIZE) l.s) ≡ l.from + span not_zero (drop l.from l.s)

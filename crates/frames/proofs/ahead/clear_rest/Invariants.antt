@@ -1,12 +1,9 @@
 use Rattle.headers.specs.Stretches.{span}
 use Rattle.frames.specs.Scanning.{not_zero}
-use Prim.Native.Nat.{◌≤◌, ◌-◌, ◌+◌}
-use lib.ListN.{length, drop}
+use Prim.Native.Nat.{◌+◌}
+use lib.ListN.{drop}
 use mathlib.Core.Path.{◌≡◌}
 use Rattle.frames.proofs.ahead.clear_rest.Given as goal
 
-abbrev pub invariant-loop-i : goal.invariant-loop-i
-invariant-loop-i l = (l.i ≤ length l.s) × (l.i + span not_zero (drop l.i l.s) ≡ l.from + span not_zero (drop l.from l.s))
-
-abbrev pub decreases-loop-i : goal.decreases-loop-i
-decreases-loop-i l = length l.s - l.i
+abbrev pub invariant-loop-k : goal.invariant-loop-k
+invariant-loop-k l = l.far + l.k + span not_zero (drop (l.far + l.k) l.s) ≡ l.from + span not_zero (drop l.from l.s)

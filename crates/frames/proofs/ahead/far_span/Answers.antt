@@ -6,12 +6,13 @@ use lib.ListN.{length}
 use mathlib.Core.Path.{sym, ◌∙◌}
 use Rattle.frames.proofs.ahead.far_span.Goals as goal
 
-pub returns-then-is_all_clear : goal.returns-then-is_all_clear
-returns-then-is_all_clear c =
+pub returns-then-is_clear_block : goal.returns-then-is_clear_block
+returns-then-is_clear_block g c =
     let s = c.args.s.now in
-    let r = c.large_blocks-far in (
+    let r = c.clear_blocks-far in (
       omega arith,
       sym (span_end not_zero s (length s) (omega arith))
-          ∙ sym (span_tail not_zero s r.result _ c.if-e-far.true r.ensures.0 (sym c.is_all_clear.ensures ∙ c.if-is_all_clear.true))
-          ∙ r.ensures.1,
+          ∙ sym (span_tail not_zero s r.result _ c.if-last-far.true r.ensures.0 (sym c.is_clear_block.ensures ∙ c.if-is_clear_block.true))
+          ∙ r.ensures.1
+          ∙ omega arith,
     )

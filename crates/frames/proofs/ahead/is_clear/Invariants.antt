@@ -1,13 +1,9 @@
 use mathlib.Core.Bool.{◌&&◌}
 use Rattle.headers.specs.Rows.{every}
 use Rattle.frames.specs.Scanning.{not_zero}
-use Prim.Native.Nat.{◌-◌}
-use lib.ListN.{length, drop}
+use lib.ListN.{drop}
 use mathlib.Core.Path.{◌≡◌}
 use Rattle.frames.proofs.ahead.is_clear.Given as goal
 
-abbrev pub invariant-loop-i : goal.invariant-loop-i
-invariant-loop-i l = l.ok && every not_zero (drop l.i l.s) ≡ every not_zero l.s
-
-abbrev pub decreases-loop-i : goal.decreases-loop-i
-decreases-loop-i l = length l.s - l.i
+abbrev pub invariant-loop-x : goal.invariant-loop-x
+invariant-loop-x l = l.ok && every not_zero (drop l.x-index l.s) ≡ every not_zero l.s

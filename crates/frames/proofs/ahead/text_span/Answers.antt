@@ -26,9 +26,6 @@ pub returns-then-not-is_plain : goal.returns-then-not-is_plain
 returns-then-not-is_plain c =
     span_stop _ _ _ c.if-s-i.false (sym c.is_plain.ensures ∙ c.if-not-is_plain.true) ∙ (passed (goal.at.returns-then-not-is_plain c).After-calm_from-i).1
 
-pub loop-i-smaller : goal.loop-i-smaller
-loop-i-smaller c = omega (arith, c.calm_from-i.ensures.0, c.if-s-i.false)
-
 pub loop-i-preserved : goal.loop-i-preserved
 loop-i-preserved c =
     (omega (arith, c.if-s-i.false), span_more _ _ _ c.if-s-i.false (sym c.is_plain.ensures ∙ c.if-not-is_plain.false) ∙ (passed (goal.at.loop-i-preserved c).After-calm_from-i).1)

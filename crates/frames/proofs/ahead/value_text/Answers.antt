@@ -5,43 +5,15 @@ use lib.ListN.{length}
 use Rattle.headers.specs.declared.text.Field.TheVariants.{Value as in_value}
 use Rattle.headers.specs.Stretches.{plain_in}
 use Rattle.headers.proofs.Stretches.{span_part, part_long, span_le}
-use Rattle.frames.proofs.Gliding.{front_text, text_more, calm_plain}
+use Rattle.frames.proofs.Gliding.{front_text, text_more}
 use Rattle.frames.proofs.ahead.value_text.Goals as goal
-
-pub text_span-j-requires : goal.text_span-j-requires
-text_span-j-requires c = calm_plain c.args.style in_value c.value_stops-stops.ensures
 
 pub loop-j-init : goal.loop-j-init
 loop-j-init c =
     let a = c.args in (
-      omega (arith, c.text_span-j.ensures, span_le (plain_in c.value_stops-stops.result) a.s.now),
-      front_text a.style in_value c.value_stops-stops.ensures a.s.now c.text_span-j.result c.text_span-j.ensures,
+      omega (arith, c.text_span-j.ensures, span_le (plain_in c.text_stops-stops.result) a.s.now),
+      front_text a.style in_value c.text_stops-stops.ensures a.s.now c.text_span-j.result c.text_span-j.ensures,
     )
-
-pub returns-then-k-eq0 : goal.returns-then-k-eq0
-returns-then-k-eq0 c = c.loop-j.invariant
-
--- the characters after the stretch end where it may
-beyond_1 : (c : goal.Else-k-eq0) → c.beyond_plain-k.result ≤ length c.args.s.now - c.loop-j.j
-beyond_1 c =
-    let s = c.args.s.now in
-    let l = c.loop-j in
-    omega (arith, c.beyond_plain-k.ensures.0, part_long s l.j (length s) l.invariant.0 (omega arith))
-
-pub overflow_add-f : goal.overflow_add-f
-overflow_add-f c = omega (arith, beyond_1 c, c.loop-j.invariant.0)
-
-pub slice_bounds-text_span-count : goal.slice_bounds-text_span-count
-slice_bounds-text_span-count c = omega (arith, beyond_1 c, c.loop-j.invariant.0)
-
-pub slice_bounds-text_span-start : goal.slice_bounds-text_span-start
-slice_bounds-text_span-start c = omega (arith, beyond_1 c, c.loop-j.invariant.0)
-
-pub slice_bounds-text_span-end : goal.slice_bounds-text_span-end
-slice_bounds-text_span-end c = omega (arith, beyond_1 c, c.loop-j.invariant.0)
-
-pub text_span-requires : goal.text_span-requires
-text_span-requires c = calm_plain c.args.style in_value c.value_stops-stops.ensures
 
 -- the characters after the stretch end where it may
 beyond_2 : (c : goal.After-text_span) → c.beyond_plain-k.result ≤ length c.args.s.now - c.loop-j.j
@@ -58,18 +30,12 @@ next_part c =
 pub overflow_add-j : goal.overflow_add-j
 overflow_add-j c = omega (arith, next_part c)
 
-pub loop-j-smaller : goal.loop-j-smaller
-loop-j-smaller c = omega (arith, next_part c, c.if-k-eq0.false)
-
 pub loop-j-preserved : goal.loop-j-preserved
 loop-j-preserved c =
     let a = c.args in
     let l = c.loop-j in
     let k = c.beyond_plain-k in (
       next_part c,
-      text_more a.style in_value c.value_stops-stops.ensures a.s.now l.j k.result c.text_span.result
+      text_more a.style in_value c.text_stops-stops.ensures a.s.now l.j k.result c.text_span.result
           (beyond_2 c) l.invariant.1 k.ensures.1 c.text_span.ensures,
     )
-
-pub returns : goal.returns
-returns c = c.loop-j.invariant

@@ -1,6 +1,6 @@
 use mathlib.Core.Path.{◌≡◌}
 use mathlib.Core.Bool.{true}
-use Prim.Native.Nat.{◌-◌, ◌≤◌}
+use Prim.Native.Nat.{◌≤◌}
 use lib.ListN.{length, drop}
 use Rattle.headers.specs.Block.{entries, listed}
 use Rattle.headers.specs.Answers.{is_block}
@@ -8,7 +8,4 @@ use Rattle.frames.proofs.Sums.{Summing}
 use Rattle.frames.proofs.encode.sum.Given as goal
 
 abbrev pub invariant-loop-count : goal.invariant-loop-count
-invariant-loop-count l = (l.at ≤ length l.block) × (l.count ≤ 33) × (is_block (drop l.at l.block) ≡ true) × Summing l.style (listed (entries l.block)) (listed (entries (drop l.at l.block))) l.count l.good l.total
-
-abbrev pub decreases-loop-count : goal.decreases-loop-count
-decreases-loop-count l = 33 - l.count
+invariant-loop-count l = (l.at ≤ length l.block) × (is_block (drop l.at l.block) ≡ true) × Summing l.style (listed (entries l.block)) (listed (entries (drop l.at l.block))) l.count l.good l.total

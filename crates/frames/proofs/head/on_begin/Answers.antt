@@ -25,16 +25,16 @@ returns-then-begins_character c =
     let p = ne_eqb _ _ c.if-x-eq10.false in
     let q = c.if-x-st.false in
     let r = ne_eqb _ _ c.if-x-eq58.false in
-    let last = past_last c.args.st c.args.x p q r c.requires.1 in
+    let last = past_last c.args.st.scan c.args.x p q r c.requires in
     let starts = sym c.begins_character.ensures ∙ c.if-begins_character.true in
     c.refused-then-begins_character.ensures
-    ∙ sym (begin_more c.args.st c.args.x p q r last ∙ more_start c.args.st c.args.x (no_stop c.args.st c.args.x p q r) starts)
+    ∙ sym (begin_more c.args.st.scan c.args.x p q r last ∙ more_start c.args.st.scan c.args.x (no_stop c.args.st.scan c.args.x p q r) starts)
 
 pub returns : goal.returns
 returns c =
     let p = ne_eqb _ _ c.if-x-eq10.false in
     let q = c.if-x-st.false in
     let r = ne_eqb _ _ c.if-x-eq58.false in
-    let last = past_last c.args.st c.args.x p q r c.requires.1 in
+    let last = past_last c.args.st.scan c.args.x p q r c.requires in
     c.refused-2.ensures
-    ∙ sym (begin_more c.args.st c.args.x p q r last ∙ more_bad c.args.st c.args.x (sym c.begins_character.ensures ∙ c.if-begins_character.false))
+    ∙ sym (begin_more c.args.st.scan c.args.x p q r last ∙ more_bad c.args.st.scan c.args.x (sym c.begins_character.ensures ∙ c.if-begins_character.false))

@@ -12,12 +12,12 @@ returns c =
     let a = c.args in
     let s = a.s.now in
     let colon = c.text_end-name in
-    let value = c.on-value in
+    let value = c.upto-value in
     let end = c.text_end-text in
     let next = c.behind_end in
     let cut =
     line_cut a.cr s a.i colon.result.at value.result end.result.at next.result colon.ensures.0
-    (on_drop s colon.result.at 1 _ value.ensures.2 value.ensures.3) end.ensures.0
+    (on_drop s colon.result.at 1 _ value.ensures.2) end.ensures.0
     next.ensures.2 in (
       (omega arith, value.ensures.0, omega arith, next.ensures.0, next.ensures.1),
       cut.0,

@@ -1,22 +1,13 @@
 -- `lines::name_at` meets its contract: a search passes the name, and its colon follows.
 use native.Mathlib.Omega.{arith}
-use mathlib.Core.Path.{refl}
 use Prim.Native.Nat.{◌+◌, ◌≤◌}
 use lib.Dec.{eqb, leb}
 use borrow.Author.Tests.{eqb-false, leb-false}
-use Rattle.headers.specs.declared.text.Field.TheVariants.{Name as in_name}
 use Rattle.headers.proofs.Rows.{or_false_left, or_false_right}
 use Rattle.headers.proofs.Stretches.{span_part}
-use Rattle.frames.proofs.Gliding.{calm_plain}
 use Rattle.frames.proofs.WholeLines.{name_found}
 use Rattle.frames.proofs.lines.name_at.Goals as goal
 use Rattle.frames.proofs.lines.name_at.Goals.{After-text_span-k}
-
-pub returns-then-s-i-eq99 : goal.returns-then-s-i-eq99
-returns-then-s-i-eq99 c = λ n. absurd (n refl)
-
-pub text_span-k-requires : goal.text_span-k-requires
-text_span-k-requires c = calm_plain c.args.style in_name c.name_stops.ensures
 
 -- the name ends where it may
 inside : (c : After-text_span-k) → c.args.i + c.text_span-k.result ≤ c.upto-e.result
@@ -25,28 +16,13 @@ inside c = span_part _ _ _ _ _ (omega arith) (omega arith) c.text_span-k.ensures
 pub overflow_add-colon : goal.overflow_add-colon
 overflow_add-colon c = omega (arith, inside c)
 
-pub returns-then-k-e : goal.returns-then-k-e
-returns-then-k-e c = λ n. absurd (n refl)
-
-pub bounds-s-colon : goal.bounds-s-colon
-bounds-s-colon c =
-    let colon = c.args.i + c.text_span-k.result in
-    let h = leb-false c.upto-e.result colon (or_false_right (eqb c.text_span-k.result 0) _ c.if-k-e.false) in
-    omega (arith, h)
-
-pub returns-then-s-colon-ne58 : goal.returns-then-s-colon-ne58
-returns-then-s-colon-ne58 c = λ n. absurd (n refl)
-
-pub overflow_add-result : goal.overflow_add-result
-overflow_add-result c = omega (arith, inside (goal.at.overflow_add-result c).After-text_span-k)
-
 pub returns : goal.returns
 returns c =
     let u = c.upto-e in
     let k = c.text_span-k.result in
     let some = or_false_left (eqb k 0) (leb u.result (c.args.i + k)) c.if-k-e.false in
     let e = leb-false u.result (c.args.i + k) (or_false_right (eqb k 0) (leb u.result (c.args.i + k)) c.if-k-e.false) in
-    λ n. name_found c.args.style c.name_stops.ensures c.args.s.now
+    name_found c.args.style c.text_stops.ensures c.args.s.now
     c.args.i u.result k
     (omega arith) (omega arith) c.text_span-k.ensures (eqb-false k 0 some) (omega (arith, e))
     c.if-s-i-eq99.false c.if-s-colon-ne58.false

@@ -1,54 +1,44 @@
 -- `pass::pass_digits` meets its contract: each octet is a step in the number, which has room for all of them.
-use Rattle.frames.proofs.Passing.{passed_none, passed_step, digit_on}
+use Rattle.frames.proofs.Passing.{Gone, passed_more, digit_on}
 use Rattle.headers.proofs.Rows.{or_false_left, or_false_right}
+use Rattle.headers.proofs.Stretches.{part_long}
 use borrow.Author.Tests.{ltb-false}
 use lib.Dec.{ltb}
-use lib.ListN.{get_or}
-use Rattle.frames.proofs.Gliding.{line_short}
-use Rattle.frames.proofs.Bounds.{bounded}
+use Rattle.frames.specs.Scanning.{in_line}
 use Rattle.frames.specs.declared.state.Scan.{Scan}
-use Prim.Native.Nat.{◌≤◌}
+use Prim.Native.Nat.{ℕ, ◌+◌, ◌*◌, ◌-◌, ◌≤◌}
+use lib.ListN.{take, drop, get_or}
+use mathlib.Core.List.{List}
+use mathlib.Core.Bool.{false, ◌||◌}
 use native.Mathlib.Omega.{arith}
-use mathlib.Core.Path.{refl, sym, ◌∙◌, ap}
+use mathlib.Core.Path.{◌≡◌, sym, ◌∙◌, ap}
 use Rattle.frames.proofs.pass.pass_digits.Goals as goal
-use Rattle.frames.proofs.pass.pass_digits.Goals.{Else-x}
 
-pub overflow_sub-begin : goal.overflow_sub-begin
-overflow_sub-begin c = let p = c.requires in line_short p.1 p.2
-
-pub loop-i-init : goal.loop-i-init
-loop-i-init c =
-    let p = c.requires in
-    let h = line_short p.1 p.2 in
-    (passed_none p.0 p.1, p.2, refl, omega arith)
+abbrev octet : List ℕ → ℕ → ℕ → ℕ → ℕ
+octet s from e k = get_or (take (e - from) (drop from s)) k 0
 
 -- the octet is a digit
-digit : (c : Else-x) → let x = get_or c.args.s.now c.loop-i.i 0 in (48 ≤ x) × (x ≤ 57)
-digit c =
-    let x = get_or c.args.s.now c.loop-i.i 0 in
-    (ltb-false x 48 (or_false_left (ltb x 48) (ltb 57 x) c.if-x.false), ltb-false 57 x (or_false_right (ltb x 48) (ltb 57 x) c.if-x.false))
+digit : (x : ℕ) → ltb x 48 || ltb 57 x ≡ false → (48 ≤ x) × (x ≤ 57)
+digit x e = (ltb-false x 48 (or_false_left (ltb x 48) (ltb 57 x) e), ltb-false 57 x (or_false_right (ltb x 48) (ltb 57 x) e))
 
-pub overflow_sub-size : goal.overflow_sub-size
-overflow_sub-size c = omega (arith, digit (goal.at.overflow_sub-size c).Else-x)
-
-pub overflow_cast-size : goal.overflow_cast-size
-overflow_cast-size c = omega (arith, digit (goal.at.overflow_cast-size c).Else-x)
-
-pub overflow_add-size : goal.overflow_add-size
-overflow_add-size c = omega (arith, digit (goal.at.overflow_add-size c).Else-x)
-
-pub in_line-st-requires : goal.in_line-st-requires
-in_line-st-requires c = bounded _ c.loop-i.invariant.0.0.kept
-
-pub loop-i-preserved : goal.loop-i-preserved
-loop-i-preserved c =
-    let l = c.loop-i in
-    let e = c.in_line-st.ensures in
-    let (low, high) = digit (goal.at.loop-i-preserved c).Else-x in
+-- an octet more
+more : (c : goal.After-in_line-scan) → let a = c.args in let l = c.loop-x in Gone a.s.now a.from a.begin.scan c.in_line-scan.result (a.from + (l.x-index + 1))
+more c =
+    let l = c.loop-x in
+    let e = c.in_line-scan.ensures in
+    let x = octet c.args.s.now c.args.from c.upto-e.result l.x-index in
+    let (low, high) = digit x c.if-x.false in
     let most = c.most_of-most.ensures in
-    let step = digit_on l.st _ l.invariant.1 (omega arith) low high (rw l.invariant.2 (omega (arith, most))) in (
-      passed_step l.invariant.0 (omega arith) (e ∙ sym step) (ap (λ (z : Scan). z.at) e),
+    let long = part_long c.args.s.now c.args.from c.upto-e.result (omega arith) (omega arith) in
+    let step = digit_on l.st.0 x l.invariant.1 (omega arith) low high (rw l.invariant.2 (omega (arith, most, c.from.ensures))) in
+    passed_more _ _ l.invariant.0 c.loop-x-test.true (e ∙ ap (λ d. in_line l.st.0 9 0 (l.st.0.size * 10 + d) (l.st.0.len + 1)) c.from.ensures ∙ sym step) (ap (λ (z : Scan). z.at) e)
+
+pub loop-x-preserved : goal.loop-x-preserved
+loop-x-preserved c =
+    let e = c.in_line-scan.ensures in
+    let long = part_long c.args.s.now c.args.from c.upto-e.result (omega arith) (omega arith) in (
+      more c,
       ap (λ (z : Scan). z.phase) e,
-      ap (λ (z : Scan). z.command) e ∙ l.invariant.2,
+      ap (λ (z : Scan). z.command) e ∙ c.loop-x.invariant.2,
       omega (arith, ap (λ (z : Scan). z.len) e),
     )

@@ -3,8 +3,6 @@ use Prim.Native.Nat.{◌≤◌, ◌-◌, ◌+◌}
 use mathlib.Core.Path.{◌≡◌}
 use Rattle.frames.proofs.pass.pass_digits.Given as goal
 
-abbrev pub invariant-loop-i : goal.invariant-loop-i
-invariant-loop-i l = Gone l.s l.from l.initial.st l.st l.i × (l.st.phase ≡ 9) × (l.st.command ≡ l.initial.st.command) × (l.st.len + (l.e - l.i) ≤ 512)
-
-abbrev pub decreases-loop-i : goal.decreases-loop-i
-decreases-loop-i l = l.e - l.i
+abbrev pub invariant-loop-x : goal.invariant-loop-x
+invariant-loop-x l =
+    Gone l.s l.from l.initial.st.0 l.st.0 (l.from + l.x-index) × (l.st.0.phase ≡ 9) × (l.st.0.command ≡ l.initial.st.0.command) × (l.st.0.len + (l.e - (l.from + l.x-index)) ≤ 512)

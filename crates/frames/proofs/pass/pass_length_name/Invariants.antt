@@ -3,8 +3,6 @@ use Prim.Native.Nat.{◌≤◌, ◌-◌, ◌+◌}
 use mathlib.Core.Path.{◌≡◌}
 use Rattle.frames.proofs.pass.pass_length_name.Given as goal
 
-abbrev pub invariant-loop-i : goal.invariant-loop-i
-invariant-loop-i l = Gone l.s l.from l.initial.st l.st l.i × (l.st.phase ≡ 5) × (l.st.matched + (l.e - l.i) ≤ 14) × (l.st.len + (l.e - l.i) ≤ 511)
-
-abbrev pub decreases-loop-i : goal.decreases-loop-i
-decreases-loop-i l = l.e - l.i
+abbrev pub invariant-loop-x : goal.invariant-loop-x
+invariant-loop-x l =
+    Gone l.s l.from l.initial.st.0 l.st.0 (l.from + l.x-index) × (l.st.0.phase ≡ 5) × (l.st.0.matched + (l.e - (l.from + l.x-index)) ≤ 14) × (l.st.0.len + (l.e - (l.from + l.x-index)) ≤ 511)

@@ -6,15 +6,8 @@ use native.Mathlib.Omega.{arith}
 use lib.ListN.{length, set}
 use Rattle.headers.proofs.Put.{copy_more}
 use Rattle.frames.specs.Scanning.{word_of}
-use Rattle.frames.proofs.Words.{short}
 use Rattle.frames.proofs.Putting.{getD_inside, copy_closed}
 use Rattle.frames.proofs.put.put_word.Goals as goal
-
-pub letter-requires : goal.letter-requires
-letter-requires c = (search rules, omega (arith, short c.args.command c.requires.0, c.loop-i-test.true, c.word_len-n.ensures))
-
-pub bounds-d-i : goal.bounds-d-i
-bounds-d-i c = omega (arith, c.word_len-n.ensures, c.requires)
 
 pub loop-i-preserved : goal.loop-i-preserved
 loop-i-preserved c = let l = c.loop-i in
@@ -24,12 +17,6 @@ loop-i-preserved c = let l = c.loop-i in
       omega arith,
       ap (set l.d l.i) (c.letter.ensures ∙ getD_inside w l.i 64 0 here) ∙ copy_more l.d c.args.d.now w l.i here (omega (arith, c.requires.1)) l.invariant.2,
     )
-
-pub bounds-d-n : goal.bounds-d-n
-bounds-d-n c = omega (arith, c.word_len-n.ensures, c.requires)
-
-pub overflow_add-result : goal.overflow_add-result
-overflow_add-result c = omega (arith, c.word_len-n.ensures, c.requires)
 
 pub returns : goal.returns
 returns c = let l = c.loop-i in

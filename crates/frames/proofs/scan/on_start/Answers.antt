@@ -15,5 +15,5 @@ unfolding on_start
 returns c =
     let x = c.args.x in
     let p : eqb x 10 ≡ false = ne_eqb x 10 c.if-x-eq10.false in
-    let q : eqb x 13 && c.args.st.crlf ≡ true = rw p at c.requires.1 in
+    let q : eqb x 13 && c.args.st.scan.crlf ≡ true = rw p at c.requires in
     simp (c.to_phase-2.ensures, p, q)

@@ -1,38 +1,25 @@
 -- `scan::step_body` meets its contract: the phase picks the step.
-use Rattle.frames.proofs.Bounds.{bounded, stays}
+use Rattle.frames.proofs.Bounds.{stays}
 use mathlib.Core.Path.{sym}
 use Rattle.frames.specs.Scanning.{scan_step}
 use native.Mathlib.Omega.{arith}
 use Rattle.frames.proofs.scan.step_body.Goals as goal
 
-pub on_body-requires : goal.on_body-requires
-on_body-requires c = bounded _ c.requires.0
-
-pub returns-then-phase-eq-IN_BODY : goal.returns-then-phase-eq-IN_BODY
+pub returns-in-12 : goal.returns-in-12
 unfolding scan_step
-returns-then-phase-eq-IN_BODY c = simp (c.on_body.ensures, c.if-phase-eq-IN_BODY.true)
+returns-in-12 c = simp (c.on_body.ensures, c.in-12.is)
 
-pub on_counted-requires : goal.on_counted-requires
-on_counted-requires c = bounded _ c.requires.0
-
-pub returns-then-phase-eq-IN_COUNTED : goal.returns-then-phase-eq-IN_COUNTED
+pub returns-in-13 : goal.returns-in-13
 unfolding scan_step
-returns-then-phase-eq-IN_COUNTED c = simp (c.on_counted.ensures, c.if-phase-eq-IN_COUNTED.true)
+returns-in-13 c = simp (c.on_counted.ensures, c.in-13.is)
 
-pub in_head-requires : goal.in_head-requires
-in_head-requires c = bounded _ c.requires.0
-
-pub returns-then-phase-eq-LINE_CR : goal.returns-then-phase-eq-LINE_CR
+pub returns-in-10 : goal.returns-in-10
 unfolding scan_step
-returns-then-phase-eq-LINE_CR c = simp (c.on_10.ensures, c.in_head.ensures, c.if-phase-eq-LINE_CR.true)
+returns-in-10 c = simp (c.on_10.ensures, c.in_head-next.ensures, c.in-10.is)
 
-pub body_begins-requires : goal.body_begins-requires
-body_begins-requires c = bounded _ c.requires.0
-
-pub returns-then-phase-eq-BLANK_CR : goal.returns-then-phase-eq-BLANK_CR
+pub returns-in-11 : goal.returns-in-11
 unfolding scan_step
-returns-then-phase-eq-BLANK_CR c = simp (c.on_10-then-phase-eq-BLANK_CR.ensures, c.body_begins.ensures, c.if-phase-eq-BLANK_CR.true)
+returns-in-11 c = simp (c.on_10-in-11.ensures, c.body_begins.ensures, c.in-11.is)
 
-pub returns : goal.returns
-unfolding scan_step
-returns c = sym (stays _ _ (omega arith))
+pub returns-in_default : goal.returns-in_default
+returns-in_default c = sym (stays _ _ (omega arith))

@@ -50,5 +50,6 @@ returns c =
       le-leb _ _ c.if-st-gt-HELD.false,
       sym w.ensures ∙ c.if-not-fits_version.false,
       le-ltb _ _ c.if-st-lt-HEART_BEAT_READ.false,
-      c.is_number.ensures,
+      c.is_some.ensures,
+      c.of_number.ensures.0,
     ) refl

@@ -4,10 +4,6 @@ use Rattle.frames.specs.Validity.{is_valid}
 use Rattle.frames.proofs.Checks.{valid_tested}
 use Rattle.frames.proofs.valid.is_valid.Goals as goal
 
-pub returns-then-not-is_small : goal.returns-then-not-is_small
-unfolding is_valid
-returns-then-not-is_small c = valid_tested c.args.st _ (rw (sym c.is_small.ensures ∙ c.if-not-is_small.true))
-
 pub returns-then-not-is_so_far : goal.returns-then-not-is_so_far
 unfolding is_valid
 returns-then-not-is_so_far c =

@@ -15,7 +15,8 @@ pub returns-then-x-eq64 : goal.returns-then-x-eq64
 returns-then-x-eq64 c = rw (next_same _ _ _ c.requires (omega arith) (c.if-x-letter.true ∙ c.letter.ensures), eq-eqb _ _ c.if-x-eq64.true)
 
 pub returns-then-x-letter : goal.returns-then-x-letter
-returns-then-x-letter c = rw (next_same _ _ _ c.requires (omega arith) (c.if-x-letter.true ∙ c.letter.ensures), ne_eqb _ _ c.if-x-eq64.false)
+returns-then-x-letter c =
+    rw (next_same _ _ _ c.requires (omega arith) (c.if-x-letter.true ∙ c.letter.ensures), ne_eqb _ _ c.if-x-eq64.false, ne_eqb c.args.c 0 (λ e. omega (arith, (c.requires.something (omega arith)).0, e)))
 
 pub sibling-requires : goal.sibling-requires
 sibling-requires c = (c.requires, omega arith, λ e. c.if-x-letter.false (e ∙ sym c.letter.ensures))

@@ -5,15 +5,6 @@ use Rattle.headers.proofs.Numerals.{size_one, size_step}
 use Rattle.headers.proofs.Decimals.{length_shortest}
 use Rattle.headers.proofs.decimal.decimal_length.Goals as goal
 
-pub loop-m-init : goal.loop-m-init
-loop-m-init c = omega arith
-
-pub overflow_add-k : goal.overflow_add-k
-overflow_add-k c = omega arith
-
-pub loop-m-smaller : goal.loop-m-smaller
-loop-m-smaller c = omega arith
-
 pub loop-m-preserved : goal.loop-m-preserved
 loop-m-preserved c = omega (arith, size_step _ c.loop-m-test.true)
 

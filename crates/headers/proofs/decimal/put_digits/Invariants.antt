@@ -7,6 +7,3 @@ use Rattle.headers.proofs.decimal.put_digits.Given as goal
 
 abbrev pub invariant-loop-i : goal.invariant-loop-i
 invariant-loop-i l = (l.i ≤ length l.d) × (length l.d ≡ length l.initial.d) × (digits l.i l.m ++ drop l.i l.d ≡ digits l.k l.n ++ drop l.k l.initial.d)
-
-abbrev pub decreases-loop-i : goal.decreases-loop-i
-decreases-loop-i l = l.i

@@ -1,12 +1,9 @@
-use Prim.Native.Nat.{◌≤◌, ◌-◌}
+use Prim.Native.Nat.{◌≤◌}
 use mathlib.Core.Path.{◌≡◌}
 use lib.ListN.{length}
 use Rattle.headers.specs.Numbers.{amount}
 use Rattle.headers.proofs.Decimals.{amount_at}
 use Rattle.headers.proofs.decimal.read_decimal.Given as goal
 
-abbrev pub invariant-loop-i : goal.invariant-loop-i
-invariant-loop-i l = (l.i ≤ length l.s) × (l.sum ≤ l.limit) × (amount l.limit l.s ≡ amount_at l.limit l.sum l.s l.i)
-
-abbrev pub decreases-loop-i : goal.decreases-loop-i
-decreases-loop-i l = length l.s - l.i
+abbrev pub invariant-loop-x : goal.invariant-loop-x
+invariant-loop-x l = (l.x-index ≤ length l.s) × (l.sum ≤ l.limit) × (amount l.limit l.s ≡ amount_at l.limit l.sum l.s l.x-index)

@@ -2,6 +2,7 @@
 use mathlib.Core.Path.{refl, sym, ap, ◌∙◌}
 use mathlib.Core.Bool.{◌&&◌}
 use native.Mathlib.Nat.{sub-zero}
+use native.Mathlib.Omega.{arith}
 use lib.ListN.{take, drop}
 use Rattle.headers.specs.Text.{is_utf8}
 use Rattle.headers.proofs.Settling.{take_place, drop_place}
@@ -15,10 +16,10 @@ returns-then-low c =
 
 pub returns-then-not-is_utf8 : goal.returns-then-not-is_utf8
 returns-then-not-is_utf8 c =
-    let off = sym (c.is_utf8.ensures ∙ ap is_utf8 (ap (λ n. take n c.args.text.now) (sub-zero c.place-e.result) ∙ take_place c.args.name c.place-e.result c.args.text.now c.place-e.ensures.1 c.place-e.ensures.2)) ∙ c.if-not-is_utf8.true in
+    let off = sym (c.is_utf8.ensures ∙ ap is_utf8 (ap (λ n. take n c.args.text.now) (sub-zero c.min-e.result) ∙ take_place c.args.name c.min-e.result c.args.text.now (λ h. omega arith) (λ h. omega arith))) ∙ c.if-not-is_utf8.true in
     rw off refl
 
 pub returns : goal.returns
 returns c =
-    let on = sym (c.is_utf8.ensures ∙ ap is_utf8 (ap (λ n. take n c.args.text.now) (sub-zero c.place-e.result) ∙ take_place c.args.name c.place-e.result c.args.text.now c.place-e.ensures.1 c.place-e.ensures.2)) ∙ c.if-not-is_utf8.false in
-    c.is_utf8-2.ensures ∙ ap is_utf8 (drop_place c.args.name c.place-e.result c.args.text.now c.place-e.ensures.1 c.place-e.ensures.2) ∙ sym (ap (◌&& is_utf8 (drop c.args.name c.args.text.now)) on)
+    let on = sym (c.is_utf8.ensures ∙ ap is_utf8 (ap (λ n. take n c.args.text.now) (sub-zero c.min-e.result) ∙ take_place c.args.name c.min-e.result c.args.text.now (λ h. omega arith) (λ h. omega arith))) ∙ c.if-not-is_utf8.false in
+    c.is_utf8-2.ensures ∙ ap is_utf8 (drop_place c.args.name c.min-e.result c.args.text.now (λ h. omega arith) (λ h. omega arith)) ∙ sym (ap (◌&& is_utf8 (drop c.args.name c.args.text.now)) on)

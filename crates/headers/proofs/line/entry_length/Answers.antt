@@ -1,7 +1,7 @@
 -- `line::entry_length` meets its contract: each refusal says why the entry cannot be written.
-use mathlib.Core.Path.{sym, ◌∙◌}
+use mathlib.Core.Path.{sym, ap, ◌∙◌}
+use Rattle.std.specs.Prelude.{is_some}
 use native.Mathlib.Omega.{arith}
-use borrow.Author.Tests.{not-true, not-false}
 use Rattle.headers.proofs.Settling.{no_name, no_room, no_room_plain, length_no, length_yes, divided, divided_empty, divided_plain, divided_long, divided_octet, divided_name, divided_utf8, divided_can}
 use Rattle.headers.proofs.line.entry_length.Goals as goal
 
@@ -13,17 +13,13 @@ pub returns-then-text-gt-TEXT_MAX : goal.returns-then-text-gt-TEXT_MAX
 returns-then-text-gt-TEXT_MAX c =
     sym (length_no c.args.style (divided c.args.name c.args.text.now) (no_room_plain c.args.style (divided c.args.name c.args.text.now) (omega (arith, divided_plain c.args.name c.args.text.now))))
 
-pub returns-then-not-m : goal.returns-then-not-m
-returns-then-not-m c =
-    sym (length_no c.args.style (divided c.args.name c.args.text.now) (divided_octet c.args.style c.args.name c.args.text.now (sym c.measure-m.ensures.0 ∙ not-true _ c.if-not-m.true)))
+pub returns-in_default : goal.returns-in_default
+returns-in_default c =
+    sym (length_no c.args.style (divided c.args.name c.args.text.now) (divided_octet c.args.style c.args.name c.args.text.now (sym c.measure.ensures.0 ∙ ap is_some c.in_default.is)))
 
 pub returns-then-not-is_name : goal.returns-then-not-is_name
 returns-then-not-is_name c =
     sym (length_no c.args.style (divided c.args.name c.args.text.now) (divided_name c.args.style c.args.name c.args.text.now (sym c.is_name.ensures ∙ c.if-not-is_name.true)))
-
-pub are_utf8-requires : goal.are_utf8-requires
-are_utf8-requires c =
-    (c.measure-m.ensures.1 (not-false _ c.if-not-m.false)).1
 
 pub returns-then-not-are_utf8 : goal.returns-then-not-are_utf8
 returns-then-not-are_utf8 c =
@@ -31,16 +27,12 @@ returns-then-not-are_utf8 c =
 
 pub returns-then-m-gt-TEXT_MAX : goal.returns-then-m-gt-TEXT_MAX
 returns-then-m-gt-TEXT_MAX c =
-    sym (length_no c.args.style (divided c.args.name c.args.text.now) (no_room c.args.style (divided c.args.name c.args.text.now) (omega (arith, divided_long c.args.style c.args.name c.args.text.now, (c.measure-m.ensures.1 (not-false _ c.if-not-m.false)).0, c.if-m-gt-TEXT_MAX.true))))
-
-pub overflow_add-result : goal.overflow_add-result
-overflow_add-result c =
-    omega (arith, c.if-m-gt-TEXT_MAX.false)
+    sym (length_no c.args.style (divided c.args.name c.args.text.now) (no_room c.args.style (divided c.args.name c.args.text.now) (omega (arith, divided_long c.args.style c.args.name c.args.text.now, c.in-Some.ensures.1.0, c.if-m-gt-TEXT_MAX.true))))
 
 pub returns : goal.returns
 returns c =
-    let n = (c.measure-m.ensures.1 (not-false _ c.if-not-m.false)).0 in
-    let all = sym c.measure-m.ensures.0 ∙ not-false _ c.if-not-m.false in
+    let n = c.in-Some.ensures.1.0 in
+    let all = sym c.in-Some.ensures.0 in
     let named = sym c.is_name.ensures ∙ c.if-not-is_name.false in
     let both = sym c.are_utf8.ensures ∙ c.if-not-are_utf8.false in
     let some = divided_empty c.args.name c.args.text.now ∙ c.if-name-text.false in

@@ -1,8 +1,8 @@
 -- `line::measure_blocks` meets its contract: what is left to encode, and what is left of the test.
-use mathlib.Core.Path.{◌≡◌, refl, ◌∙◌, ap}
+use mathlib.Core.Path.{◌≡◌, ◌∙◌, ap}
 use mathlib.Core.Bool.{◌&&◌}
 use mathlib.Core.List.{List}
-use Prim.Native.Nat.{ℕ, ◌+◌, ◌-◌, ◌≤◌}
+use Prim.Native.Nat.{ℕ, ◌+◌, ◌*◌, ◌/◌, ◌-◌, ◌≤◌}
 use native.Mathlib.Omega.{arith}
 use lib.ListN.{length, take, drop, length-append, length-drop}
 use lib.Seq.{drop-drop, take_all}
@@ -46,55 +46,60 @@ left_more s xs n i k h far e w =
     let rest = block_rest xs i far in
     omega (arith, e, w, ap length rest, ap (λ z. length (encode s z)) rest, length-drop i xs)
 
-pub loop-i-init : goal.loop-i-init
-loop-i-init c = (omega arith, omega arith, refl)
+-- what is read up to a block, and up to the next
+next : (k : ℕ) → k * 32 + 32 ≡ (k + 1) * 32
+next k = omega arith
 
 pub overflow_add-n : goal.overflow_add-n
 overflow_add-n c =
-    let l = c.loop-i in
+    let l = c.loop-k in
     let xs = c.args.text.now in
     let k = c.tally_block-t.result.escapes in
-    let fits : l.i + 32 ≤ length xs = omega (arith, l.invariant.0, c.loop-i-test.true) in
+    let fits : l.k * 32 + 32 ≤ length xs = omega arith in
     omega (
       arith,
       c.requires.1,
       encode_twice c.args.style xs,
-      part_more c.args.style xs l.i k l.n fits c.tally_block-t.ensures.0 l.invariant.1,
+      part_more c.args.style xs (l.k * 32) k l.n fits c.tally_block-t.ensures.0 l.invariant.1,
     )
 
-pub loop-i-preserved : goal.loop-i-preserved
-loop-i-preserved c =
-    let l = c.loop-i in
+pub loop-k-preserved : goal.loop-k-preserved
+loop-k-preserved c =
+    let l = c.loop-k in
     let a = c.args in
     let t = c.tally_block-t in
-    let fits : l.i + 32 ≤ length a.text.now = omega (arith, l.invariant.0, c.loop-i-test.true) in (
+    let fits : l.k * 32 + 32 ≤ length a.text.now = omega arith in
+    let from : t.result.escapes ≡ c.from-n.result = omega arith in
+    rw (← next l.k) (
       fits,
-      part_more a.style a.text.now l.i t.result.escapes l.n fits t.ensures.0 l.invariant.1,
-      rw (c.larger-most.ensures, t.ensures.1) (every_block ascii a.text.now l.i (ltb l.most 128) (l.i + 32) (omega arith) ∙ l.invariant.2),
+      rw (← from) (part_more a.style a.text.now (l.k * 32) t.result.escapes l.n fits t.ensures.0 l.invariant.1),
+      rw (c.larger-most.ensures, t.ensures.1) (every_block ascii a.text.now (l.k * 32) (ltb l.most 128) (l.k * 32 + 32) (omega arith) ∙ l.invariant.2),
     )
 
 pub overflow_add-result : goal.overflow_add-result
 overflow_add-result c =
-    let l = c.loop-i in
+    let l = c.loop-k in
     let xs = c.args.text.now in
     let t = c.tally_block-t-2 in
+    let end : l.k ≡ length xs / 32 = omega arith in
     omega (
       arith,
       c.requires.1,
       encode_twice c.args.style xs,
-      left_more c.args.style xs l.n l.i t.result.escapes l.invariant.0 (omega (arith, c.loop-i-test.false))
-          t.ensures.0 l.invariant.1,
+      left_more c.args.style xs l.n (length xs / 32 * 32) t.result.escapes (omega arith) (omega arith)
+          t.ensures.0 (rw (← end) l.invariant.1),
     )
 
 pub returns : goal.returns
 returns c =
-    let l = c.loop-i in
+    let l = c.loop-k in
     let a = c.args in
     let xs = a.text.now in
     let t = c.tally_block-t-2 in
-    let far : length xs - 32 ≤ l.i = omega (arith, c.loop-i-test.false) in (
-      refl,
-      left_more a.style xs l.n l.i t.result.escapes l.invariant.0 far t.ensures.0 l.invariant.1,
+    let end : l.k ≡ length xs / 32 = omega arith in
+    let far : length xs - 32 ≤ length xs / 32 * 32 = omega arith in
+    let from : c.from.result ≡ t.result.escapes = omega arith in (
+      ap (l.n +◌) from ∙ left_more a.style xs l.n (length xs / 32 * 32) t.result.escapes (omega arith) far t.ensures.0 (rw (← end) l.invariant.1),
       c.larger.ensures ∙ ap (ltb l.most 128 &&◌) (t.ensures.1 ∙ ap (every ascii) (block_whole xs))
-          ∙ every_last_block ascii xs l.i (ltb l.most 128) (length xs - 32) far l.invariant.2,
+          ∙ every_last_block ascii xs (length xs / 32 * 32) (ltb l.most 128) (length xs - 32) far (rw (← end) l.invariant.2),
     )

@@ -68,8 +68,8 @@ overflow_add-result c =
 pub returns : goal.returns
 returns c =
     let t = c.tally_block-t in
-    let is = c.copy.ensures in (
-      refl,
-      counted c.args.style c.args.text.now _ c.requires is t.result.escapes t.ensures.0,
+    let is = c.copy.ensures in
+    let k : c.from.result ≡ t.result.escapes = omega arith in (
+      ap (length c.args.text.now +◌) k ∙ counted c.args.style c.args.text.now _ c.requires is t.result.escapes t.ensures.0,
       t.ensures.1 ∙ low c.args.style c.args.text.now _ c.requires is,
     )

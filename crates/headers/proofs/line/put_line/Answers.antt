@@ -8,13 +8,8 @@ use lib.ListN.{length, set}
 use Rattle.headers.specs.Escapes.{encode}
 use Rattle.headers.specs.Lines.{entry_of, written_line}
 use Rattle.headers.proofs.Put.{Partly, partly_first, partly_inside, partly_done, partly_fits, partly_put, partly_here, partly_store}
-use Rattle.headers.proofs.Settling.{line_long}
 use Rattle.headers.proofs.line.put_line.Goals as goal
 use Rattle.headers.proofs.line.put_line.Goals.{After-put_encoded-n, After-put_encoded-v}
-
-pub put_encoded-n-requires : goal.put_encoded-n-requires
-put_encoded-n-requires c = let a = c.args in
-    omega (arith, line_long a.style (entry_of a.name.now a.value.now), c.requires)
 
 -- the line, its value, and where it is put
 abbrev whole_1 : (c : After-put_encoded-n) → List ℕ

@@ -58,6 +58,3 @@ module _ (s : Style) (xs : List ℕ) (from : ℕ) where
 
 abbrev pub invariant-loop-i : goal.invariant-loop-i
 invariant-loop-i l = (l.i ≤ length l.block) × (l.escapes ≤ l.i) × Since l.style l.block l.from l.escapes l.i × (ltb l.most 128 && every ascii (drop l.i l.block) ≡ every ascii l.block)
-
-abbrev pub decreases-loop-i : goal.decreases-loop-i
-decreases-loop-i l = length l.block - l.i

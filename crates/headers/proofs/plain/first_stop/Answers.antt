@@ -1,22 +1,17 @@
 -- `plain::first_stop` meets its contract: the lowest place so far at which an octet stops is kept.
 use Rattle.headers.proofs.Stretches.{first_on, first_here, first_end}
-use Prim.Native.Nat.{min}
 use native.Mathlib.Omega.{arith}
-use mathlib.Core.Path.{◌≡◌, sym, ◌∙◌}
-use mathlib.Core.Logic.{inr}
+use mathlib.Core.Path.{sym, ◌∙◌}
 use Rattle.headers.proofs.plain.first_stop.Goals as goal
-use Rattle.headers.proofs.plain.first_stop.Goals.{then-c-k, else-c-k, then-is_plain, else-is_plain}
-
-pub loop-i-init : goal.loop-i-init
-loop-i-init c = (omega arith, inr (omega arith))
+use Rattle.headers.proofs.plain.first_stop.Goals.{then-passes, else-passes}
 
 pub loop-i-preserved : goal.loop-i-preserved
-loop-i-preserved c =
+loop-i-preserved g c =
     let l = c.loop-i in
     let t = c.loop-i-test.true in
-    let e = c.is_plain.ensures in
-    let m : c.if-c-k.k ≡ min c.if-is_plain.c l.k = elim c.if-c-k.branch [ then-c-k w ↦ omega arith | else-c-k w ↦ omega arith ] in
-    elim c.if-is_plain.branch [ then-is_plain w ↦ first_on _ _ l.i t m (sym e ∙ w.if-is_plain.true) (omega arith) l.invariant | else-is_plain w ↦ first_here _ _ l.i t m (sym e ∙ w.if-is_plain.false) w.c-is l.invariant ]
+    let m = c.min-k.ensures in
+    let e = c.passes.ensures in
+    elim c.if-passes.branch [ then-passes w ↦ first_on _ _ l.i t m (sym e ∙ w.if-passes.true) (omega arith) l.invariant | else-passes w ↦ first_here _ _ l.i t m (sym e ∙ w.if-passes.false) w.c-is l.invariant ]
 
 pub returns : goal.returns
-returns c = first_end _ _ _ c.loop-i-test.false c.loop-i.invariant
+returns g c = first_end _ _ _ c.loop-i-test.false c.loop-i.invariant

@@ -15,10 +15,10 @@ use Rattle.headers.proofs.record.put_record.Goals as goal
 pub returns : goal.returns
 returns c = let a = c.args in
     let d = a.d.now in
-    let N = kept a.known.name a.style a.name.now in
-    let W = kept a.known.value a.style a.value.now in
-    let p = c.put_known-n in
-    let q = c.put_known-v in
+    let N = kept a.name.known a.name.style a.name.text.now in
+    let W = kept a.value.known a.value.style a.value.text.now in
+    let p = c.put-n in
+    let q = c.put-v in
     let F = take 6 d in
     let front : length F ≡ 6 = length-take-le 6 d (omega (arith, c.requires)) in
     let long = length_record (entry_of N W) in

@@ -5,23 +5,13 @@ use lib.ListN.{length, drop}
 use Rattle.headers.proofs.Coding.{decode_step, decode_end, width_fits, width_some}
 use Rattle.headers.proofs.text.decoded_length.Goals as goal
 
-pub overflow_add-i : goal.overflow_add-i
-overflow_add-i c = let l = c.loop-i in
-    let a = c.args in
-    omega (arith, width_fits a.style a.raw.now l.i c.loop-i-test.true, c.width_at-i.ensures)
-
-pub loop-i-smaller : goal.loop-i-smaller
-loop-i-smaller c = let l = c.loop-i in
-    let a = c.args in
-    omega (arith, (width_some a.style (drop l.i a.raw.now)).0, c.width_at-i.ensures)
-
 pub loop-i-preserved : goal.loop-i-preserved
 loop-i-preserved c = let l = c.loop-i in
     let a = c.args in
     let t = c.loop-i-test.true in
     let s = a.style in
     let xs = a.raw.now in
-    rw c.width_at-i.ensures (
+    rw c.decoded_at-width.ensures.1 (
       width_fits s xs l.i t,
       omega (arith, (width_some s (drop l.i xs)).0),
       omega (arith, ap length (decode_step s xs l.i t), l.invariant.2),

@@ -2,8 +2,7 @@
 use mathlib.Core.Path.{◌≡◌, refl, ap, ◌∙◌}
 use mathlib.Core.Bool.{Bool, true, false, cond, ◌&&◌}
 use Prim.Native.Nat.{ℕ, ◌<◌, ◌*◌, ◌/◌, ◌^◌}
-use native.Mathlib.Omega.{arith}
-use lib.Bits.{bit_and, and_le_r}
+use lib.Bits.{bit_and}
 use lib.Dec.{eqb}
 use borrow.Author.Rules.{rules}
 use Rattle.headers.specs.Rows.{any}
@@ -20,15 +19,9 @@ in_word : (e c : Bool) (x : ℕ) → x < 256 → hits (cond c 101404177861898 10
 in_word e true x h = alike (hits 101404177861898) (λ x. any (λ k. eqb x k.octet) (escape_table (styled e true))) 256 x refl h
 in_word e false x h = alike (hits 101404177858570) (λ x. any (λ k. eqb x k.octet) (escape_table (styled e false))) 256 x refl h
 
-pub overflow_mul-result : goal.overflow_mul-result
-overflow_mul-result c = omega (arith, and_le_r c.args.x 20)
-
-pub overflow_shr-result : goal.overflow_shr-result
-overflow_shr-result c = omega (arith, and_le_r c.args.x 20)
-
 pub returns : goal.returns
 returns c =
     let a = c.args in
     let h : a.x < 256 = search rules in
     ap (a.style.escapes &&◌)
-    (ap (λ w. hits w a.x) c.escape_word.ensures ∙ in_word a.style.escapes a.style.crlf a.x h)
+    (ap (hits c.escape_word.result) c.from-n.ensures ∙ ap (λ w. hits w a.x) c.escape_word.ensures ∙ in_word a.style.escapes a.style.crlf a.x h)

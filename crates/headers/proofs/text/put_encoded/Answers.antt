@@ -1,14 +1,15 @@
 -- `text::put_encoded` meets its contract: what is written and what is left to encode make the whole.
-use mathlib.Core.Path.{◌≡◌, ap}
+use mathlib.Core.Path.{◌≡◌, subst}
 use mathlib.Core.List.{List}
-use Prim.Native.Nat.{ℕ, ◌+◌, ◌-◌}
+use Prim.Native.Nat.{ℕ, ◌+◌, ◌-◌, ◌*◌, ◌/◌}
 use native.Mathlib.Omega.{arith}
-use lib.ListN.{length, take, drop, length-append, length-take, length-drop}
+use lib.ListN.{length, take, drop, length-take, length-drop}
 use Rattle.headers.specs.Escapes.{encode}
 use Rattle.headers.specs.declared.text.Style.{Style}
 use Rattle.headers.proofs.Coding.{encode_part}
-use Rattle.headers.proofs.Put.{partly_none, partly_inside, partly_fits, partly_put, partly_rest}
+use Rattle.headers.proofs.Put.{Partly, partly_fits, partly_put, partly_rest}
 use Rattle.headers.proofs.text.put_encoded.Goals as goal
+use Rattle.headers.proofs.text.put_encoded.Goals.{After-loop-k}
 
 -- a block encoded, and what is after it
 abbrev block : Style → List ℕ → ℕ → List ℕ
@@ -17,51 +18,33 @@ block s xs i = encode s (take (i + 8 - i) (drop i xs))
 abbrev after : Style → List ℕ → ℕ → List ℕ
 after s xs i = encode s (drop (i + 8) xs)
 
-pub loop-i-init : goal.loop-i-init
-loop-i-init c = (omega arith, partly_none _ _ c.requires)
-
-pub slice_bounds-put_block-count : goal.slice_bounds-put_block-count
-slice_bounds-put_block-count c = partly_inside c.loop-i.invariant.1
-
-pub slice_bounds-put_block-start : goal.slice_bounds-put_block-start
-slice_bounds-put_block-start c = partly_inside c.loop-i.invariant.1
-
-pub put_block-n-requires : goal.put_block-n-requires
-put_block-n-requires c =
-    let l = c.loop-i in
+pub put_eight-n-requires : goal.put_eight-n-requires
+put_eight-n-requires c =
     let a = c.args in
+    let i = c.loop-k.k * 8 in
     let xs = a.text.now in
-    let long : length (take (l.i + 8 - l.i) (drop l.i xs)) ≡ 8 = simp (length-take, length-drop) (omega (arith, c.loop-i-test.true)) in (
+    let long : length (take (i + 8 - i) (drop i xs)) ≡ 8 = simp (length-take, length-drop) (omega (arith, c.loop-k-test.true)) in (
       long,
-      partly_fits l.invariant.1 (block a.style xs l.i) (after a.style xs l.i) (encode_part a.style xs l.i (l.i + 8) (omega arith)),
+      partly_fits c.loop-k.invariant (block a.style xs i) (after a.style xs i) (encode_part a.style xs i (i + 8) (omega arith)),
     )
 
-pub overflow_add-n : goal.overflow_add-n
-overflow_add-n c =
-    let l = c.loop-i in
+pub loop-k-preserved : goal.loop-k-preserved
+loop-k-preserved c =
     let a = c.args in
-    let step = encode_part a.style a.text.now l.i (l.i + 8) (omega arith) in
-    omega (arith, simp length-append at (ap length step), l.invariant.1.long, l.invariant.1.room, c.put_block-n.ensures.0)
+    let i = c.loop-k.k * 8 in
+    let p = c.put_eight-n in
+    let next : (c.loop-k.k + 1) * 8 ≡ i + 8 = omega arith in
+    rw next
+    (partly_put c.loop-k.invariant (block a.style a.text.now i) (after a.style a.text.now i) (encode_part a.style a.text.now i (i + 8) (omega arith))
+    p.result p.new.d p.ensures.0 p.ensures.1)
 
-pub loop-i-smaller : goal.loop-i-smaller
-loop-i-smaller c = omega (arith, c.loop-i-test.true)
-
-pub loop-i-preserved : goal.loop-i-preserved
-loop-i-preserved c =
-    let l = c.loop-i in
+-- after the last block
+ended : (c : After-loop-k) → let a = c.args in
+    Partly (encode a.style a.text.now) (encode a.style (drop (length a.text.now / 8 * 8) a.text.now)) a.d.now c.loop-k.d c.loop-k.n
+ended c =
     let a = c.args in
-    let p = c.put_block-n in
-    let step = encode_part a.style a.text.now l.i (l.i + 8) (omega arith) in (
-      omega (arith, l.invariant.0, c.loop-i-test.true),
-      partly_put l.invariant.1 (block a.style a.text.now l.i) (after a.style a.text.now l.i) step
-          p.result p.new.d p.ensures.0 p.ensures.1,
-    )
-
-pub put_end-requires : goal.put_end-requires
-put_end-requires c =
-    let l = c.loop-i in
-    let so = l.invariant.1 in
-    (l.invariant.0, omega (arith, c.loop-i-test.false), omega (arith, so.room, so.as_long), so.long, so.parts)
+    let last : c.loop-k.k * 8 ≡ length a.text.now / 8 * 8 = omega arith in
+    subst (λ i. Partly (encode a.style a.text.now) (encode a.style (drop i a.text.now)) a.d.now c.loop-k.d c.loop-k.n) last c.loop-k.invariant
 
 pub returns : goal.returns
-returns c = partly_rest c.loop-i.invariant.1 _ _ c.put_end.ensures
+returns c = partly_rest (ended (goal.at.returns c).After-loop-k) _ _ c.put_end.ensures

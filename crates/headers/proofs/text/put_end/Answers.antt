@@ -1,7 +1,7 @@
 -- `text::put_end` meets its contract: where no octet of the last block is escaped, it is the end of the encoding too.
 use mathlib.Core.Path.{◌≡◌, refl, sym, ◌∙◌, ap, subst}
 use mathlib.Core.Bool.{true}
-use mathlib.Core.List.{List, [], ◌++◌, append-nil}
+use mathlib.Core.List.{List, ◌++◌}
 use Prim.Native.Nat.{ℕ, ◌+◌, ◌-◌, ◌≤◌, ◌<◌}
 use native.Mathlib.Omega.{arith}
 use lib.ListN.{length, take, drop, length-append, length-drop}
@@ -11,7 +11,7 @@ use Rattle.headers.specs.Escapes.{encode}
 use Rattle.headers.specs.Answers.{Puts}
 use Rattle.headers.specs.declared.text.Style.{Style}
 use Rattle.headers.proofs.Coding.{bare, encode_tail}
-use Rattle.headers.proofs.Put.{Partly, partly_done, partly_fits, partly_put}
+use Rattle.headers.proofs.Put.{Partly}
 use Rattle.headers.proofs.Copying.{partly_over}
 use Rattle.headers.proofs.text.put_end.Goals as goal
 
@@ -23,16 +23,6 @@ Asks s xs d n i =
 
 begun : (s : Style) (xs d : List ℕ) (n i : ℕ) → Asks s xs d n i → Partly (encode s xs) (encode s (drop i xs)) d d n
 begun s xs d n i h = record { room = h.2; as_long = refl; long = h.3; parts = h.4; kept = refl }
-
--- what is left, as the part that is handed on
-abbrev end_of : Style → List ℕ → ℕ → List ℕ
-end_of s xs i = encode s (take (length xs - i) (drop i xs))
-
-whole_end : (s : Style) (xs : List ℕ) (i : ℕ) → encode s (drop i xs) ≡ end_of s xs i
-whole_end s xs i = ap (encode s) (sym (take_all (length xs - i) (drop i xs) (simp length-drop (omega arith))))
-
-rest : (s : Style) (xs : List ℕ) (i : ℕ) → encode s (drop i xs) ≡ end_of s xs i ++ []
-rest s xs i = whole_end s xs i ∙ sym (append-nil (end_of s xs i))
 
 -- the last block, as it is handed on
 abbrev block : List ℕ → List ℕ
@@ -67,41 +57,23 @@ over_end s xs d n i h long clear =
           (omega (arith, put.0, eight), put.1);
     }
 
-pub overflow_sub-at-then-is_bare : goal.overflow_sub-at-then-is_bare
-overflow_sub-at-then-is_bare c =
+pub overflow_sub-at-then-is_all : goal.overflow_sub-at-then-is_all
+overflow_sub-at-then-is_all c =
     omega (
       arith,
       (over_end c.args.style c.args.text.now c.args.d.now c.args.n c.args.i c.requires
-          c.if-text-ge8.true (sym c.is_bare.ensures ∙ c.if-is_bare.true)).place,
+          c.if-text-ge8.true (sym c.is_all.ensures ∙ c.if-is_all.true)).place,
     )
 
-pub put_8-requires : goal.put_8-requires
-put_8-requires c =
+pub put_block-requires : goal.put_block-requires
+put_block-requires c =
     let o = over_end c.args.style c.args.text.now c.args.d.now c.args.n c.args.i c.requires
-    c.if-text-ge8.true (sym c.is_bare.ensures ∙ c.if-is_bare.true) in
+    c.if-text-ge8.true (sym c.is_all.ensures ∙ c.if-is_all.true) in
     (omega (arith, o.eight), o.fits)
 
-pub returns-then-is_bare : goal.returns-then-is_bare
-returns-then-is_bare c =
+pub returns-then-is_all : goal.returns-then-is_all
+returns-then-is_all c =
     (over_end c.args.style c.args.text.now c.args.d.now c.args.n c.args.i c.requires
     c.if-text-ge8.true
-    (sym c.is_bare.ensures ∙ c.if-is_bare.true)
-    ).done _ c.put_8.ensures
-
-pub put_each-requires : goal.put_each-requires
-put_each-requires c =
-    partly_fits (begun c.args.style c.args.text.now c.args.d.now c.args.n c.args.i c.requires)
-    (end_of c.args.style c.args.text.now c.args.i) [] (rest c.args.style c.args.text.now c.args.i)
-
-pub overflow_add-result-2 : goal.overflow_add-result-2
-overflow_add-result-2 c =
-    omega (arith, ap length (whole_end c.args.style c.args.text.now c.args.i), c.put_each.ensures.0, c.requires.2, c.requires.3)
-
-pub returns : goal.returns
-returns c =
-    let p = c.put_each in
-    partly_done
-    (partly_put (begun c.args.style c.args.text.now c.args.d.now c.args.n c.args.i c.requires)
-    (end_of c.args.style c.args.text.now c.args.i) [] (rest c.args.style c.args.text.now c.args.i)
-    p.result p.new.d p.ensures.0 p.ensures.1)
-    refl
+    (sym c.is_all.ensures ∙ c.if-is_all.true)
+    ).done _ c.put_block.ensures

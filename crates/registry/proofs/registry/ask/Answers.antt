@@ -4,118 +4,92 @@ use native.Mathlib.Omega.{arith}
 use mathlib.Core.Path.{◌≡◌, sym, ap, ap₂, ◌∙◌}
 use mathlib.Core.Bool.{true, false, ◌||◌}
 use mathlib.Core.List.{List}
+use mathlib.Core.Option.{some}
 use lib.ListN.{length}
+use Rattle.std.specs.Prelude.{is_some as has_place}
 use Rattle.headers.proofs.Rows.{or_false_left, or_false_right}
-use Rattle.stores.specs.Searches.{search_says, is_at}
-use Rattle.registry.specs.Records.{is_valid}
+use Rattle.stores.specs.Searches.{first_from}
+use Rattle.registry.specs.Records.{parts, is_valid}
 use Rattle.registry.specs.Registry.{bad_size}
-use Rattle.registry.proofs.Calling.{invalid, valid_rows, is_open_at, run_inside, ask_bad, ask_none, size_of, slots_room, slots_part, movable_part, ask_part}
+use Rattle.registry.specs.Tests.{is_named}
 use Rattle.registry.specs.Calls.{ask}
+use Rattle.registry.proofs.Calling.{admitted_both, not_admitted, found_ok, found_err, ask_refused, valid_long, is_open_at, run_inside, ask_bad, ask_none, size_of, slots_room, slots_part, movable_part, ask_part}
 use Rattle.registry.proofs.registry.ask.Goals as goal
-use Rattle.registry.proofs.registry.ask.Goals.{Else-is_bad}
+use Rattle.registry.proofs.registry.ask.Goals.{In_ok-k}
 
--- what is known where no refusal came
-module _ (e : Else-is_bad) where
+-- what is known where the run is found
+module _ (e : In_ok-k) where
   abbrev reg : List ℕ
   reg = e.args.reg.now
 
   abbrev run : List ℕ
   run = e.args.run.now
 
-  abbrev destination : List ℕ
-  destination = e.args.destination.now
-
   valid : is_valid reg ≡ true
-  valid = sym e.is_valid.ensures ∙ e.if-not-is_valid.false
+  valid = (admitted_both _ _ _ e.admit.ensures e.in_ok-admit.was).0
 
-  sizes : bad_size 32 run || bad_size 32 destination ≡ false
-  sizes = sym (ap₂ (◌||◌) e.is_bad.ensures e.is_bad-2.ensures) ∙ e.if-is_bad.false
+  sizes : bad_size 32 run || bad_size 32 e.args.destination.now ≡ false
+  sizes = sym (ap₂ (◌||◌) e.is_bad.ensures e.is_bad-2.ensures) ∙ (admitted_both _ _ _ e.admit.ensures e.in_ok-admit.was).1
 
   some_run : 0 < length run
-  some_run = (size_of 32 run (or_false_left (bad_size 32 run) (bad_size 32 destination) sizes)).some_octet
+  some_run = (size_of 32 run (or_false_left (bad_size 32 run) (bad_size 32 e.args.destination.now) sizes)).some_octet
 
-pub returns-then-not-is_valid : goal.returns-then-not-is_valid
-returns-then-not-is_valid c = (
-  (invalid c.args.reg.now (sym c.is_valid.ensures ∙ c.if-not-is_valid.true)
-      (ask c.args.run.now c.args.destination.now)).0,
-  tt,
-  (omega arith, omega arith),
-)
+  there : some e.in_ok-k.k ≡ first_from (is_named run) 0 (parts 881 4 reg)
+  there = found_ok _ _ _ _ e.ok_or.ensures.value e.in_ok-k.was ∙ e.row_of.ensures
 
-pub returns-then-is_bad : goal.returns-then-is_bad
-returns-then-is_bad c = (
-  ask_bad c.args.reg.now (sym c.is_valid.ensures ∙ c.if-not-is_valid.false)
-      c.args.run.now c.args.destination.now (sym (ap₂ (◌||◌) c.is_bad.ensures c.is_bad-2.ensures) ∙ c.if-is_bad.true),
-  tt,
-  (omega arith, omega arith),
-)
+  inside : e.in_ok-k.k < 4
+  inside = run_inside reg valid run some_run e.in_ok-k.k there
 
-pub find-requires : goal.find-requires
-find-requires c =
-    let e = (goal.at.find-requires c).Else-is_bad in valid_rows (reg e) (valid e)
+pub returns-in_err-admit : goal.returns-in_err-admit
+returns-in_err-admit c =
+    let a = c.args in
+    ask_refused a.reg.now _ _ c.from_residual.result c.from_residual.ensures.1
+    (not_admitted a.reg.now (ask a.run.now a.destination.now) _ _ _ c.admit.ensures c.in_err-admit.was
+    (λ v b. ask_bad a.reg.now v a.run.now a.destination.now (sym (ap₂ (◌||◌) c.is_bad.ensures c.is_bad-2.ensures) ∙ b))).0
+
+pub row_of-requires : goal.row_of-requires
+row_of-requires c = valid_long c.args.reg.now (admitted_both _ _ _ c.admit.ensures c.in_ok-admit.was).0
+
+pub returns-in_err-k : goal.returns-in_err-k
+returns-in_err-k c =
+    let a = c.args in
+    let (v, b) = admitted_both _ _ _ c.admit.ensures c.in_ok-admit.was in
+    let size = sym (ap₂ (◌||◌) c.is_bad.ensures c.is_bad-2.ensures) ∙ b in
+    let some_run = (size_of 32 a.run.now (or_false_left (bad_size 32 a.run.now) (bad_size 32 a.destination.now) size)).some_octet in
+    ask_refused a.reg.now _ _ c.from_residual-in_err-k.result c.from_residual-in_err-k.ensures.1
+    (found_err a.reg.now (ask a.run.now a.destination.now) _ _ _ _ c.ok_or.ensures.value c.in_err-k.was
+    (λ q. ask_none a.reg.now v a.run.now a.destination.now size
+    (is_open_at a.reg.now v a.run.now some_run c.row_of.result c.row_of.ensures ∙ ap has_place q))).0
 
 pub overflow_mul-at : goal.overflow_mul-at
-overflow_mul-at c =
-    let e = (goal.at.overflow_mul-at c).Else-is_bad in
-    omega (
-      arith,
-      run_inside (reg e) (valid e) (run e) (some_run e) c.in-At.k
-          (sym (ap search_says c.in-At.is) ∙ c.find.ensures),
-    )
+overflow_mul-at c = omega (arith, inside (goal.at.overflow_mul-at c).In_ok-k)
 
 pub overflow_add-at : goal.overflow_add-at
-overflow_add-at c =
-    let e = (goal.at.overflow_add-at c).Else-is_bad in
-    omega (
-      arith,
-      run_inside (reg e) (valid e) (run e) (some_run e) c.in-At.k
-          (sym (ap search_says c.in-At.is) ∙ c.find.ensures),
-    )
+overflow_add-at c = omega (arith, inside (goal.at.overflow_add-at c).In_ok-k)
 
 pub overflow_add-end : goal.overflow_add-end
-overflow_add-end c =
-    let e = (goal.at.overflow_add-end c).Else-is_bad in
-    omega (
-      arith,
-      run_inside (reg e) (valid e) (run e) (some_run e) c.in-At.k
-          (sym (ap search_says c.in-At.is) ∙ c.find.ensures),
-    )
+overflow_add-end c = omega (arith, inside (goal.at.overflow_add-end c).In_ok-k)
 
 pub slice_bounds-port_in-end : goal.slice_bounds-port_in-end
 slice_bounds-port_in-end c =
-    let e = (goal.at.slice_bounds-port_in-end c).Else-is_bad in
-    slots_room (reg e) (valid e) (run e) (some_run e) c.in-At.k
-    (sym (ap search_says c.in-At.is) ∙ c.find.ensures)
+    let e = (goal.at.slice_bounds-port_in-end c).In_ok-k in
+    slots_room (reg e) (valid e) (run e) (some_run e) c.in_ok-k.k (there e)
 
 pub port_in-requires : goal.port_in-requires
 port_in-requires c =
-    let e = (goal.at.port_in-requires c).Else-is_bad in (
-      slots_part (reg e) (valid e) (run e) (some_run e) c.in-At.k
-          (sym (ap search_says c.in-At.is) ∙ c.find.ensures),
-      size_of 32 (destination e)
-          (or_false_right (bad_size 32 (run e)) (bad_size 32 (destination e)) (sizes e)),
+    let e = (goal.at.port_in-requires c).In_ok-k in
+    let a = c.args in (
+      slots_part (reg e) (valid e) (run e) (some_run e) c.in_ok-k.k (there e),
+      size_of 32 a.destination.now (or_false_right (bad_size 32 a.run.now) (bad_size 32 a.destination.now) (sizes e)),
     )
 
 pub moved-requires : goal.moved-requires
 moved-requires c =
-    let e = (goal.at.moved-requires c).Else-is_bad in
-    movable_part (reg e) (valid e) (run e) (some_run e) c.in-At.k
-    (sym (ap search_says c.in-At.is) ∙ c.find.ensures) (destination e) (sizes e)
-    c.port_in.result c.port_in.ensures
+    let e = (goal.at.moved-requires c).In_ok-k in
+    movable_part (reg e) (valid e) (run e) (some_run e) c.in_ok-k.k (there e) c.args.destination.now (sizes e) c.port_in.result c.port_in.ensures
 
-pub returns-in-Nowhere : goal.returns-in-Nowhere
-returns-in-Nowhere c =
-    let e = (goal.at.returns-in-Nowhere c).Else-is_bad in (
-      ask_none (reg e) (valid e) (run e) (destination e) (sizes e)
-          (is_open_at (reg e) (valid e) (run e) (some_run e) c.find.result c.find.ensures
-          ∙ ap is_at c.in-Nowhere.is),
-      tt,
-      (omega arith, omega arith),
-    )
-
-pub returns-in-At : goal.returns-in-At
-returns-in-At c =
-    let e = (goal.at.returns-in-At c).Else-is_bad in
-    ask_part (reg e) (valid e) (run e) (some_run e) c.in-At.k
-    (sym (ap search_says c.in-At.is) ∙ c.find.ensures) (destination e)
-    (sizes e) c.port_in.result c.port_in.ensures c.moved.result c.moved.ensures
+pub returns : goal.returns
+returns c =
+    let e = (goal.at.returns c).In_ok-k in
+    ask_part (reg e) (valid e) (run e) (some_run e) c.in_ok-k.k (there e) c.args.destination.now (sizes e) c.port_in.result c.port_in.ensures
+    c.moved.result c.moved.ensures

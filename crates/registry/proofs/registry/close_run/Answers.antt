@@ -4,17 +4,21 @@ use native.Mathlib.Omega.{arith}
 use mathlib.Core.Path.{◌≡◌, sym, ap, ◌∙◌}
 use mathlib.Core.Bool.{true, false}
 use mathlib.Core.List.{List}
+use mathlib.Core.Option.{some}
 use lib.ListN.{length}
-use Rattle.stores.specs.Searches.{search_says, is_at}
-use Rattle.registry.specs.Records.{is_valid}
+use Rattle.std.specs.Prelude.{is_some as has_place}
+use Rattle.stores.specs.Searches.{first_from}
+use Rattle.registry.specs.Records.{parts, is_valid}
 use Rattle.registry.specs.Registry.{bad_size}
-use Rattle.registry.proofs.Calling.{invalid, valid_rows, is_open_at, run_inside, close_there, close_bad, close_none, size_of}
+use Rattle.registry.specs.Tests.{is_named}
+use Rattle.registry.specs.Answers.{done_says}
 use Rattle.registry.specs.Calls.{close_run}
+use Rattle.registry.proofs.Calling.{admitted_both, not_admitted, told_err, found_ok, found_err, valid_long, is_open_at, run_inside, row_room, close_there, close_bad, close_none, size_of}
 use Rattle.registry.proofs.registry.close_run.Goals as goal
-use Rattle.registry.proofs.registry.close_run.Goals.{Else-is_bad}
+use Rattle.registry.proofs.registry.close_run.Goals.{In_ok-k}
 
--- what is known where no refusal came
-module _ (e : Else-is_bad) where
+-- what is known where the run is found
+module _ (e : In_ok-k) where
   abbrev reg : List ℕ
   reg = e.args.reg.now
 
@@ -22,62 +26,51 @@ module _ (e : Else-is_bad) where
   run = e.args.run.now
 
   valid : is_valid reg ≡ true
-  valid = sym e.is_valid.ensures ∙ e.if-not-is_valid.false
+  valid = (admitted_both _ _ _ e.admit.ensures e.in_ok-admit.was).0
 
   size : bad_size 32 run ≡ false
-  size = sym e.is_bad.ensures ∙ e.if-is_bad.false
+  size = sym e.is_bad.ensures ∙ (admitted_both _ _ _ e.admit.ensures e.in_ok-admit.was).1
 
   some_run : 0 < length run
   some_run = (size_of 32 run size).some_octet
 
-pub returns-then-not-is_valid : goal.returns-then-not-is_valid
-returns-then-not-is_valid c =
-    invalid c.args.reg.now (sym c.is_valid.ensures ∙ c.if-not-is_valid.true)
-    (close_run c.args.run.now)
+  there : some e.in_ok-k.k ≡ first_from (is_named run) 0 (parts 881 4 reg)
+  there = found_ok _ _ _ _ e.ok_or.ensures.value e.in_ok-k.was ∙ e.row_of.ensures
 
-pub returns-then-is_bad : goal.returns-then-is_bad
-returns-then-is_bad c =
-    close_bad c.args.reg.now (sym c.is_valid.ensures ∙ c.if-not-is_valid.false) c.args.run.now
-    (sym c.is_bad.ensures ∙ c.if-is_bad.true)
+  inside : e.in_ok-k.k < 4
+  inside = run_inside reg valid run some_run e.in_ok-k.k there
 
-pub find-requires : goal.find-requires
-find-requires c =
-    let e = (goal.at.find-requires c).Else-is_bad in valid_rows (reg e) (valid e)
+pub returns-in_err-admit : goal.returns-in_err-admit
+returns-in_err-admit c =
+    let a = c.args in
+    told_err done_says c.from_residual.result c.from_residual.ensures.1
+    (not_admitted a.reg.now (close_run a.run.now) _ _ _ c.admit.ensures c.in_err-admit.was
+    (λ v b. close_bad a.reg.now v a.run.now (sym c.is_bad.ensures ∙ b)))
+
+pub row_of-requires : goal.row_of-requires
+row_of-requires c = valid_long c.args.reg.now (admitted_both _ _ _ c.admit.ensures c.in_ok-admit.was).0
+
+pub returns-in_err-k : goal.returns-in_err-k
+returns-in_err-k c =
+    let a = c.args in
+    let (v, b) = admitted_both _ _ _ c.admit.ensures c.in_ok-admit.was in
+    let size = sym c.is_bad.ensures ∙ b in
+    told_err done_says c.from_residual-in_err-k.result c.from_residual-in_err-k.ensures.1
+    (found_err a.reg.now (close_run a.run.now) _ _ _ _ c.ok_or.ensures.value c.in_err-k.was
+    (λ q. close_none a.reg.now v a.run.now size (is_open_at a.reg.now v a.run.now (size_of 32 a.run.now size).some_octet c.row_of.result c.row_of.ensures ∙ ap has_place q)))
 
 pub overflow_mul-at : goal.overflow_mul-at
-overflow_mul-at c =
-    let e = (goal.at.overflow_mul-at c).Else-is_bad in
-    omega (
-      arith,
-      run_inside (reg e) (valid e) (run e) (some_run e) c.in-At.k
-          (sym (ap search_says c.in-At.is) ∙ c.find.ensures),
-    )
+overflow_mul-at c = omega (arith, inside (goal.at.overflow_mul-at c).In_ok-k)
 
 pub overflow_add-end : goal.overflow_add-end
-overflow_add-end c =
-    let e = (goal.at.overflow_add-end c).Else-is_bad in
-    omega (
-      arith,
-      run_inside (reg e) (valid e) (run e) (some_run e) c.in-At.k
-          (sym (ap search_says c.in-At.is) ∙ c.find.ensures),
-    )
+overflow_add-end c = omega (arith, inside (goal.at.overflow_add-end c).In_ok-k)
 
 pub slice_bounds-fill-end : goal.slice_bounds-fill-end
 slice_bounds-fill-end c =
-    let e = (goal.at.slice_bounds-fill-end c).Else-is_bad in
-    Rattle.registry.proofs.Calling.row_room (reg e) (valid e) (run e) (some_run e) c.in-At.k
-    (sym (ap search_says c.in-At.is) ∙ c.find.ensures)
+    let e = (goal.at.slice_bounds-fill-end c).In_ok-k in
+    row_room (reg e) (valid e) (run e) (some_run e) c.in_ok-k.k (there e)
 
-pub returns-in-Nowhere : goal.returns-in-Nowhere
-returns-in-Nowhere c =
-    let e = (goal.at.returns-in-Nowhere c).Else-is_bad in
-    close_none (reg e) (valid e) (run e) (size e)
-    (is_open_at (reg e) (valid e) (run e) (some_run e) c.find.result c.find.ensures ∙ ap is_at c.in-Nowhere.is)
-
-pub returns-in-At : goal.returns-in-At
-returns-in-At c =
-    let e = (goal.at.returns-in-At c).Else-is_bad in
-    close_there (reg e) (valid e) (run e) (some_run e) c.in-At.k
-    (sym (ap search_says c.in-At.is)
-    ∙ c.find.ensures) (size e) c.fill.new.place
-    c.fill.ensures
+pub returns : goal.returns
+returns c =
+    let e = (goal.at.returns c).In_ok-k in
+    close_there (reg e) (valid e) (run e) (some_run e) c.in_ok-k.k (there e) (size e) c.fill.new.self (c.fill.ensures.after (λ y z. z))

@@ -1,21 +1,28 @@
 -- `registry/end_session` meets its contract. The record tested, then each run.
 use native.Mathlib.Omega.{arith}
-use mathlib.Core.Path.{sym, ◌∙◌}
-use Rattle.registry.proofs.Calling.{invalid, valid_long, end_there}
+use Rattle.headers.proofs.Rows.{never}
+use mathlib.Core.Bool.{false}
+use Rattle.registry.specs.Answers.{done_says}
+use Rattle.registry.proofs.Calling.{admitted_both, not_admitted, told_err, valid_rows, end_there}
+use borrow.Author.Rules.{rules}
+use Rattle.registry.specs.Steps.{run_octets_without}
+use Rattle.registry.proofs.Runs.{run_without_long}
 use Rattle.registry.specs.Calls.{end_session}
 use Rattle.registry.proofs.registry.end_session.Goals as goal
 
-pub returns-then-not-is_valid : goal.returns-then-not-is_valid
-returns-then-not-is_valid c =
-    invalid c.args.reg.now (sym c.is_valid.ensures ∙ c.if-not-is_valid.true)
-    (end_session c.args.session)
+pub returns-in_err-admit : goal.returns-in_err-admit
+returns-in_err-admit c =
+    let a = c.args in
+    told_err done_says c.from_residual.result c.from_residual.ensures.1
+    (not_admitted a.reg.now (end_session a.session) _ _ _ c.admit.ensures c.in_err-admit.was (λ v b. never b))
 
-pub withdraw_from_all-requires : goal.withdraw_from_all-requires
-withdraw_from_all-requires c =
-    valid_long c.args.reg.now (sym c.is_valid.ensures ∙ c.if-not-is_valid.false)
+pub change_each-requires-clause-laid : goal.change_each-requires-clause-laid
+change_each-requires-clause-laid c =
+    valid_rows c.args.reg.now (admitted_both _ false _ c.admit.ensures c.in_ok-admit.was).0
 
 pub returns : goal.returns
 returns c =
-    end_there c.args.session (omega arith) c.args.reg.now
-    (sym c.is_valid.ensures ∙ c.if-not-is_valid.false)
-    c.withdraw_from_all.new.reg c.withdraw_from_all.ensures
+    let s = c.args.session in
+    end_there s (omega arith) c.args.reg.now
+    (admitted_both _ false _ c.admit.ensures c.in_ok-admit.was).0 c.change_each.new.rows
+    (c.change_each.ensures.says (run_octets_without s) (λ row left long q. (search rules, run_without_long s row.now long)))

@@ -8,13 +8,13 @@ pub returns-then-field-eq0 : goal.returns-then-field-eq0
 returns-then-field-eq0 c = field_none c.args.field.now (get_or-eq_default c.args.field.now 0 (omega arith))
 
 pub returns-then-len-eq0 : goal.returns-then-len-eq0
-returns-then-len-eq0 c = field_free c.args.field.now c.wide-len.result c.wide-len.ensures.0 c.if-len-eq0.true
+returns-then-len-eq0 c = field_free c.args.field.now c.from-len.result c.from-len.ensures c.if-len-eq0.true
 
 pub returns-then-field-len : goal.returns-then-field-len
 returns-then-field-len c =
-    field_over c.args.field.now c.wide-len.result c.wide-len.ensures.0 c.if-len-eq0.false c.if-field-len.true
+    field_over c.args.field.now c.from-len.result c.from-len.ensures c.if-len-eq0.false c.if-field-len.true
 
 pub returns : goal.returns
 returns c =
-    field_rest c.args.field.now c.wide-len.result c.wide-len.ensures.0 c.if-len-eq0.false
+    field_rest c.args.field.now c.from-len.result c.from-len.ensures c.if-len-eq0.false
     c.if-field-len.false c.is_zero_from.result c.is_zero_from.ensures

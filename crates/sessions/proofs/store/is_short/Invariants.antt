@@ -1,9 +1,7 @@
-use Rattle.std.proofs.Common.{◌≡◌, ◌-◌, ◌≤◌, length, drop}
+use Rattle.std.proofs.Common.{◌≡◌, drop}
 use Rattle.sessions.specs.Stores.{short}
+use Rattle.sessions.specs.Sessions.{id_max}
 use Rattle.sessions.proofs.store.is_short.Given as goal
 
-abbrev pub invariant-loop-k : goal.invariant-loop-k
-invariant-loop-k l = (l.k ≤ length l.lens) × (short l.width l.lens ≡ short l.width (drop l.k l.lens))
-
-abbrev pub decreases-loop-k : goal.decreases-loop-k
-decreases-loop-k l = length l.lens - l.k
+abbrev pub invariant-loop-l : goal.invariant-loop-l
+invariant-loop-l l = short id_max l.lens ≡ short id_max (drop l.l-index l.lens)

@@ -7,15 +7,15 @@ pub returns-then-value-i : goal.returns-then-value-i
 returns-then-value-i c =
     let l = c.loop-i in
     let a = c.args in
-    (omega (arith, until_stop a.octet a.value.now l.i c.loop-i-test.true c.if-value-i.true), l.invariant.0)
+    (omega (arith, l.invariant, until_stop a.octet a.value.now l.i c.loop-i-test.true c.if-value-i.true), omega (arith, c.loop-i-test.true))
 
 pub loop-i-preserved : goal.loop-i-preserved
 loop-i-preserved c =
     let l = c.loop-i in
     let a = c.args in
-    (omega arith, omega (arith, until_more a.octet a.value.now l.i c.loop-i-test.true c.if-value-i.false))
+    omega (arith, l.invariant, until_more a.octet a.value.now l.i c.loop-i-test.true c.if-value-i.false)
 
 pub returns : goal.returns
 returns c =
     let a = c.args in
-    (omega (arith, until_end a.octet a.value.now c.loop-i.i c.loop-i-test.false), c.loop-i.invariant.0)
+    (omega (arith, c.loop-i.invariant, until_end a.octet a.value.now c.loop-i.i c.loop-i-test.false), omega arith)

@@ -1,9 +1,6 @@
-use Rattle.std.proofs.Common.{◌≡◌, ◌+◌, ◌-◌, ◌≤◌, length, drop}
+use Rattle.std.proofs.Common.{◌≡◌, ◌+◌, drop}
 use Rattle.headers.specs.Parts.{until}
 use Rattle.sessions.proofs.value.end_of.Given as goal
 
 abbrev pub invariant-loop-i : goal.invariant-loop-i
-invariant-loop-i l = (l.i ≤ length l.value) × (l.i + until l.octet (drop l.i l.value) ≡ l.from + until l.octet (drop l.from l.value))
-
-abbrev pub decreases-loop-i : goal.decreases-loop-i
-decreases-loop-i l = length l.value - l.i
+invariant-loop-i l = l.i + until l.octet (drop l.i l.value) ≡ l.from + until l.octet (drop l.from l.value)

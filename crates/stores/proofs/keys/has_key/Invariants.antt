@@ -1,13 +1,9 @@
 use mathlib.Core.Path.{◌≡◌}
 use mathlib.Core.Bool.{◌||◌}
-use Prim.Native.Nat.{◌-◌}
 use lib.Dec.{eqb}
-use lib.ListN.{drop, length}
+use lib.ListN.{drop}
 use Rattle.headers.specs.Rows.{any}
 use Rattle.stores.proofs.keys.has_key.Given as goal
 
-abbrev pub invariant-loop-i : goal.invariant-loop-i
-invariant-loop-i l = l.found || any (λ x. eqb x l.key) (drop l.i l.keys) ≡ any (λ x. eqb x l.key) l.keys
-
-abbrev pub decreases-loop-i : goal.decreases-loop-i
-decreases-loop-i l = length l.keys - l.i
+abbrev pub invariant-loop-x : goal.invariant-loop-x
+invariant-loop-x l = l.found || any (λ x. eqb x l.key) (drop l.x-index l.keys) ≡ any (λ x. eqb x l.key) l.keys

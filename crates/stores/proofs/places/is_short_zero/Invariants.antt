@@ -1,13 +1,13 @@
 use mathlib.Core.Path.{◌≡◌}
 use mathlib.Core.Bool.{◌&&◌}
-use Prim.Native.Nat.{◌-◌, ◌≤◌}
-use lib.ListN.{length, drop}
+use Prim.Native.Nat.{◌-◌}
+use lib.ListN.{drop}
 use Rattle.stores.specs.Places.{is_zero}
-use Rattle.stores.proofs.Zeros.{zero_left}
 use Rattle.stores.proofs.places.is_short_zero.Given as goal
 
-abbrev pub invariant-loop-i : goal.invariant-loop-i
-invariant-loop-i l = (l.i ≤ length l.s) × (l.j ≡ l.i) × (is_zero (drop l.n l.s) ≡ l.zero && zero_left l.n l.i l.s)
-
-abbrev pub decreases-loop-i : goal.decreases-loop-i
-decreases-loop-i l = length l.s - l.i
+abbrev pub invariant-loop-x : goal.invariant-loop-x
+invariant-loop-x l =
+    record {
+      same_place : l.j ≡ l.x-index;
+      left : is_zero (drop l.n l.s) ≡ l.zero && is_zero (drop (l.n - l.j) (drop l.j l.s));
+    }

@@ -5,10 +5,10 @@ use Rattle.std.proofs.Common.{rules}
 use Rattle.sessions.proofs.delivery.Deliveries.may_name.Goals as goal
 
 -- the sizes of its arrays
-sized : (c : goal.After-wide) → SizedDeliveries c.args.self
+sized : (c : goal.After-from) → SizedDeliveries c.args.self
 sized c = record { labels_long = search rules; lens_long = search rules; places_long = search rules }
 
-pub returns-in-At : goal.returns-in-At
-returns-in-At c =
-    may_at c.args.self (sized c) c.requires.0 c.args.index c.requires.1 _ _ _ _ c.in-V11.is c.in-At.is
-    c.wide.ensures.0
+pub returns-in-Some : goal.returns-in-Some
+returns-in-Some c =
+    may_at c.args.self (sized c) c.requires.0 c.args.index c.requires.1 _ _ _ _ c.in-V11.is c.in-Some.is
+    c.from.ensures

@@ -32,7 +32,7 @@ pub find_subscription-requires : goal.find_subscription-requires
 find_subscription-requires c = sym c.is_valid.ensures ∙ c.if-not-is_valid.false
 
 -- a valid session, with the sizes of its arrays
-kept : (c : goal.In-At) → is_valid c.args.self ≡ true → Kept c.args.self
+kept : (c : goal.In-Some) → is_valid c.args.self ≡ true → Kept c.args.self
 kept c v =
     kept_of c.args.self
     (record {
@@ -52,25 +52,25 @@ record_at-requires c = (
       (sym c.is_valid.ensures
       ∙ c.if-not-is_valid.false))
       (λ x. same x c.args.subscription.now) _
-      (says_at _ _ _ c.find_subscription.ensures c.in-At.is),
+      (says_at _ _ _ c.find_subscription.ensures c.in-Some.is),
 )
 
-pub returns-in-At : goal.returns-in-At
-returns-in-At c =
+pub returns-in-Some : goal.returns-in-Some
+returns-in-Some c =
     deliver_placed c.args.self
     c.args.subscription.now
     c.args.label.now c.record_at.result
     (sym c.is_valid.ensures
     ∙ c.if-not-is_valid.false) c.if-self-ne-OPEN.false
     c.if-subscription-eq0.false c.find_subscription.result
-    c.find_subscription.ensures c.in-At.k c.in-At.is c.record_at.ensures
+    c.find_subscription.ensures c.in-Some.k c.in-Some.is c.record_at.ensures
 
-pub returns-in-Nowhere : goal.returns-in-Nowhere
-returns-in-Nowhere c =
+pub returns-in-None : goal.returns-in-None
+returns-in-None c =
     deliver_unknown c.args.self
     c.args.subscription.now
-    c.args.label.now c.unrecorded-in-Nowhere.result
+    c.args.label.now c.unrecorded-in-None.result
     (sym c.is_valid.ensures
     ∙ c.if-not-is_valid.false) c.if-self-ne-OPEN.false
     c.if-subscription-eq0.false c.find_subscription.result
-    c.find_subscription.ensures c.in-Nowhere.is c.unrecorded-in-Nowhere.ensures
+    c.find_subscription.ensures c.in-None.is c.unrecorded-in-None.ensures

@@ -11,10 +11,11 @@ use Rattle.sessions.proofs.Kept.{Kept, kept_of}
 use Rattle.sessions.proofs.Delivering.{laid_of, place_inside, says_at, says_nowhere, dropped_idle, modes_idle}
 use Rattle.sessions.proofs.Deciding.{does_nothing, does_drop}
 use Rattle.sessions.proofs.session.Session.drop_deliveries.Goals as goal
+use Rattle.sessions.proofs.session.Session.drop_deliveries.Goals.{Start}
 
 -- a valid session, with the sizes of its arrays
-kept_1 : (c : goal.Then-count-is_zero) → is_valid c.args.self ≡ true → Kept c.args.self
-kept_1 c v =
+kept : (c : Start) → is_valid c.args.self ≡ true → Kept c.args.self
+kept c v =
     kept_of c.args.self
     (record {
       subscriptions = record { ids_long = search rules; lens_long = search rules; modes_long = search rules };
@@ -25,7 +26,7 @@ kept_1 c v =
 pub returns-then-count-is_zero : goal.returns-then-count-is_zero
 returns-then-count-is_zero c =
     let a = c.args in
-    let held = kept_1 c c.requires in
+    let held = kept (goal.at.returns-then-count-is_zero c).Start c.requires in
     let d = a.self.deliveries in
     let ms = a.self.subscriptions.modes in
     let o = place_named a.self (some a.id.now) in
@@ -33,25 +34,15 @@ returns-then-count-is_zero c =
     does_nothing a.self _ _ (sym (modes_idle ms o (and_right (eqb d.count 0) (is_zero ms) idle)))
     (sym (dropped_idle d held.holds.sized (laid_of a.self held) o (eqb-true d.count 0 (and_left (eqb d.count 0) (is_zero ms) idle))))
 
--- a valid session, with the sizes of its arrays
-kept_2 : (c : goal.In-At) → is_valid c.args.self ≡ true → Kept c.args.self
-kept_2 c v =
-    kept_of c.args.self
-    (record {
-      subscriptions = record { ids_long = search rules; lens_long = search rules; modes_long = search rules };
-      transactions = record { ids_long = search rules; lens_long = search rules };
-    })
-    (record { labels_long = search rules; lens_long = search rules; places_long = search rules }) v
-
-pub returns-in-At : goal.returns-in-At
-returns-in-At c =
+pub returns-in-Some : goal.returns-in-Some
+returns-in-Some c =
     let a = c.args in
-    let found = says_at _ _ _ c.find_subscription.ensures c.in-At.is in
+    let found = says_at _ _ _ c.find_subscription.ensures c.in-Some.is in
     does_drop a.self (place_named a.self (some a.id.now)) _ found
-    (place_inside a.self (kept_2 c c.requires) (λ x. same x a.id.now) _ found)
+    (place_inside a.self (kept (goal.at.returns-in-Some c).Start c.requires) (λ x. same x a.id.now) _ found)
 
-pub returns-in-Nowhere : goal.returns-in-Nowhere
-returns-in-Nowhere c =
+pub returns-in-None : goal.returns-in-None
+returns-in-None c =
     let a = c.args in
-    let missed = says_nowhere _ _ c.find_subscription.ensures c.in-Nowhere.is in
+    let missed = says_nowhere _ _ c.find_subscription.ensures c.in-None.is in
     does_nothing a.self _ _ (ap (λ o. with_mode o auto_mode a.self.subscriptions.modes) missed) (ap (λ o. dropped o a.self.deliveries) missed)

@@ -6,6 +6,7 @@ use Rattle.sessions.specs.Deliveries.{labelled, pending}
 use Rattle.std.proofs.Common.{◌≡◌, true, sym, ◌∙◌, rules}
 use Rattle.sessions.specs.Sessions.{is_valid}
 use Rattle.sessions.proofs.Kept.{Kept, kept_of}
+use Rattle.sessions.specs.declared.refusals.Refusal.{Refusal}
 use Rattle.sessions.proofs.session.Session.record_at.Goals as goal
 
 pub returns-then-label : goal.returns-then-label
@@ -27,13 +28,13 @@ kept c v =
 pub find-requires : goal.find-requires
 find-requires c = laid_of c.args.self (kept c c.requires.0)
 
-pub returns-then-is_found : goal.returns-then-is_found
-returns-then-is_found c =
+pub returns-then-is_some : goal.returns-then-is_some
+returns-then-is_some c =
     at_pending c.args.self c.args.place
-    c.args.label.now c.unrecorded-then-is_found.result c.if-label.false
+    c.args.label.now c.unrecorded-then-is_some.result c.if-label.false
     (told_any (labelled c.args.label.now) 0
     (pending c.args.self.deliveries) c.find.result
-    c.find.ensures ∙ sym c.is_found.ensures ∙ c.if-is_found.true) c.unrecorded-then-is_found.ensures
+    c.find.ensures ∙ sym c.is_some.ensures ∙ c.if-is_some.true) c.unrecorded-then-is_some.ensures
 
 pub returns-then-modes-place : goal.returns-then-modes-place
 returns-then-modes-place c =
@@ -44,7 +45,7 @@ returns-then-modes-place c =
     (told_any (labelled c.args.label.now) 0
     (pending c.args.self.deliveries)
     c.find.result c.find.ensures
-    ∙ sym c.is_found.ensures ∙ c.if-is_found.false) c.if-modes-place.true
+    ∙ sym c.is_some.ensures ∙ c.if-is_some.false) c.if-modes-place.true
     c.unrecorded-then-modes-place.ensures
 
 pub recorded-requires : goal.recorded-requires
@@ -52,7 +53,7 @@ recorded-requires c =
     may_record c.args.self
     c.args.place
     c.args.label.now
-    (unrecorded_by c.args.self 0)
+    (unrecorded_by c.args.self Refusal.BadLabel)
     c.requires.0
     c.requires.1 c.if-label.false
     c.if-modes-place.false
@@ -66,5 +67,5 @@ returns c =
     (told_any (labelled c.args.label.now) 0
     (pending c.args.self.deliveries)
     c.find.result c.find.ensures
-    ∙ sym c.is_found.ensures ∙ c.if-is_found.false) c.if-modes-place.false
+    ∙ sym c.is_some.ensures ∙ c.if-is_some.false) c.if-modes-place.false
     c.recorded.ensures

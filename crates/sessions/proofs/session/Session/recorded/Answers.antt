@@ -1,5 +1,5 @@
 -- `session::Session::recorded` meets its contract, by the ack mode. Assumes nothing.
-use Rattle.std.proofs.Common.{◌≡◌, true, mod-eq_of_lt, arith, rules, eq-eqb, ne_eqb}
+use Rattle.std.proofs.Common.{◌≡◌, true, refl, rules, eq-eqb, ne_eqb}
 use Rattle.sessions.specs.Sessions.{is_valid}
 use Rattle.sessions.proofs.Kept.{Kept, kept_of}
 use Rattle.sessions.proofs.Delivering.{laid_of, recorded_pending, recorded_auto}
@@ -26,7 +26,7 @@ entered-self-requires c = (
 pub returns-then-modes-place-ne-AUTO : goal.returns-then-modes-place-ne-AUTO
 returns-then-modes-place-ne-AUTO c =
     recorded_pending c.args.self c.args.place _ _ _
-    (ne_eqb _ _ c.if-modes-place-ne-AUTO.true) (mod-eq_of_lt (omega (arith, c.requires.place))) c.entered-self.ensures
+    (ne_eqb _ _ c.if-modes-place-ne-AUTO.true) refl c.entered-self.ensures
 
 pub returns-else-modes-place-ne-AUTO : goal.returns-else-modes-place-ne-AUTO
 returns-else-modes-place-ne-AUTO c = recorded_auto c.args.self c.args.place _ (eq-eqb _ _ c.if-modes-place-ne-AUTO.false)

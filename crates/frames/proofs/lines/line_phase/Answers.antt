@@ -1,9 +1,0 @@
--- `lines::line_phase` meets its contract.
-use borrow.Author.Tests.{eq-eqb, ne_eqb}
-use Rattle.frames.proofs.lines.line_phase.Goals as goal
-
-pub returns-then-len-eq0 : goal.returns-then-len-eq0
-returns-then-len-eq0 c = rw (eq-eqb _ 0 c.if-len-eq0.true)
-
-pub returns-else-len-eq0 : goal.returns-else-len-eq0
-returns-else-len-eq0 c = rw (ne_eqb _ 0 c.if-len-eq0.false)

@@ -1,7 +1,0 @@
--- `rewrite::rewrite_in`: what is read and what is laid out lie in their buffers.
-use lib.ListN.{length}
-use Rattle.listing.specs.Streams.{Room}
-use Rattle.listing.proofs.rewrite.rewrite_in.Given as goal
-
-abbrev pub invariant-loop : goal.invariant-loop
-invariant-loop g l = Room (length l.buf) (length l.out) l.p
