@@ -13,6 +13,31 @@ use listing::calls::{CallError, at_most, each_call, read_head, read_rest, read_t
 use std::io;
 use std::io::{Read, Write};
 
+// What a call asks for.
+#[derive(Clone, Copy)]
+enum Kind {
+    Fresh,
+    Feed,
+    Record,
+    Room,
+    Tell,
+}
+
+impl TryFrom<u8> for Kind {
+    type Error = CallError;
+
+    fn try_from(kind: u8) -> Result<Kind, CallError> {
+        match kind {
+            0 => Ok(Kind::Fresh),
+            1 => Ok(Kind::Feed),
+            2 => Ok(Kind::Record),
+            3 => Ok(Kind::Room),
+            4 => Ok(Kind::Tell),
+            _ => Err(CallError::UnknownKind),
+        }
+    }
+}
+
 // A stream parser as the calls for C have it: its record, its buffer, and how many octets of that the calls are given.
 #[derive(Drop)]
 struct Stream {
@@ -112,13 +137,12 @@ impl Stream {
         let Some(first) = read_head::<1, R>(input)? else {
             return Ok(false);
         };
-        match first[0] {
-            0 => self.fresh(input)?,
-            1 => self.feed(input, output)?,
-            2 => self.set(input)?,
-            3 => self.room(input)?,
-            4 => self.tell(input, output)?,
-            _ => return Err(CallError::UnknownKind),
+        match Kind::try_from(first[0])? {
+            Kind::Fresh => self.fresh(input)?,
+            Kind::Feed => self.feed(input, output)?,
+            Kind::Record => self.set(input)?,
+            Kind::Room => self.room(input)?,
+            Kind::Tell => self.tell(input, output)?,
         }
         Ok(true)
     }

@@ -8,7 +8,7 @@ use lib.ListN.{length, take, get_or}
 use lib.Dec.{eqb, leb, ltb}
 use borrow.Author.Tests.{leb-true, ltb-true, eqb-true, lt-ltb, le-leb, eq-eqb, not-true}
 use Rattle.headers.specs.Rows.{begins}
-use Rattle.headers.proofs.Rows.{never as no_test, and_no, and_yes, and_left, and_right}
+use Rattle.headers.proofs.Rows.{and_no, and_yes, and_left, and_right}
 use Rattle.frames.specs.Open.{all}
 use Rattle.frames.specs.Parsing.{first}
 use Rattle.headers.specs.Characters.{is_begun}

@@ -16,7 +16,7 @@ use Rattle.frames.specs.Replies.{Invalid}
 use Rattle.frames.specs.Parsing.{parsed}
 use Rattle.frames.specs.Open.{Open, start, heart_beat_13, command, command_13, begin, name, value, line_13, blank_13, body, so_far}
 use Rattle.frames.specs.Refusals.{second_colon, fits, numbered}
-use Rattle.frames.proofs.Commands.{each_test, each_same}
+use Rattle.frames.proofs.EachCommand.{each_test, each_same}
 use Rattle.frames.proofs.Table.{refused_at, first_reason, same_reason}
 
 -- letters up to the first octet that is none are told apart by it

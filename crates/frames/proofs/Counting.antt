@@ -24,7 +24,7 @@ use Rattle.frames.specs.Scanning.{on_10, on_word, on_start, on_name_by, on_name,
 use Rattle.frames.specs.Scanning.{on_length_by, on_length, on_body, on_counted, scan_step, scan}
 use Rattle.frames.specs.Streams.{cr_phase, after_cr}
 use borrow.Author.Tests.{eqb-true, ltb-true}
-use Rattle.frames.proofs.Commands.{number_small}
+use Rattle.frames.proofs.EachCommand.{number_small}
 use Rattle.frames.proofs.Bounds.{stays}
 use Rattle.frames.proofs.Upto.{upto_at}
 

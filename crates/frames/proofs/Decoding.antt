@@ -13,11 +13,10 @@ use mathlib.Core.Option.{Option, none, some}
 use mathlib.Core.List.{List, [], ◌∷◌, ◌++◌}
 use Prim.Native.Nat.{ℕ, suc, ◌+◌, ◌-◌, ◌≤◌, ◌<◌, min}
 use native.Mathlib.Omega.{arith}
-use native.Mathlib.Nat.{add-zero}
-use lib.ListN.{length, take, drop, get_or, length-append, length-take, length-drop, drop_of_length-le, get_or-eq_default}
+use lib.ListN.{length, take, drop, get_or, length-append, length-take, length-drop, drop_of_length-le}
 use lib.Seq.{take-take, drop-drop, get_or-drop, get_or-take, length-take-le}
 use lib.Dec.{eqb, leb, ltb}
-use borrow.Author.Tests.{not-true, not-false, eqb-true, eqb-false, leb-true, leb-false, ltb-true, ltb-false, lt-ltb, le-ltb, eq-eqb, ne_eqb}
+use borrow.Author.Tests.{not-true, not-false, eqb-true, eqb-false, leb-true, leb-false, ltb-true, ltb-false, lt-ltb, le-ltb, ne_eqb}
 use borrow.Rule.Slice.PartMut.{mid_of, put_mid}
 use Rattle.headers.specs.Rows.{every, All}
 use Rattle.headers.specs.Escapes.{decode}
@@ -40,7 +39,7 @@ use Rattle.frames.specs.declared.parse.Item.{Item}
 use Rattle.frames.specs.declared.parse.Refusal.{Refusal}
 use Rattle.frames.specs.Grammar.{crlf, style as style_in, frame, octets}
 use Rattle.frames.specs.declared.version.Version.{Version}
-use Rattle.frames.specs.Layout.{line_cr, line_stops, stop_span, end_width, behind_end, front_name, behind_colon, front_value, at_end, behind_line, front_lines, behind_word, back_stops}
+use Rattle.frames.specs.Layout.{line_cr, line_stops, stop_span, behind_end, front_name, behind_colon, front_value, at_end, behind_line, front_lines, behind_word, back_stops}
 use Rattle.frames.specs.Decoding.{line_entries, decode_answer, head_entries, Decodes}
 use Rattle.frames.specs.Answers.{parsed_says}
 use Rattle.headers.specs.Stretches.{span, plain_in, not_back, Stretch, calm}

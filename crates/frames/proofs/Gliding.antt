@@ -10,7 +10,7 @@ use native.Mathlib.Omega.{arith}
 use lib.Dec.{eqb, leb}
 use lib.ListN.{length, get_or, take, drop, take-append-drop, length-take, length-drop}
 use lib.Seq.{drop-append-le, drop-drop, take-take, length-take-le}
-use borrow.Author.Tests.{le-leb, leb-true, lt-ltb, not-true, eqb-true, ne_eqb}
+use borrow.Author.Tests.{le-leb, leb-true, lt-ltb, not-true, eqb-true}
 use Rattle.headers.specs.Rows.{every}
 use Rattle.headers.specs.Text.{divides, ascii, Part, fresh, back, led, tails, owes, into, reads, plain, stops, opens, is_letter, itself, escape, Text, none, more}
 use Rattle.headers.specs.Characters.{part_number, text_part}
@@ -24,7 +24,7 @@ use Rattle.headers.proofs.Characters.{Goes, goes_text, text_then}
 use Rattle.headers.proofs.Rows.{cond_case, and_left, and_right, and_no, and_yes, or_false_left, or_false_right}
 use Rattle.frames.specs.declared.state.Scan.{Scan}
 use Rattle.headers.specs.declared.plain.Stops.{Stops}
-use Rattle.headers.specs.Stretches.{span, plain_in, calm}
+use Rattle.headers.specs.Stretches.{span, plain_in}
 use Rattle.frames.specs.Scanning.{style_of, most_of, value_phase, on_value_by, on_value, on_name, on_body, on_counted, scan_step, scan, len_max, Valid, text_stops, not_zero, skip, Ahead}
 use Rattle.frames.proofs.Validity.{most_small}
 

@@ -31,7 +31,7 @@ use Rattle.frames.specs.declared.version.Version.{Version}
 use Rattle.headers.specs.Stretches.{span, plain_in}
 use Rattle.frames.specs.Layout.{line_cr, line_stops, stop_span, behind_end, front_name, behind_colon, front_value, at_end, behind_line, front_line, front_lines, behind_word}
 use Rattle.frames.specs.Decoding.{line_entry, line_entries, NoLonger, head_entries}
-use Rattle.frames.proofs.Commands.{each_test}
+use Rattle.frames.proofs.EachCommand.{each_test}
 
 -- ---- How far a test holds from the front
 

@@ -42,7 +42,7 @@ use Rattle.frames.specs.Open.{entry}
 use Rattle.frames.specs.Replies.{told, Complete}
 use Rattle.frames.specs.Decoding.{line_entries, head_entries, Reading}
 use Rattle.frames.specs.Encoding.{Call, command_of, is_length, first_length, adds_length, length_entry, added_entry, written_entries, written_lines, frame_image, says_length, settle_frame, encode_by, encode_answer, encode_image}
-use Rattle.frames.proofs.Commands.{each_le, word_octets}
+use Rattle.frames.proofs.EachCommand.{each_le, word_octets}
 use Rattle.frames.proofs.Named.{declared_decoded, declared_named}
 
 -- ## The parse tree of what is written

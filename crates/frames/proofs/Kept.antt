@@ -23,7 +23,7 @@ use Rattle.frames.specs.Streams.{replied, reach, refused, is_number, fits_versio
 use Rattle.frames.specs.Records.{mark, record_of, is_record, read_record, record_left, told_record, packed_taken, packed_feed, unpacked_feed}
 use Rattle.frames.specs.Parsing.{parsed}
 use Rattle.frames.specs.Refusals.{Reason, numbered, no_command, no_10, not_utf8, wrong_escape, nameless, second_colon, no_colon, long_line, many_lines, bad_length, past_body}
-use Rattle.frames.proofs.Commands.{number_small}
+use Rattle.frames.proofs.EachCommand.{number_small}
 use Rattle.frames.proofs.Sizes.{tree_short}
 use Rattle.frames.proofs.Exact.{exact}
 use Rattle.frames.proofs.Feeding.{Stands, within, fed_answer, so_far_octets}

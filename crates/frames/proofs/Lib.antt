@@ -1,5 +1,5 @@
 -- The laws of frames that other crates may cite, by file.
-pub mod Commands
+pub mod EachCommand
 pub mod Recognizer
 pub mod Trichotomy
 pub mod Sound

@@ -37,7 +37,7 @@ use Rattle.frames.specs.declared.version.Version.{Version}
 use Rattle.frames.specs.Open.{entry}
 use Rattle.frames.specs.Decoding.{line_entry, line_entries, head_entries, Reading}
 use Rattle.frames.specs.Encoding.{Call, command_of, is_length, first_length, adds_length, length_entry, added_entry, written_entries, frame_image, says_length, settle_frame, encode_answer, encode_image}
-use Rattle.frames.proofs.Commands.{each_same}
+use Rattle.frames.proofs.EachCommand.{each_same}
 use Rattle.frames.proofs.Named.{declared_decoded, declared_named}
 use Rattle.frames.proofs.Images.{zero_any, raw_of, image_head, image_octets, length_line, raw_length, decode_digits, accepted_checks, image_valid, image_octets_small, image_entries}
 

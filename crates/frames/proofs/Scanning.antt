@@ -30,7 +30,7 @@ use Rattle.frames.specs.Parsing.{first, word_end, word_next, at_word, at_start, 
 use Rattle.frames.specs.declared.state.Scan.{Scan}
 use Rattle.frames.specs.Scanning.{number_of, word_of, next_command, whole_command, advance, name_phase, value_phase, on_more, on_word, on_start, on_name_by, on_name, on_begin, on_value_by, on_value, on_length_by, on_length, on_body, on_counted, scan_step, scan, nothing_read, scan_reply, invalid}
 use Rattle.frames.proofs.Sound.{sound, declared_append}
-use Rattle.frames.proofs.Commands.{each_same}
+use Rattle.frames.proofs.EachCommand.{each_same}
 use Rattle.frames.proofs.Reach.{finds}
 use Rattle.frames.proofs.Recognizing.{exact_run}
 use Rattle.frames.proofs.Recognizer.{After, Says}

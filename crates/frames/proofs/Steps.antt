@@ -1,11 +1,11 @@
 -- What an octet of header text does, by the tests that the code makes; and whether a line is still short enough. Assumes nothing.
 use mathlib.Core.Path.{◌≡◌, refl, sym, ap, ◌∙◌}
-use mathlib.Core.Bool.{Bool, true, false, cond, ◌&&◌, ◌||◌, not}
+use mathlib.Core.Bool.{Bool, true, false, cond, ◌&&◌, ◌||◌}
 use Prim.Native.Nat.{ℕ, ◌+◌, ◌-◌, ◌≤◌}
 use native.Mathlib.Omega.{arith}
 use lib.Dec.{eqb, leb, ltb}
 use Rattle.std.specs.Prelude.{Some, None}
-use borrow.Author.Tests.{eqb-true, eqb-false, leb-true, leb-false, ltb-true, ltb-false, le-leb, lt-leb, lt-ltb, le-ltb}
+use borrow.Author.Tests.{eqb-true, leb-true, leb-false, ltb-true, ltb-false, le-leb, lt-leb, lt-ltb, le-ltb}
 use Rattle.headers.specs.Text.{ascii, missing, starts, starts_with, of_utf8, fresh, back, led, tails, owes, Into, into, bad, stop, of_escape, stops, opens, is_letter, utf8_reads, reads}
 use Rattle.headers.specs.Characters.{utf8_part, text_part, part_after}
 use Rattle.headers.specs.declared.text.Style.{Style}

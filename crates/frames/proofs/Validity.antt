@@ -22,7 +22,7 @@ use Rattle.frames.specs.Parsing.{first}
 use Rattle.frames.specs.Refusals.{numbered, faulty}
 use Rattle.frames.specs.declared.state.Scan.{Scan}
 use Rattle.frames.specs.Scanning.{in_part, on_digit, on_more, style_of, most_of, word_of, number_of, next_command, whole_command, advance, to_phase, in_head, in_line, frame_read, invalid, body_begins, on_10, on_word, on_start, on_name_by, on_name, on_begin, line_read, on_value_by, on_value, grows, on_length_by, on_length, on_body, on_counted, scan_step, nothing_read, Reached, len_max, line_open, outside, Valid}
-use Rattle.frames.proofs.Commands.{each_le}
+use Rattle.frames.proofs.EachCommand.{each_le}
 use Rattle.frames.proofs.Scanning.{word_number}
 use Rattle.frames.proofs.Words.{small}
 

@@ -7,7 +7,7 @@ ghost use Rattle.frames.specs.Grammar.{crlf};
 ghost use Rattle.frames.specs.Encoding.{first_length, adds_length, says_length, Encodes};
 ghost use Rattle.frames.specs.Scanning.{style_of};
 ghost use Rattle.frames.specs.Writing.{Told, Tells, Sums, Known, Settles, call_answer, lengths_of};
-ghost use Rattle.frames.specs.Answers.{encode_number, encode_entry, encoded_says};
+ghost use Rattle.frames.specs.Answers.{encode_number, named_entry, encoded_says};
 
 use crate::version::Version;
 use headers::{FirstValue, Malformed, Style};
@@ -43,12 +43,12 @@ impl EncodeError {
     }
 
     // The index of an entry, which only 53 names.
-    pub fn entry(self) -> usize
-        ensures { result ≡ encode_entry self }
+    pub fn entry(self) -> Option<usize>
+        ensures { result ≡ named_entry self }
     {
         match self {
-            EncodeError::Unwritable(i) => i,
-            _ => 0,
+            EncodeError::Unwritable(i) => Some(i),
+            _ => None,
         }
     }
 }
@@ -130,6 +130,7 @@ fn says_length(value: &[u8], n: usize) -> bool
     requires { n ≤ 32768 }
     ensures { result ≡ is_amount n value.now && eqb (decimal 0 value.now) n }
 {
+    // No From goes between u32 or u64 and usize, so they are cast, here and below.
     match headers::read_decimal(value, n as u32) {
         Some(m) => m as usize == n,
         None => false,

@@ -13,8 +13,6 @@ ghost use Rattle.frames.specs.Encoding.{Encodes};
 use crate::parse::{Item, Refusal};
 use crate::version::Version;
 
-// Each call with options and that without are two, since both are names of the C interface.
-
 // A refusal of decode or encode is this many times its number: no length is as large.
 const REFUSED: u64 = 65536;
 
@@ -29,6 +27,7 @@ fn pack(reply: Result<Option<Item>, Refusal>) -> u64
     requires { Packs (parsed_says reply) }
     ensures { result ≡ packed (parsed_says reply) }
 {
+    // No From goes from usize to u64, so it is cast, here and below.
     match reply {
         Ok(Some(Item::HeartBeat(n))) => 1 + 4 * (n as u64),
         Ok(Some(Item::Frame(frame))) => 2 + 4 * ((frame.len as u64) + 65536 * frame.packed()),
@@ -45,6 +44,8 @@ fn parse_packed(version: Version, octets: &[u8]) -> u64
 {
     pack(crate::parse::parse(version, octets))
 }
+
+// The calls. Each with options and that without are two, since both are names of the C interface.
 
 // The same in the version that the options ask for.
 pub fn stomp_parse_with(options: u32, octets: &[u8]) -> u64
@@ -138,7 +139,7 @@ pub fn stomp_encode_with(
         options % 2 == COUNTED,
     ) {
         Ok(n) => n as u64,
-        Err(e) => REFUSED * u64::from(e.number()) + (e.entry() as u64),
+        Err(e) => REFUSED * u64::from(e.number()) + (e.entry().unwrap_or(0) as u64),
     }
 }
 

@@ -16,6 +16,15 @@ use headers::Field;
 // The name whose value is a length.
 const CONTENT_LENGTH: &[u8; 14] = b"content-length";
 
+// How many octets it has.
+pub(crate) const LENGTH_NAME: usize = 14;
+
+// How many octets its line has before the value, the colon counted.
+const LENGTH_BEGUN: usize = LENGTH_NAME + 1;
+
+// What stands for another name, where it is kept how many octets of it a name is.
+pub(crate) const OTHER_NAME: usize = 15;
+
 // The octet of content-length at a place.
 pub(crate) fn length_letter(m: usize) -> u8
     requires { m < 14 }
@@ -28,12 +37,12 @@ pub(crate) fn length_letter(m: usize) -> u8
 pub(crate) fn advance(m: usize, x: u8) -> usize
     ensures { result ≡ advance m x }
 {
-    if m < 14 {
+    if m < LENGTH_NAME {
         if x == length_letter(m) {
             return m + 1;
         }
     }
-    15
+    OTHER_NAME
 }
 
 // The empty line is read.
@@ -53,7 +62,7 @@ fn value_begins(st: ValidScan) -> Scan
     if st.scan.sized {
         return st.in_line(Scan::IN_VALUE, 0, st.scan.size, st.scan.len + 1);
     }
-    if st.scan.matched == 14 {
+    if st.scan.matched == LENGTH_NAME {
         return st.in_line(Scan::IN_LENGTH, 0, 0, st.scan.len + 1);
     }
     st.in_line(Scan::IN_VALUE, 0, st.scan.size, st.scan.len + 1)
@@ -262,7 +271,7 @@ pub(crate) fn on_length(st: ValidScan, x: u8) -> Scan
         if x == 58 {
             return st.refused(Reason::SecondColon);
         }
-        if st.scan.len == 15 {
+        if st.scan.len == LENGTH_BEGUN {
             return st.refused(Reason::BadLength);
         }
         return line_read(st, x, true, st.scan.size);

@@ -24,7 +24,8 @@ pub struct TextEnd {
     pub known: usize,
 }
 
-// The place of the first 10, cr or colon from i on, or the end; 10 in the place of one that does not count.
+// The place of the first 10, cr or colon from i on, or the end; 10 in the place of one that does not count. cr is an octet and no Option:
+// 10 ends every text, so it stands for none, here and in all that is given cr.
 fn stop_at(s: &[u8], i: usize, cr: u8, colon: u8) -> usize
     requires { i ≤ length s.now }
     ensures { (result ≡ i + stop_span cr colon (drop i s.now)) × (result ≤ length s.now) }

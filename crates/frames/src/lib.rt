@@ -3,6 +3,7 @@
 
 pub mod limits; // the sizes of frames
 pub mod version; // the protocol versions
+pub mod commands; // the numbers of the commands
 mod word; // the words of commands, and what a command asks
 mod state; // what of an item has been read, in numbers
 mod head; // the octets of a head

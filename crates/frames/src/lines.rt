@@ -1,5 +1,5 @@
 // Header lines passed at once: whole lines, and as much of the last as is there.
-ghost use Rattle.std.specs.Prelude.{◌≡◌, true, cond, ◌<◌, ◌≤◌, eqb, length, get_or, IfSome};
+ghost use Rattle.std.specs.Prelude.{◌≡◌, true, cond, ◌<◌, ◌≤◌, eqb, length, get_or, IfSome, MatchOption};
 ghost use Rattle.frames.specs.Scanning.{Valid, Passed};
 ghost use Rattle.frames.specs.WholeLines.{in_lines, line_at, Named, Begun};
 
@@ -69,7 +69,7 @@ fn name_at(s: &[u8], i: usize, style: Style) -> Option<usize>
 // How many octets a line that has len of them before i has where its value goes on, where its name is passed at once.
 fn begun(s: &[u8], i: usize, style: Style, lines: usize, len: usize) -> Option<usize>
     requires { i < length s.now }
-    ensures { IfSome result (λ m. (0 < m) × Begun style s.now i lines len m) }
+    ensures { MatchOption result (len ≡ 0) (λ m. (0 < m) × Begun style s.now i lines len m) }
 {
     if len != 0 {
         return Some(len);
@@ -84,10 +84,7 @@ fn begun(s: &[u8], i: usize, style: Style, lines: usize, len: usize) -> Option<u
 fn is_10_at(s: &[u8], i: usize) -> bool
     ensures { result ≡ true → (i < length s.now) × (get_or s.now i 0 ≡ 10) }
 {
-    if s.len() <= i {
-        return false;
-    }
-    s[i] == 10
+    s.get(i) == Some(&10)
 }
 
 // On through whole lines: name, value and octet 10; then as much of the next line as is passed at once.

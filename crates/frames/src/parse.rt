@@ -35,6 +35,7 @@ impl Frame {
         requires { (self.headers ≤ 64) × (self.body ≤ 70000) × (self.body_len ≤ 70000) }
         ensures { result ≡ self.command % 16 + 16 * (self.headers + 64 * (self.body + 65536 * self.body_len)) }
     {
+        // No From goes from usize to u64, so it is cast, here and below.
         let body = (self.body as u64) + 65536 * (self.body_len as u64);
         u64::from(self.command % 16) + 16 * ((self.headers as u64) + 64 * body)
     }

@@ -3,6 +3,7 @@ ghost use Rattle.std.specs.Prelude.{◌≡◌, ◌≤◌, ◌<◌, length};
 ghost use Rattle.frames.specs.Scanning.{Ahead, Passed};
 
 use crate::ahead::{body_span, text_span, text_stops, upto};
+use crate::head::{LENGTH_NAME, OTHER_NAME};
 use crate::limits;
 use crate::state::{Scan, ValidScan};
 use headers::Field;
@@ -28,7 +29,7 @@ fn pass_length_name(s: &[u8], from: usize, begin: ValidScan) -> ValidScan
     requires { (from ≤ length s.now) × (begin.scan.phase ≡ 5) × (begin.scan.matched < 14) }
     ensures { Passed s.now from begin.scan result.scan }
 {
-    let f = upto(from, 14 - begin.scan.matched, s.len());
+    let f = upto(from, LENGTH_NAME - begin.scan.matched, s.len());
     let e = upto(from, limits::NAME - begin.scan.len, f);
     let mut st = begin;
     for x in &s[from..e] {
@@ -83,10 +84,10 @@ fn pass_any_name(s: &[u8], i: usize, st: ValidScan) -> ValidScan
     requires { (i ≤ length s.now) × (st.scan.phase ≡ 5) }
     ensures { Passed s.now i st.scan result.scan }
 {
-    if st.scan.matched == 15 {
+    if st.scan.matched == OTHER_NAME {
         return pass_name(s, i, st);
     }
-    if st.scan.matched < 14 {
+    if st.scan.matched < LENGTH_NAME {
         return pass_length_name(s, i, st);
     }
     st

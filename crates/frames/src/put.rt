@@ -53,6 +53,7 @@ fn put_length(d: &mut [u8], body: usize, style: Style) -> usize
     ensures { Puts (length_octets style body) result d.old d.new }
 {
     let mut digits = [0u8; 20];
+    // No From goes from usize to u64, so it is cast.
     let k = headers::write_decimal(&mut digits, body as u64).unwrap();
     headers::write_encoded(d, b"content-length", &digits[0..k], style).unwrap()
 }

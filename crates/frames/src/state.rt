@@ -9,12 +9,14 @@ use crate::word::style_of;
 use headers::Style;
 
 // How far an item is read. The small fields stand together at the end, so that the state has no gaps inside, which are slow to copy.
-// Phase, command and code are numbers, and any numbers: C keeps them in a record of octets, and the definitions order the phases.
+// Phase, command and code are numbers, and any numbers. So are matched, where 15 stands for another name, rest, an octet that codes how
+// far a character is read, and size, which stands beside sized and is no Option: they are fields of the record of 16 octets that C
+// keeps, any octets may be there, specs/Scanning reads them as numbers, and its definitions order the phases.
 #[derive(Clone, Copy)]
 pub struct Scan {
     // Header lines read.
     pub lines: usize,
-    // How many octets of content-length the name is, or 15 once it is another.
+    // How many octets of content-length the name is, or OTHER_NAME once it is another.
     pub matched: usize,
     // The content-length, or the number of its digits so far.
     pub size: usize,

@@ -83,6 +83,9 @@ fn write_record(r: &mut [u8], st: Scan)
 {
     let sized = u8::from(st.sized);
     let version = u8::from(!st.crlf);
+    let size = ((st.size % 65536) as u16).to_be_bytes();
+    let len = ((st.len % 65536) as u16).to_be_bytes();
+    let at = ((st.at % 65536) as u16).to_be_bytes();
     let octets = [
         st.phase,
         (st.command % 256) as u8,
@@ -90,12 +93,12 @@ fn write_record(r: &mut [u8], st: Scan)
         (st.matched % 256) as u8,
         sized,
         (st.code % 256) as u8,
-        (st.size / 256 % 256) as u8,
-        (st.size % 256) as u8,
-        (st.len / 256 % 256) as u8,
-        (st.len % 256) as u8,
-        (st.at / 256 % 256) as u8,
-        (st.at % 256) as u8,
+        size[0],
+        size[1],
+        len[0],
+        len[1],
+        at[0],
+        at[1],
         version,
         0,
         st.rest,
@@ -109,6 +112,7 @@ fn pack_taken(t: Taken) -> u64
     requires { Packable (parsed_says t.reply) × (t.octets ≤ 70000) }
     ensures { result ≡ packed_taken (parsed_says t.reply) t.octets }
 {
+    // No From goes from usize to u64, so it is cast, here and below.
     let n = t.octets as u64;
     match t.reply {
         Ok(Some(Item::HeartBeat(len))) => 1 + 4 * (n + 65536 * (len as u64)),

@@ -62,6 +62,7 @@ fn least(c: u32) -> usize
     requires { c ≤ 15 }
     ensures { result ≡ get_or leasts c 0 }
 {
+    // No From goes from u32 to usize, so it is cast, here and below.
     LEASTS[c as usize]
 }
 

@@ -3,8 +3,9 @@
 // scan has one, and 0 before the first octet.
 ghost use Rattle.std.specs.Prelude.{◌≡◌, ◌≤◌, ◌<◌, get_or};
 ghost use Rattle.frames.specs.Scanning.{word_of, next_command, whole_command, Reached, style_of, most_of};
-ghost use Rattle.frames.specs.Words.{packed, some_command};
+ghost use Rattle.frames.specs.Words.{packed, command_or_none};
 
+use crate::commands;
 use headers::Style;
 
 // The letters of each command's word in one number, five bits each, the first lowest; 0 for no command.
@@ -32,10 +33,12 @@ fn letters(c: u32) -> u64
     requires { c ≤ 15 }
     ensures { result ≡ packed (word_of c) }
 {
+    // No From goes from u32 to usize, so it is cast.
     LETTERS[c as usize]
 }
 
-// The letter at place k of a command's word, or 64 behind it.
+// The letter at place k of a command's word, or 64 behind it. It is no Option: 64 is what the definition has there, `get_or .. 64`, and
+// so one comparison of an octet asks for the letter and for the word's end.
 pub(crate) fn letter(c: u32, k: usize) -> u8
     requires { (c ≤ 15) × (k ≤ 11) }
     ensures { result ≡ get_or (word_of c) k 64 }
@@ -45,19 +48,19 @@ pub(crate) fn letter(c: u32, k: usize) -> u8
 
 // The first command that begins with an octet.
 fn first_command(x: u8) -> Option<u32>
-    ensures { result ≡ some_command (next_command 0 0 x) }
+    ensures { result ≡ command_or_none (next_command 0 0 x) }
 {
     match x {
-        65 => Some(1),
-        66 => Some(3),
-        67 => Some(4),
-        68 => Some(7),
-        69 => Some(8),
-        77 => Some(9),
-        78 => Some(10),
-        82 => Some(11),
-        83 => Some(12),
-        85 => Some(15),
+        65 => Some(commands::ABORT),
+        66 => Some(commands::BEGIN),
+        67 => Some(commands::COMMIT),
+        68 => Some(commands::DISCONNECT),
+        69 => Some(commands::ERROR),
+        77 => Some(commands::MESSAGE),
+        78 => Some(commands::NACK),
+        82 => Some(commands::RECEIPT),
+        83 => Some(commands::SEND),
+        85 => Some(commands::UNSUBSCRIBE),
         _ => None,
     }
 }
@@ -66,14 +69,14 @@ fn first_command(x: u8) -> Option<u32>
 // CONNECT with E, S with T or U.
 fn sibling(c: u32, k: usize, x: u8) -> Option<u32>
     requires { Reached c k × (0 < k) × (x ≡ get_or (word_of c) k 64 → ⊥) }
-    ensures { result ≡ some_command (next_command c k x) }
+    ensures { result ≡ command_or_none (next_command c k x) }
 {
     match (c, k, x) {
-        (1, 1, 67) => Some(2),
-        (4, 2, 78) => Some(5),
-        (5, 7, 69) => Some(6),
-        (12, 1, 84) => Some(13),
-        (12, 1, 85) => Some(14),
+        (commands::ABORT, 1, 67) => Some(commands::ACK),
+        (commands::COMMIT, 2, 78) => Some(commands::CONNECT),
+        (commands::CONNECT, 7, 69) => Some(commands::CONNECTED),
+        (commands::SEND, 1, 84) => Some(commands::STOMP),
+        (commands::SEND, 1, 85) => Some(commands::SUBSCRIBE),
         _ => None,
     }
 }
@@ -81,7 +84,7 @@ fn sibling(c: u32, k: usize, x: u8) -> Option<u32>
 // The first command that begins with the first k letters of c and x.
 pub(crate) fn next_command(c: u32, k: usize, x: u8) -> Option<u32>
     requires { Reached c k }
-    ensures { result ≡ some_command (next_command c k x) }
+    ensures { result ≡ command_or_none (next_command c k x) }
 {
     if k == 0 {
         return first_command(x);
@@ -98,7 +101,7 @@ pub(crate) fn next_command(c: u32, k: usize, x: u8) -> Option<u32>
 // The command that the first k letters of c are. No letter is read where c is none.
 pub(crate) fn whole_command(c: u32, k: usize) -> Option<u32>
     requires { Reached c k }
-    ensures { result ≡ some_command (whole_command c k) }
+    ensures { result ≡ command_or_none (whole_command c k) }
 {
     if (c != 0) & (letter(c, k) == 64) {
         Some(c)
@@ -112,7 +115,7 @@ pub(crate) fn style_of(crlf: bool, command: u32) -> Style
     ensures { result ≡ style_of crlf command }
 {
     Style {
-        escapes: !((command == 5) | (command == 6)),
+        escapes: !((command == commands::CONNECT) | (command == commands::CONNECTED)),
         crlf,
     }
 }
@@ -121,7 +124,7 @@ pub(crate) fn style_of(crlf: bool, command: u32) -> Style
 pub(crate) fn most_of(command: u32) -> usize
     ensures { result ≡ most_of command }
 {
-    if (command == 8) | (command == 9) | (command == 12) {
+    if (command == commands::ERROR) | (command == commands::MESSAGE) | (command == commands::SEND) {
         crate::limits::BODY
     } else {
         0

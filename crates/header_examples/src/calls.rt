@@ -22,6 +22,16 @@ pub(crate) const OLDER: Style = Style {
     crlf: false,
 };
 
+// The numbers that are shown for what headers refuses, as frames has them: a record that does not fit, a block that is not whole, a line
+// that cannot be written, and a line or a number that does not fit.
+const NO_ROOM_FOR_RECORD: u32 = 21;
+
+const MALFORMED: u32 = 22;
+
+const UNWRITABLE: u32 = 53;
+
+const NO_ROOM_FOR_TEXT: u32 = 56;
+
 // Writes a record of raw text into room octets, and shows what was written.
 pub(crate) fn record<W: Write>(
     output: &mut W,
@@ -36,7 +46,7 @@ pub(crate) fn record<W: Write>(
         return output.write_all(b"not raw text\n");
     }
     written(output, room, |d| {
-        headers::write_decoded(d, name, value, style).map_err(|_| 21)
+        headers::write_decoded(d, name, value, style).map_err(|_| NO_ROOM_FOR_RECORD)
     })
 }
 
@@ -51,7 +61,7 @@ pub(crate) fn long_record<W: Write>(
     let mut d = [7u8; 65600];
     match headers::write_decoded(&mut d, name, value, ESCAPED) {
         Ok(n) => write!(output, "{n}")?,
-        Err(TooShort) => write!(output, "21")?,
+        Err(TooShort) => write!(output, "{NO_ROOM_FOR_RECORD}")?,
     }
     front(output, &d, 8)
 }
@@ -59,8 +69,8 @@ pub(crate) fn long_record<W: Write>(
 // The number of a line that is not written.
 fn line_number(e: LineError) -> u32 {
     match e {
-        LineError::Unwritable => 53,
-        LineError::TooShort => 56,
+        LineError::Unwritable => UNWRITABLE,
+        LineError::TooShort => NO_ROOM_FOR_TEXT,
     }
 }
 
@@ -94,7 +104,7 @@ pub(crate) fn find<W: Write>(
             front(output, block.get(start..).unwrap_or(&[]), len)
         }
         Ok(None) => output.write_all(b"none\n"),
-        Err(Malformed) => output.write_all(b"22\n"),
+        Err(Malformed) => writeln!(output, "{MALFORMED}"),
     }
 }
 
@@ -107,7 +117,7 @@ pub(crate) fn entry<W: Write>(output: &mut W, block: &[u8], at: usize) -> io::Re
             writeln!(output, "{name} {value}")
         }
         Ok(None) => output.write_all(b"end\n"),
-        Err(Malformed) => output.write_all(b"22\n"),
+        Err(Malformed) => writeln!(output, "{MALFORMED}"),
     }
 }
 
@@ -143,7 +153,7 @@ pub(crate) fn length_of<W: Write>(
 fn line_length<W: Write>(output: &mut W, answer: Result<usize, Unwritable>) -> io::Result<()> {
     match answer {
         Ok(n) => writeln!(output, "{n}"),
-        Err(Unwritable) => output.write_all(b"53\n"),
+        Err(Unwritable) => writeln!(output, "{UNWRITABLE}"),
     }
 }
 
@@ -181,6 +191,6 @@ pub(crate) fn shortest<W: Write>(output: &mut W, n: u64, room: usize) -> io::Res
     let no_room = if room < len { ", no room" } else { "" };
     write!(output, "{n}{no_room}: {len} ")?;
     written(output, room, |d| {
-        headers::write_decimal(d, n).map_err(|_| 56)
+        headers::write_decimal(d, n).map_err(|_| NO_ROOM_FOR_TEXT)
     })
 }

@@ -1,5 +1,5 @@
 // The header block: entry records one after another.
-ghost use Rattle.std.specs.Prelude.{◌≡◌, ◌+◌, ◌<◌, length, drop};
+ghost use Rattle.std.specs.Prelude.{◌≡◌, ◌+◌, ◌^◌, ◌<◌, length, drop};
 ghost use Rattle.headers.specs.Block.{two_at, entries};
 ghost use Rattle.headers.specs.Answers.{find_answer, found_says, count_from, counted_says, is_block, checked_says, entry_answer, entry_says};
 
@@ -29,12 +29,36 @@ pub struct Lengths {
     pub value: usize,
 }
 
+// Where in a block the parts of a record begin, and where it ends.
+#[derive(Clone, Copy)]
+pub struct Places {
+    pub name: usize,
+    pub value: usize,
+    pub end: usize,
+}
+
+impl Lengths {
+    // Where the parts of the record at a place begin, which has these lengths, and where it ends.
+    pub fn places(self, at: usize) -> Places
+        requires { at + 6 + self.name + self.value < 2 ^ 64 }
+        ensures { (result.name ≡ at + 6) × (result.value ≡ at + 6 + self.name) × (result.end ≡ at + 6 + self.name + self.value) }
+    {
+        let name = at + 6;
+        let value = name + self.name;
+        Places {
+            name,
+            value,
+            end: value + self.value,
+        }
+    }
+}
+
 // The length in the two octets at i.
 fn length_at(block: &[u8], i: usize) -> usize
     requires { i + 1 < length block.now }
     ensures { (result ≡ two_at block.now i) × (result < 65536) }
 {
-    usize::from(block[i]) * 256 + usize::from(block[i + 1])
+    usize::from(u16::from_be_bytes([block[i], block[i + 1]]))
 }
 
 // What stands at place at of a block: the lengths of a whole record, whose name begins 6 octets on, its value behind its name, and the next
@@ -69,7 +93,7 @@ fn check_from(block: &[u8], at: usize) -> Result<(), Malformed>
 {
     let mut i = at;
     while let Some(l) = entry_at(block, i)? {
-        i = i + 6 + l.name + l.value;
+        i = l.places(i).end;
     }
     Ok(())
 }
@@ -88,10 +112,9 @@ fn count_from(block: &[u8], name: &[u8], at: usize) -> Result<usize, Malformed>
     let mut count = 0usize;
     let mut i = at;
     while let Some(l) = entry_at(block, i)? {
-        let from = i + 6;
-        let start = from + l.name;
-        i = start + l.value;
-        if crate::octets::equal(&block[from..start], name) {
+        let p = l.places(i);
+        i = p.end;
+        if crate::octets::equal(&block[p.name..p.value], name) {
             count += 1;
         }
     }
@@ -104,13 +127,12 @@ pub fn find(block: &[u8], name: &[u8]) -> Result<Option<FirstValue>, Malformed>
 {
     let mut i = 0usize;
     while let Some(l) = entry_at(block, i)? {
-        let from = i + 6;
-        let start = from + l.name;
-        i = start + l.value;
-        if crate::octets::equal(&block[from..start], name) {
+        let p = l.places(i);
+        i = p.end;
+        if crate::octets::equal(&block[p.name..p.value], name) {
             let later = count_from(block, name, i)?;
             return Ok(Some(FirstValue {
-                start,
+                start: p.value,
                 len: l.value,
                 later,
             }));

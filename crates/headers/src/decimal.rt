@@ -15,10 +15,7 @@ pub fn read_decimal(s: &[u8], limit: u32) -> Option<u32>
     let most = u64::from(limit);
     let mut sum: u64 = 0;
     for x in s {
-        if *x < 48 {
-            return None;
-        }
-        if 57 < *x {
+        if !x.is_ascii_digit() {
             return None;
         }
         sum = sum * 10 + u64::from(*x - 48);
@@ -33,13 +30,7 @@ pub fn read_decimal(s: &[u8], limit: u32) -> Option<u32>
 pub fn decimal_length(n: u64) -> usize
     ensures { result ≡ length (shortest n) }
 {
-    let mut k = 1usize;
-    let mut m = n;
-    while 10 <= m {
-        m = m / 10;
-        k += 1;
-    }
-    k
+    n.checked_ilog10().map_or(1, |k| k as usize + 1)
 }
 
 // The last k decimal digits of n at the front of d.

@@ -185,9 +185,7 @@ fn text_length(text: &[u8], style: Style, field: Field) -> Result<usize, Unwrita
     requires { length text.now ≤ 511 }
     ensures { length_says result ≡ writable_answer (can_stand style field text.now) (length (encode style text.now)) }
 {
-    let Some(m) = measure(text, style, field) else {
-        return Err(Unwritable);
-    };
+    let m = measure(text, style, field).ok_or(Unwritable)?;
     if !is_known_utf8(text, m.ascii) {
         return Err(Unwritable);
     }
@@ -249,9 +247,7 @@ pub fn entry_length(text: &[u8], name: usize, style: Style) -> Result<usize, Unw
     if TEXT_MAX < text.len() {
         return Err(Unwritable);
     }
-    let Some(m) = measure(text, style, Field::Value) else {
-        return Err(Unwritable);
-    };
+    let m = measure(text, style, Field::Value).ok_or(Unwritable)?;
     if !is_name(text, name, style) {
         return Err(Unwritable);
     }

@@ -61,7 +61,9 @@ fn put_rest<const N: usize>(d: &mut [u8], at: usize, s: &[u8], from: usize)
     put_block::<N>(d, at, s, s.len() - N);
 }
 
-// The octets of s, copied by blocks: the first, and the others from a place in it or right after it.
+// The octets of s, copied by blocks: the first, and the others from a place in it or right after it. Not by one copy_from_slice, which
+// would be a call of memmove for each text, also for a short one: with such a call lines that have escapes took 4 to 5 per cent longer to
+// write (docs/DECISIONS.md).
 fn put_blocks<const N: usize>(d: &mut [u8], at: usize, s: &[u8], from: usize)
     requires { (0 < N) × (N ≤ length s.now) × (at + length s.now ≤ length d.old) × (from ≤ N) }
     ensures { d.new ≡ paste d.old at s.now (length s.now) }
@@ -70,8 +72,8 @@ fn put_blocks<const N: usize>(d: &mut [u8], at: usize, s: &[u8], from: usize)
     put_rest::<N>(d, at, s, from);
 }
 
-// The octets of s, copied by the largest blocks that they have. After the first the blocks of 128 begin at multiples of 128 in d, since
-// stores to such places are quicker.
+// The octets of s, copied by the largest blocks that they have, and so without a call. After the first the blocks of 128 begin at
+// multiples of 128 in d, since stores to such places are quicker.
 fn put_all(d: &mut [u8], at: usize, s: &[u8])
     requires { at + length s.now ≤ length d.old }
     ensures { d.new ≡ paste d.old at s.now (length s.now) }
@@ -95,7 +97,7 @@ fn put_all(d: &mut [u8], at: usize, s: &[u8])
     put_each(d, at, s);
 }
 
-// The octets of s, copied to d from a place on; nothing where they have no room there.
+// The octets of s, copied to d from a place on; nothing where they have no room there. For rows of which most are short: it makes no call.
 pub fn copy(d: &mut [u8], at: usize, s: &[u8])
     ensures { d.new ≡ copied d.old at s.now }
 {
@@ -117,7 +119,7 @@ fn put_long(d: &mut [u8], at: usize, s: &[u8])
     put_all(d, at, s);
 }
 
-// The same as copy, for rows of which most are long.
+// The same as copy, for rows of which most are long: one of 256 octets or more is copied by one call.
 pub fn copy_long(d: &mut [u8], at: usize, s: &[u8])
     ensures { d.new ≡ copied d.old at s.now }
 {

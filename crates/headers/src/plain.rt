@@ -12,7 +12,8 @@ pub(crate) trait OctetTest: Copy {
         ensures { result ≡ test self x };
 }
 
-// The octets that end a stretch beside 10: 10 again in the place of one that does not. An octet above top ends it too.
+// The octets that end a stretch beside 10. An octet above top ends it too. 10, which ends every stretch, stands for a stop that is not
+// there: so a test is the same four comparisons, and the one with top, with no branch.
 #[derive(Clone, Copy)]
 pub struct Stops {
     pub cr: u8,
@@ -82,7 +83,8 @@ fn whole_blocks<T: OctetTest>(s: &[u8], test: T) -> usize
     s.len() / 64 * 64
 }
 
-// The place of the first octet of a block that does not pass, or 32: every octet is looked at here too.
+// The place of the first octet of a block that does not pass, or 32: every octet is looked at here too. A place is below 32, so nothing
+// is lost where it is made an octet; a try_from would have a branch that never runs.
 fn first_stop<T: OctetTest>(s: &[u8], test: T) -> u8
     requires { length s.now ≡ 32 }
     ensures { result ≡ span (T.test test) s.now }

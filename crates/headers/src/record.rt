@@ -1,5 +1,5 @@
 // One entry record, written from a raw name and a raw value.
-ghost use Rattle.std.specs.Prelude.{◌≡◌, ◌++◌, ◌+◌, ◌≤◌, length, drop, leb, ltb, not};
+ghost use Rattle.std.specs.Prelude.{◌≡◌, ◌++◌, ◌+◌, ◌≤◌, ◌<◌, length, drop, leb, ltb, not};
 ghost use Rattle.headers.specs.Stretches.{kept, unescaped};
 ghost use Rattle.headers.specs.Block.{record_head, entry_record};
 ghost use Rattle.headers.specs.Lines.{entry_of};
@@ -10,15 +10,12 @@ use crate::text::{Style, decoded_length, put_decoded};
 
 // The tag and the two lengths at the front of d.
 fn put_head(d: &mut [u8], name: usize, value: usize)
-    requires { 6 ≤ length d.old }
+    requires { (6 ≤ length d.old) × (name < 65536) × (value < 65536) }
     ensures { d.new ≡ record_head name value ++ drop 6 d.old }
 {
-    d[0] = 72;
-    d[1] = 68;
-    d[2] = (name / 256 % 256) as u8;
-    d[3] = (name % 256) as u8;
-    d[4] = (value / 256 % 256) as u8;
-    d[5] = (value % 256) as u8;
+    let n = (name as u16).to_be_bytes();
+    let v = (value as u16).to_be_bytes();
+    d[0..6].copy_from_slice(&[72, 68, n[0], n[1], v[0], v[1]]);
 }
 
 // How many octets at the front of a name and of a value are known to have no backslash.
@@ -72,7 +69,8 @@ impl Raw<'_> {
 
 // The record of such a name and value at the front of d; its length.
 fn put_record(d: &mut [u8], name: Raw<'_>, value: Raw<'_>) -> usize
-    requires { 6 + length (kept name.known name.style name.text.now) + length (kept value.known value.style value.text.now) ≤ length d.old }
+    requires { (6 + length (kept name.known name.style name.text.now) + length (kept value.known value.style value.text.now) ≤ length d.old)
+        × (length (kept name.known name.style name.text.now) < 65536) × (length (kept value.known value.style value.text.now) < 65536) }
     ensures { Puts (entry_record (entry_of (kept name.entry.known name.entry.style name.entry.text.now) (kept value.entry.known value.entry.style value.entry.text.now))) result
         d.old d.new }
 {

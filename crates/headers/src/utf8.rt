@@ -45,7 +45,9 @@ fn is_second(first: u8, x: u8) -> bool
     is_tail(x)
 }
 
-// One octet, from how far its character is read on: how far it is then, or none where the octet does not go on with it.
+// One octet, from how far its character is read on: how far it is then, or none where the octet does not go on with it. How far is said
+// by a number, since the record of a stream parser, which C has too, keeps it as an octet: 0 where no character is begun, 1 or 2 where as
+// many octets are still owed, or the first octet where that alone is read.
 pub fn utf8_next(part: u8, x: u8) -> Option<u8>
     ensures { result ≡ part_after (utf8_reads (utf8_part part) x) }
 {
@@ -70,7 +72,7 @@ pub fn utf8_next(part: u8, x: u8) -> Option<u8>
     None
 }
 
-// How many octets a character still owes that is read as far as part says.
+// How many octets a character still owes that is read as far as part says, a number as at utf8_next.
 pub fn utf8_owes(part: u8) -> u8
     ensures { result ≡ owes (utf8_part part) }
 {

@@ -5,7 +5,7 @@ ghost use Rattle.std.specs.Io.KnownBytes.{Consumes, IsAtEnd};
 use std::io;
 use std::io::Read;
 
-// The number of the four octets at i, or 0 where fewer stand there.
+// The number of the four octets at i, or 0 where fewer stand there; the clause says both.
 pub fn number_at(head: &[u8], i: usize) -> u32
     ensures { (i + 4 ≤ length head.now → result ≡
         get_or head.now i 0 * 16777216 + get_or head.now (i + 1) 0 * 65536
@@ -32,7 +32,7 @@ pub fn read_full<R: Read>(reader: &mut R, buf: &mut [u8]) -> io::Result<usize>
     ensures bytes { IfOk result (λ n. Consumes (R.remaining reader.old) (R.remaining reader.new) (take n buf.new)) }
     ensures end { IfOk result (λ n. n < length buf.old → IsAtEnd (R.remaining reader.new)) }
 {
-    // A cursor, and no for: how far it goes at a turn is what a reading gives.
+    // How far each turn goes is known only after its reading, so this is a while.
     let mut done = 0usize;
     while done < buf.len() {
         let n = reader.read(&mut buf[done..])?;

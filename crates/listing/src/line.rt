@@ -91,7 +91,8 @@ fn put_item(d: &mut [u8], i: Item) -> usize
     }
 }
 
-// The line of a reply, at the front of d: its length, or 0 where d has fewer than 160 octets and stays as it was.
+// The line of a reply, at the front of d: its length, or 0 where d has fewer than 160 octets and stays as it was; line_used and line_left,
+// in the clause, say both.
 pub fn put_line(
     d: &mut [u8],
     start: u64,

@@ -53,11 +53,18 @@ impl Refused {
     }
 }
 
-// Why a stream was not replayed whole: the offers are refused (34), or counting failed.
+// Why a stream was not replayed whole: the offers are refused (34), its octets cannot be counted, or a reading or a writing failed.
 #[derive(Clone, Copy)]
 pub enum ReplayError {
     Unmade,
     Uncounted,
+    Io(io::Error),
+}
+
+impl From<io::Error> for ReplayError {
+    fn from(e: io::Error) -> ReplayError {
+        ReplayError::Io(e)
+    }
 }
 
 // The first value of a header, or nothing.
@@ -88,7 +95,8 @@ fn is_opening(item: Item) -> bool {
     }
 }
 
-// The start of an item, and what it is.
+// The start of an item, and what it is. Lines are laid out by hand, in a buffer of fixed size: a contract says how much room each part needs
+// and takes at most, and no clause would say that of write!.
 fn lay_start(lines: &mut Output, start: u64, item: Item)
     requires { lines.old.used + 48 ≤ 65536 }
     ensures { lines.new.used ≤ lines.old.used + 48 }
@@ -290,18 +298,18 @@ impl Replaying {
 }
 
 // Replays the octets of a reader with a session of these offers and versions 1.1 and 1.2, at time 0: a line on a writer for each item, and
-// the last one as a listing has it. In a log of both sides a MESSAGE is a delivery. A reading or a writing that fails is the answer. The
-// lines laid out before a reading are written before it, so that one that fails loses none of them.
+// the last one as a listing has it; or says why it was not replayed whole. In a log of both sides a MESSAGE is a delivery. The lines laid
+// out before a reading are written before it, so that one that fails loses none of them.
 pub fn replay<R: Read, W: Write>(
     reader: &mut R,
     writer: &mut W,
     sends: u32,
     wants: u32,
     log: bool,
-) -> io::Result<Result<(), ReplayError>> {
+) -> Result<(), ReplayError> {
     let made = Session::new(sends, wants, [false, true, true]);
     if made.answer.is_err() {
-        return Ok(Err(ReplayError::Unmade));
+        return Err(ReplayError::Unmade);
     }
     let mut replaying = Replaying {
         input: Input::new(),
@@ -322,7 +330,7 @@ pub fn replay<R: Read, W: Write>(
     }
     replaying.lines.flush(writer)?;
     if replaying.place.stage == Stage::Whole {
-        return Ok(Ok(()));
+        return Ok(());
     }
-    Ok(Err(ReplayError::Uncounted))
+    Err(ReplayError::Uncounted)
 }

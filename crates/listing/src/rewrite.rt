@@ -4,7 +4,7 @@ ghost use Rattle.frames.specs.Replies.{used_of};
 ghost use Rattle.frames.specs.Answers.{item_says};
 
 use crate::buffers::{Input, Output, SIZE};
-use crate::stream::{Place, Stage};
+use crate::stream::{Place, Stage, StreamError};
 use frames::decode::{DecodeError, decode};
 use frames::encode::{EncodeError, encode};
 use frames::parse::{Frame, Item, Refusal};
@@ -182,14 +182,14 @@ impl Rewriting {
     }
 }
 
-// Rewrites the octets of a reader to a writer, up to their end or to what cannot be read or written, which a line on another writer tells:
-// whether all were counted. A reading or a writing that fails is the answer: where it is not a writing of frames, those before are written.
+// Rewrites the octets of a reader to a writer, up to their end or to what cannot be read or written, which a line on another writer tells;
+// or says why not all were. Where a reading failed, or a writing that is not one of frames, the frames before it are written.
 pub fn rewrite<R: Read, W: Write, E: Write>(
     reader: &mut R,
     writer: &mut W,
     errors: &mut E,
     asked: Asked,
-) -> io::Result<bool> {
+) -> Result<(), StreamError> {
     let mut rewriting = Rewriting {
         asked,
         input: Input::new(),
@@ -204,5 +204,8 @@ pub fn rewrite<R: Read, W: Write, E: Write>(
         rewriting.turn(reader, writer, errors)?;
     }
     rewriting.image.flush(writer)?;
-    Ok(rewriting.place.stage == Stage::Whole)
+    if rewriting.place.stage == Stage::Whole {
+        return Ok(());
+    }
+    Err(StreamError::Uncounted)
 }

@@ -16,6 +16,19 @@ pub(crate) enum Stage {
     Uncounted,
 }
 
+// Why a stream was not gone through whole: its octets cannot be counted, or a reading or a writing failed.
+#[derive(Clone, Copy)]
+pub enum StreamError {
+    Uncounted,
+    Io(io::Error),
+}
+
+impl From<io::Error> for StreamError {
+    fn from(e: io::Error) -> StreamError {
+        StreamError::Io(e)
+    }
+}
+
 // Where the next item starts in a stream, and how the loop over it goes.
 #[derive(Clone, Copy)]
 pub(crate) struct Place {
@@ -72,9 +85,9 @@ impl Listing {
     }
 }
 
-// Lists the octets of a reader on a writer, to their end, a line for each item: whether the last line is written. A reading or a writing
-// that fails is the answer. The lines laid out before a reading are written before it, so that one that fails loses none of them.
-pub fn list<R: Read, W: Write>(reader: &mut R, writer: &mut W) -> io::Result<bool> {
+// Lists the octets of a reader on a writer, to their end, a line for each item; or says why the last line is not written. The lines laid
+// out before a reading are written before it, so that one that fails loses none of them.
+pub fn list<R: Read, W: Write>(reader: &mut R, writer: &mut W) -> Result<(), StreamError> {
     let mut listing = Listing {
         input: Input::new(),
         lines: Output::new(),
@@ -87,5 +100,8 @@ pub fn list<R: Read, W: Write>(reader: &mut R, writer: &mut W) -> io::Result<boo
         listing.turn(reader, writer)?;
     }
     listing.lines.flush(writer)?;
-    Ok(listing.place.stage == Stage::Whole)
+    if listing.place.stage == Stage::Whole {
+        return Ok(());
+    }
+    Err(StreamError::Uncounted)
 }

@@ -9,6 +9,7 @@
 ghost use Rattle.std.specs.Prelude.{◌≤◌, length};
 
 use listing::calls::{CallError, each_call, number_at, read_head, read_rest, read_text, tell};
+use registry::Refusal;
 use registry::exports::{
     stomp_registry_ask, stomp_registry_close, stomp_registry_end, stomp_registry_open,
     stomp_registry_publish,
@@ -78,7 +79,11 @@ fn session_of(head: &[u8; 20]) -> u64 {
 
 // What setting the record answers.
 fn validity(reg: &[u8]) -> u64 {
-    if registry::is_valid(reg) { 0 } else { 89 }
+    if registry::is_valid(reg) {
+        0
+    } else {
+        u64::from(Refusal::InvalidRecord.number())
+    }
 }
 
 // What a call gives, and the record where it is another one than before.

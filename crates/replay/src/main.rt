@@ -60,11 +60,12 @@ fn main(rt: HostRuntime) -> io::Result<()> {
         asked.sends,
         asked.wants,
         asked.log,
-    )? {
+    ) {
         Ok(()) => Ok(()),
         Err(ReplayError::Unmade) => eprintln!(rt; "replay: the offers are refused 34"),
         Err(ReplayError::Uncounted) => {
             eprintln!(rt; "replay: there are more octets than can be counted")
         }
+        Err(ReplayError::Io(e)) => Err(e),
     }
 }

@@ -1,11 +1,12 @@
-// Decodes each frame of standard input and encodes it again, or says that reading or writing failed. With the argument counted a length
-// line is added to every frame that has a body and none, as the archive feeder needs it. With the argument 1.1 frames are read and written
-// in protocol version 1.1, otherwise in 1.2.
+// Decodes each frame of standard input and encodes it again, or says that its octets cannot be counted; a reading or a writing that fails
+// is what the program ends with. With the argument counted a length line is added to every frame that has a body and none, as the archive
+// feeder needs it. With the argument 1.1 frames are read and written in protocol version 1.1, otherwise in 1.2.
 #![tactic(auto)]
 
 use frames::version::Version;
 use listing::arguments::{has_arg, is_arg};
 use listing::rewrite::Asked;
+use listing::stream::StreamError;
 use std::io;
 
 fn main(rt: HostRuntime) -> io::Result<()> {
@@ -20,8 +21,11 @@ fn main(rt: HostRuntime) -> io::Result<()> {
     let mut writer = rt.stdout();
     let mut errors = rt.stderr();
     let asked = Asked { version, counted };
-    if listing::rewrite::rewrite(&mut reader, &mut writer, &mut errors, asked)? {
-        return Ok(());
+    match listing::rewrite::rewrite(&mut reader, &mut writer, &mut errors, asked) {
+        Ok(()) => Ok(()),
+        Err(StreamError::Uncounted) => {
+            eprintln!(rt; "rewrite: there are more octets than can be counted")
+        }
+        Err(StreamError::Io(e)) => Err(e),
     }
-    eprintln!(rt; "rewrite: there are more octets than can be counted")
 }

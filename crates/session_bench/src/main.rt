@@ -14,6 +14,65 @@ use sessions::delivery::Deliveries;
 use sessions::session::Session;
 use std::io;
 
+// What is timed: SEND in a transaction, UNSUBSCRIBE and SUBSCRIBE in turn, or SEND with pending deliveries; each with short ids or long.
+#[derive(Clone, Copy)]
+enum Case {
+    Send,
+    Subscribe,
+    SendLong,
+    SubscribeLong,
+    SendPending,
+    SendPendingLong,
+}
+
+// That a number is that of no case.
+#[derive(Clone, Copy)]
+struct NoCase;
+
+impl TryFrom<u32> for Case {
+    type Error = NoCase;
+
+    fn try_from(case: u32) -> Result<Case, NoCase> {
+        match case {
+            0 => Ok(Case::Send),
+            1 => Ok(Case::Subscribe),
+            2 => Ok(Case::SendLong),
+            3 => Ok(Case::SubscribeLong),
+            4 => Ok(Case::SendPending),
+            5 => Ok(Case::SendPendingLong),
+            _ => Err(NoCase),
+        }
+    }
+}
+
+impl Case {
+    // All of them, by their numbers.
+    const ALL: [Case; 6] = [
+        Case::Send,
+        Case::Subscribe,
+        Case::SendLong,
+        Case::SubscribeLong,
+        Case::SendPending,
+        Case::SendPendingLong,
+    ];
+
+    // Whether the ids have 32 octets, and not 6.
+    fn is_long(self) -> bool {
+        match self {
+            Case::SendLong | Case::SubscribeLong | Case::SendPendingLong => true,
+            Case::Send | Case::Subscribe | Case::SendPending => false,
+        }
+    }
+
+    // How many deliveries are pending.
+    fn pending(self) -> u8 {
+        match self {
+            Case::SendPending | Case::SendPendingLong => DELIVERIES,
+            Case::Send | Case::Subscribe | Case::SendLong | Case::SubscribeLong => 0,
+        }
+    }
+}
+
 // The two digits of a number.
 fn tens(n: u8) -> u8 {
     48 + n / 10 % 10
@@ -215,30 +274,25 @@ fn subscribe(session: Session, long: bool, calls: u32) -> Tally {
     )
 }
 
-// How many deliveries are pending in a case.
-fn pending_in(case: u32) -> u8 {
-    if case < 4 { 0 } else { DELIVERIES }
-}
-
 // The calls of a case.
-fn run(case: u32, calls: u32) -> Tally {
-    if 4 <= case {
-        let long = case == 5;
-        let session = deliver_all(prepared(long, client_subscription(long)), long);
-        return send(session, long, calls);
+fn run(case: Case, calls: u32) -> Tally {
+    let long = case.is_long();
+    match case {
+        Case::Send | Case::SendLong => { send(prepared(long, subscription(long)), long, calls) }
+        Case::Subscribe | Case::SubscribeLong => {
+            subscribe(prepared(long, subscription(long)), long, calls)
+        }
+        Case::SendPending | Case::SendPendingLong => {
+            let session = prepared(long, client_subscription(long));
+            send(deliver_all(session, long), long, calls)
+        }
     }
-    let long = 1 < case;
-    let session = prepared(long, subscription(long));
-    if case % 2 == 0 {
-        return send(session, long, calls);
-    }
-    subscribe(session, long, calls)
 }
 
 // A case, with its line.
-fn show(rt: &impl Print, case: u32, calls: u32) -> io::Result<()> {
+fn show(rt: &impl Print, case: Case, calls: u32) -> io::Result<()> {
     let t = run(case, calls);
-    if t.session.deliveries.count != pending_in(case) {
+    if t.session.deliveries.count != case.pending() {
         return println!(rt; "other deliveries are pending");
     }
     let accepted = t.accepted;
@@ -248,12 +302,12 @@ fn show(rt: &impl Print, case: u32, calls: u32) -> io::Result<()> {
 
 fn main(rt: HostRuntime) -> io::Result<()> {
     let calls = number_arg(&rt, 1).unwrap_or(16);
-    let case = number_arg(&rt, 2).unwrap_or(6);
-    if case < 6 {
+    let asked = number_arg(&rt, 2).and_then(|n| Case::try_from(n).ok());
+    if let Some(case) = asked {
         return show(&rt, case, calls);
     }
-    for each in 0..6 {
-        show(&rt, each, calls)?;
+    for case in Case::ALL {
+        show(&rt, case, calls)?;
     }
     Ok(())
 }

@@ -19,6 +19,43 @@ use std::io::{Read, Write};
 
 mod in_place;
 
+// What a call asks for.
+#[derive(Clone, Copy)]
+enum Kind {
+    Make,
+    Frame,
+    HeartBeat,
+    TimedOut,
+    Set,
+    FrameInPlace,
+    HeartBeatInPlace,
+    TimedOutInPlace,
+    Deliver,
+    DeliverInPlace,
+    Pending,
+}
+
+impl TryFrom<u8> for Kind {
+    type Error = CallError;
+
+    fn try_from(kind: u8) -> Result<Kind, CallError> {
+        match kind {
+            0 => Ok(Kind::Make),
+            1 => Ok(Kind::Frame),
+            2 => Ok(Kind::HeartBeat),
+            3 => Ok(Kind::TimedOut),
+            4 => Ok(Kind::Set),
+            5 => Ok(Kind::FrameInPlace),
+            6 => Ok(Kind::HeartBeatInPlace),
+            7 => Ok(Kind::TimedOutInPlace),
+            8 => Ok(Kind::Deliver),
+            9 => Ok(Kind::DeliverInPlace),
+            10 => Ok(Kind::Pending),
+            _ => Err(CallError::UnknownKind),
+        }
+    }
+}
+
 // The three flags at i.
 fn flags_at(head: &[u8], i: usize) -> [bool; 3]
     requires { i + 2 < length head.now }
@@ -308,13 +345,13 @@ fn call<R: Read, W: Write>(
     let Some(first) = read_head::<1, R>(input)? else {
         return Ok(false);
     };
-    match first[0] {
-        0 => make(input, output, session)?,
-        1 => frame(input, output, session, |s, command, block, time| {
+    match Kind::try_from(first[0])? {
+        Kind::Make => make(input, output, session)?,
+        Kind::Frame => frame(input, output, session, |s, command, block, time| {
             s.frame(command, block, time)
         })?,
-        2 => heart_beat(input, output, session, |s, time| s.heart_beat(time))?,
-        3 => timed_out(
+        Kind::HeartBeat => heart_beat(input, output, session, |s, time| s.heart_beat(time))?,
+        Kind::TimedOut => timed_out(
             input,
             output,
             session,
@@ -323,24 +360,23 @@ fn call<R: Read, W: Write>(
                 answer: s.timed_out(time),
             },
         )?,
-        4 => set(input, output, session)?,
-        5 => frame(input, output, session, |s, command, block, time| {
+        Kind::Set => set(input, output, session)?,
+        Kind::FrameInPlace => frame(input, output, session, |s, command, block, time| {
             in_place::frame(s, command, block, time)
         })?,
-        6 => heart_beat(input, output, session, |s, time| {
+        Kind::HeartBeatInPlace => heart_beat(input, output, session, |s, time| {
             in_place::heart_beat(s, time)
         })?,
-        7 => timed_out(input, output, session, |s, time| {
+        Kind::TimedOutInPlace => timed_out(input, output, session, |s, time| {
             in_place::timed_out(s, time)
         })?,
-        8 => deliver(input, output, session, |s, subscription, label| {
+        Kind::Deliver => deliver(input, output, session, |s, subscription, label| {
             s.deliver(subscription, label)
         })?,
-        9 => deliver(input, output, session, |s, subscription, label| {
+        Kind::DeliverInPlace => deliver(input, output, session, |s, subscription, label| {
             in_place::deliver(s, subscription, label)
         })?,
-        10 => pending(input, output, session)?,
-        _ => return Err(CallError::UnknownKind),
+        Kind::Pending => pending(input, output, session)?,
     }
     Ok(true)
 }

@@ -35,7 +35,7 @@ use Rattle.frames.specs.declared.version.Version.{Version}
 use Rattle.frames.specs.declared.version.Version.TheVariants.{V11}
 use Rattle.sessions.specs.declared.delivery.Deliveries.{Deliveries}
 use Rattle.sessions.specs.declared.session.Session.{Session}
-use Rattle.sessions.specs.declared.session.Recording.{Recording}
+use Rattle.sessions.specs.Afters.{Recording}
 use Rattle.stores.proofs.Searching.{told_any}
 use Rattle.sessions.proofs.Settling.{first_free}
 use Rattle.sessions.proofs.Stores.{place_padded, lengths_ids, valid_clean}

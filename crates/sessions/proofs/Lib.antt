@@ -6,6 +6,7 @@ pub mod Telling
 pub mod Accounts
 pub mod Stores
 pub mod Values
+pub mod Asking
 pub mod Locating
 pub mod Noting
 pub mod Tables

@@ -2,7 +2,7 @@
 --     number_by, number_long, is_number               the number of the header that has a name
 --     Walked                                          what the walk knows of the notes at a place of the block
 --     walk_begins, walk_ends, walk_fails              its begin and its ends
---     walk_first, walk_later, walk_passes             its turns
+--     walk_notes, walk_passes                         its turns
 --     later_in                                        what a caller learns
 use Rattle.std.proofs.Common.{◌≡◌, ℕ, zero, suc, ◌+◌, ◌-◌, ◌<◌, ◌≤◌, Bool, true, false, cond, eqb, List, [], ◌∷◌, map, length, get_or, drop, set, replicate, sym, refl, ap, ◌∙◌, subst, ap₂, arith, length-set, get_or-set_other, get_or-set_same, eq-eqb, ne_eqb, eqb-true}
 use mathlib.Core.Option.{Option, none, some}
@@ -18,12 +18,13 @@ use Rattle.headers.proofs.LaidOut.{block_entries, is_block_sound}
 use Rattle.headers.proofs.Finding.{find_block, spans_named}
 use Rattle.headers.proofs.FirstValues.{find_absent, find_value}
 use Rattle.sessions.specs.Headers.{name_of, value_of}
-use Rattle.sessions.specs.Notes.{known_headers, headers_max, index_of, located_value, later_noted, Inside, AllNoted, Notes_of}
+use Rattle.sessions.specs.Notes.{known_headers, headers_max, index_of, located_value, later_noted, mark_of, marked, unmarked, Inside, AllNoted, Notes_of}
 use Rattle.sessions.specs.Notes.{number_from, number_of_name, no_notes}
 use Rattle.sessions.specs.declared.command.Header.{Header}
 use Rattle.std.specs.Prelude.{Some, None, Ok, Err}
 use Rattle.sessions.specs.declared.notes.Located.{Located}
 use Rattle.headers.specs.declared.block.Malformed.{Malformed}
+use Rattle.sessions.specs.declared.notes.Mark.{Mark}
 use Rattle.sessions.specs.declared.notes.Notes.{Notes}
 
 -- ## The number of a name
@@ -149,104 +150,20 @@ module _ (block : List ℕ) (i : ℕ) (l : Lengths) (p : Placed block i l) (h : 
 
 -- ## What is noted of a header
 
--- where its first value is, and how many are noted
-pub record Mark : Type 0 where
-  pub start : ℕ
-  pub end : ℕ
-  pub count : ℕ
+-- the notes with another mark for a number
+abbrev pub with_mark : Notes → ℕ → Mark → Notes
+with_mark r k m = record { marks = set r.marks k m }
 
-abbrev mark : ℕ → ℕ → ℕ → Mark
-mark s e n = record { start = s; end = e; count = n }
-
--- what the notes have for a number
-abbrev pub mark_of : Notes → ℕ → Mark
-mark_of r k = mark (get_or r.starts k 0) (get_or r.ends k 0) (get_or r.counts k 0)
-
--- with one more value
-abbrev marked : Mark → ℕ → ℕ → Mark
-marked m s e = mark (cond (eqb m.count 0) s m.start) (cond (eqb m.count 0) e m.end) (m.count + 1)
-
--- the rows of the notes have a place for each header
-pub record Sized (r : Notes) : Type 0 where
-  pub starts_long : length r.starts ≡ headers_max
-  pub ends_long : length r.ends ≡ headers_max
-  pub counts_long : length r.counts ≡ headers_max
-
--- a row of places that keeps the first
-abbrev kept_first : ℕ → List ℕ → ℕ → ℕ → List ℕ
-kept_first count places k at = cond (eqb count 0) (set places k at) places
-
-module _ (count : ℕ) (places : List ℕ) (k v : ℕ) where
-  kept_at : k < length places → get_or (kept_first count places k v) k 0 ≡ cond (eqb count 0) v (get_or places k 0)
-  kept_at h = by (eqb count 0)
-    where
-      by : (t : Bool) → get_or (cond t (set places k v) places) k 0 ≡ cond t v (get_or places k 0)
-      by true = get_or-set_same places k v 0 h
-      by false = refl
-
-  kept_other : (j : ℕ) → (j ≡ k → ⊥) → get_or (kept_first count places k v) j 0 ≡ get_or places j 0
-  kept_other j h = by (eqb count 0)
-    where
-      by : (t : Bool) → get_or (cond t (set places k v) places) j 0 ≡ get_or places j 0
-      by true = get_or-set_other places k j v 0 h
-      by false = refl
-
-  kept_long : length (kept_first count places k v) ≡ length places
-  kept_long = cond_case (λ ps. length ps ≡ length places) (eqb count 0) (λ e. length-set places k v) (λ e. refl)
-
--- the notes with one more value of the header with number k
-abbrev noted_value : Notes → ℕ → ℕ → ℕ → Notes
-noted_value r k s e =
-    let n = get_or r.counts k 0 in
-    record { starts = kept_first n r.starts k s; ends = kept_first n r.ends k e; counts = set r.counts k (n + 1) }
-
--- that is its first, or a later one
-abbrev pub noted_first : Notes → ℕ → ℕ → ℕ → Notes
-noted_first r k s e = record { starts = set r.starts k s; ends = set r.ends k e; counts = set r.counts k (get_or r.counts k 0 + 1) }
-
-abbrev pub noted_later : Notes → ℕ → Notes
-noted_later r k = record { starts = r.starts; ends = r.ends; counts = set r.counts k (get_or r.counts k 0 + 1) }
-
-module _ (r : Notes) (k s e : ℕ) where
-  value_first : get_or r.counts k 0 ≡ 0 → noted_value r k s e ≡ noted_first r k s e
-  value_first z = rw (eq-eqb (get_or r.counts k 0) 0 z)
-
-  value_later : (get_or r.counts k 0 ≡ 0 → ⊥) → noted_value r k s e ≡ noted_later r k
-  value_later z = rw (ne_eqb (get_or r.counts k 0) 0 z)
-
--- it changes the mark of its number alone
-module _ (r : Notes) (z : Sized r) (k s e : ℕ) (h : k < headers_max) where
-  sized_value : Sized (noted_value r k s e)
-  sized_value =
-      let n = get_or r.counts k 0 in
-      record {
-        starts_long = kept_long n r.starts k s ∙ z.starts_long;
-        ends_long = kept_long n r.ends k e ∙ z.ends_long;
-        counts_long = length-set r.counts k (n + 1) ∙ z.counts_long;
-      }
-
-  mark_here : mark_of (noted_value r k s e) k ≡ marked (mark_of r k) s e
-  mark_here =
-      let n = get_or r.counts k 0 in
-      ap₂ (λ a b. mark a b (get_or (set r.counts k (n + 1)) k 0))
-      (kept_at n r.starts k s (omega (arith, z.starts_long)))
-      (kept_at n r.ends k e (omega (arith, z.ends_long)))
-      ∙ ap (mark (marked (mark_of r k) s e).start (marked (mark_of r k) s e).end) (get_or-set_same r.counts k (n + 1) 0 (omega (arith, z.counts_long)))
-
-  mark_other : (j : ℕ) → (j ≡ k → ⊥) → mark_of (noted_value r k s e) j ≡ mark_of r j
-  mark_other j d =
-      let n = get_or r.counts k 0 in
-      ap₂ (λ a b. mark a b (get_or (set r.counts k (n + 1)) j 0)) (kept_other n r.starts k s j d) (kept_other n r.ends k e j d)
-      ∙ ap (mark (get_or r.starts j 0) (get_or r.ends j 0)) (get_or-set_other r.counts k j (n + 1) 0 d)
-
--- so what holds of each mark still does
-each_mark : (P : ℕ → Mark → Type 0) (r : Notes) → Sized r → (k s e : ℕ) → k < headers_max
-    → P k (marked (mark_of r k) s e) → ((j : ℕ) → (j ≡ k → ⊥) → P j (mark_of r j)) → (j : ℕ) → P j (mark_of (noted_value r k s e) j)
-each_mark P r z k s e h here others j = by (eqb j k) refl
+-- what holds of each mark still does
+each_mark : (P : ℕ → Mark → Type 0) (r : Notes) (k : ℕ) (m : Mark) → k < length r.marks
+    → P k m → ((j : ℕ) → (j ≡ k → ⊥) → P j (mark_of r j)) → (j : ℕ) → P j (mark_of (with_mark r k m) j)
+each_mark P r k m h here others j = by (eqb j k) refl
   where
-    by : (t : Bool) → eqb j k ≡ t → P j (mark_of (noted_value r k s e) j)
-    by true q = subst (λ i. P i (mark_of (noted_value r k s e) i)) (sym (eqb-true j k q)) (subst (P k) (sym (mark_here r z k s e h)) here)
-    by false q = subst (P j) (sym (mark_other r z k s e h j (eqb-false j k q))) (others j (eqb-false j k q))
+    by : (t : Bool) → eqb j k ≡ t → P j (mark_of (with_mark r k m) j)
+    by true q =
+        subst (λ i. P i (mark_of (with_mark r k m) i)) (sym (eqb-true j k q))
+        (subst (P k) (sym (get_or-set_same r.marks k m unmarked h)) here)
+    by false q = subst (P j) (sym (get_or-set_other r.marks k j m unmarked (eqb-false j k q))) (others j (eqb-false j k q))
 
 -- a mark is of the part of a block up to a place
 pub record Bounded (m : Mark) (i : ℕ) : Type 0 where
@@ -266,7 +183,7 @@ module _ (m : Mark) where
   bounded_value : (i s e : ℕ) → i < e → s ≤ e → Bounded m i → Bounded (marked m s e) e
   bounded_value i s e h f b = by (eqb m.count 0)
     where
-      by : (t : Bool) → Bounded (mark (cond t s m.start) (cond t e m.end) (m.count + 1)) e
+      by : (t : Bool) → Bounded (record { start = cond t s m.start; end = cond t e m.end; count = m.count + 1 }) e
       by true = record { ordered = f; inside = omega arith; few = omega (arith, b.few) }
       by false = record { ordered = b.ordered; inside = omega (arith, b.inside); few = omega (arith, b.few) }
 
@@ -284,28 +201,25 @@ module _ (m : Mark) where
 -- what it knows at place i of the block
 pub record Walked (block : List ℕ) (r : Notes) (i : ℕ) : Type 0 where
   pub within : i ≤ length block
-  pub sized : Sized r
+  pub sized : length r.marks ≡ headers_max
   pub bounded : (k : ℕ) → Bounded (mark_of r k) i
   pub remains : is_block block ≡ is_block (drop i block)
   pub says : is_block block ≡ true → (h : Header) → Follows (mark_of r (index_of h)) (left_spans block h i) (left_spans block h 0)
 
-zero_at : (n k : ℕ) → ◌≡◌ {A = ℕ} (get_or (replicate n 0) k 0) 0
-zero_at zero k = refl
-zero_at (suc n) zero = refl
-zero_at (suc n) (suc k) = zero_at n k
-
-no_mark : (k : ℕ) → mark_of no_notes k ≡ mark 0 0 0
-no_mark k = ap (λ n. mark n n n) (zero_at headers_max k)
+unmarked_at : (n k : ℕ) → get_or (replicate n unmarked) k unmarked ≡ unmarked
+unmarked_at zero k = refl
+unmarked_at (suc n) zero = refl
+unmarked_at (suc n) (suc k) = unmarked_at n k
 
 pub walk_begins : (block : List ℕ) → Walked block no_notes 0
 walk_begins block =
     record {
       within = omega arith;
-      sized = record { starts_long = refl; ends_long = refl; counts_long = refl };
-      bounded = λ k. subst (λ m. Bounded m 0) (sym (no_mark k)) (record { ordered = omega arith; inside = omega arith; few = omega arith });
+      sized = refl;
+      bounded = λ k. subst (λ m. Bounded m 0) (sym (unmarked_at headers_max k)) (record { ordered = omega arith; inside = omega arith; few = omega arith });
       remains = refl;
       says = λ b h.
-          subst (λ m. Follows m (left_spans block h 0) (left_spans block h 0)) (sym (no_mark (index_of h)))
+          subst (λ m. Follows m (left_spans block h 0) (left_spans block h 0)) (sym (unmarked_at headers_max (index_of h)))
           (record { counted = omega arith; first = refl });
     }
 
@@ -340,29 +254,25 @@ module _ (block : List ℕ) (r : Notes) (i : ℕ) (w : Walked block r i) where
         follows_value (mark_of r (index_of h)) (i + 6 + l.name) l.value (place_behind i l) (left_spans block h (place_behind i l))
         (left_spans block h 0) refl (turn b h true (eq-eqb k (index_of h) e))
 
-    walk_notes : k < headers_max → Walked block (noted_value r k (i + 6 + l.name) (place_behind i l)) (place_behind i l)
+    -- at one of a header that is known
+    pub walk_notes : k < headers_max → Walked block (with_mark r k (marked (mark_of r k) (i + 6 + l.name) (place_behind i l))) (place_behind i l)
     walk_notes g =
+        let m = marked (mark_of r k) (i + 6 + l.name) (place_behind i l) in
+        let inside : k < length r.marks = omega (arith, w.sized) in
         record {
           within = p.inside;
-          sized = sized_value r w.sized k (i + 6 + l.name) (place_behind i l) g;
+          sized = length-set r.marks k m ∙ w.sized;
           bounded =
-              each_mark (λ j m. Bounded m (place_behind i l)) r w.sized k (i + 6 + l.name) (place_behind i l) g
+              each_mark (λ j n. Bounded n (place_behind i l)) r k m inside
               (bounded_value (mark_of r k) i (i + 6 + l.name) (place_behind i l) (omega arith) (omega arith) (w.bounded k))
               (λ j d. bounded_later (mark_of r j) i (place_behind i l) (omega arith) (w.bounded j));
           remains = w.remains ∙ is_block_next block i l p;
           says = λ b h.
-              each_mark (λ j m. index_of h ≡ j → After h m) r w.sized k (i + 6 + l.name) (place_behind i l) g
+              each_mark (λ j n. index_of h ≡ j → After h n) r k m inside
               (λ e. subst (λ j. After h (marked (mark_of r j) (i + 6 + l.name) (place_behind i l))) e (own b h (sym e)))
               (λ j d e. subst (λ n. After h (mark_of r n)) e (turn b h false (ne_eqb k (index_of h) (λ z. d (sym e ∙ sym z)))))
               (index_of h) refl;
         }
-
-    -- where the value is the first of its header, and where it is a later one
-    pub walk_first : k < headers_max → get_or r.counts k 0 ≡ 0 → Walked block (noted_first r k (i + 6 + l.name) (place_behind i l)) (place_behind i l)
-    walk_first g z = subst (λ n. Walked block n (place_behind i l)) (value_first r k (i + 6 + l.name) (place_behind i l) z) (walk_notes g)
-
-    pub walk_later : k < headers_max → (get_or r.counts k 0 ≡ 0 → ⊥) → Walked block (noted_later r k) (place_behind i l)
-    walk_later g z = subst (λ n. Walked block n (place_behind i l)) (value_later r k (i + 6 + l.name) (place_behind i l) z) (walk_notes g)
 
   -- at the end of the block
   module _ (o : every is_octet block ≡ true) (e : entries (drop i block) ≡ some []) where
@@ -371,13 +281,13 @@ module _ (block : List ℕ) (r : Notes) (i : ℕ) (w : Walked block r i) where
     ended b h = subst (λ us. Follows (mark_of r (index_of h)) us (left_spans block h 0)) (ap (λ z. spans (name_of h) i (listed z)) e) (w.says b h)
 
     abbrev spanned : Header → Located
-    spanned h = record { start = get_or r.starts (index_of h) 0; end = get_or r.ends (index_of h) 0 }
+    spanned h = let m = mark_of r (index_of h) in record { start = m.start; end = m.end }
 
     spans_inside : (h : Header) (t : Bool) → Inside block (cond t None (Some (spanned h)))
     spans_inside h true = tt
     spans_inside h false = ((w.bounded (index_of h)).ordered, omega (arith, (w.bounded (index_of h)).inside, w.within))
 
-    found : (b : is_block block ≡ true) (h : Header) (t : Bool) → eqb (get_or r.counts (index_of h) 0) 0 ≡ t
+    found : (b : is_block block ≡ true) (h : Header) (t : Bool) → eqb (mark_of r (index_of h)).count 0 ≡ t
         → located_value block (cond t None (Some (spanned h))) ≡ value_of h (listed (entries block))
     found b h t q = by t (answer t q)
       where
@@ -414,8 +324,8 @@ module _ (block : List ℕ) (r : Notes) (i : ℕ) (w : Walked block r i) where
           b,
           λ h. record {
             first = record {
-              inside = spans_inside h (eqb (get_or r.counts (index_of h) 0) 0);
-              first = found b h (eqb (get_or r.counts (index_of h) 0) 0) refl;
+              inside = spans_inside h (eqb (mark_of r (index_of h)).count 0);
+              first = found b h (eqb (mark_of r (index_of h)).count 0) refl;
             };
             counted = omega (arith, (ended b h).counted);
           },
@@ -430,6 +340,6 @@ module _ (block : List ℕ) (r : Notes) (i : ℕ) (w : Walked block r i) where
 -- how many later entries follow the first of a header
 pub later_in : {block : List ℕ} {r : Notes} → AllNoted block r → (h : Header) → later_noted r h ≡ later (name_of h) (listed (entries block))
 later_in {block} {r} all h =
-    let many : get_or r.counts (index_of h) 0 ≡ length (named (name_of h) (listed (entries block))) =
+    let many : (mark_of r (index_of h)).count ≡ length (named (name_of h) (listed (entries block))) =
     (all h).counted ∙ spans_named (name_of h) 0 (listed (entries block)) in
     ap (◌- 1) many

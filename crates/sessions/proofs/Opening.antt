@@ -10,7 +10,7 @@ use Rattle.sessions.specs.declared.value.Beats.{Beats}
 use Rattle.sessions.specs.declared.refusals.Refusal.{Refusal}
 use Rattle.sessions.specs.declared.session.Session.{Session}
 use Rattle.sessions.specs.declared.session.Acceptance.{Acceptance}
-use Rattle.sessions.specs.declared.session.Outcome.{Outcome}
+use Rattle.sessions.specs.Afters.{Outcome}
 use Rattle.sessions.proofs.Steps.{gives_closed, gives_on, gives_accepted}
 
 module _ (s : Session) (es : List Entry) (acceptance : Acceptance) (time : ℕ) (r : Outcome) where

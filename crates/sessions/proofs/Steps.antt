@@ -25,10 +25,10 @@ use Rattle.sessions.specs.declared.delivery.Deliveries.{Deliveries}
 use Rattle.std.specs.Prelude.{Result, Ok, Err}
 use Rattle.sessions.specs.Refusals.{number_of}
 use Rattle.sessions.specs.declared.refusals.Refusal.{Refusal}
-use Rattle.sessions.specs.declared.session.Recording.{Recording}
+use Rattle.sessions.specs.Afters.{Recording}
 use Rattle.sessions.specs.declared.session.Session.{Session}
 use Rattle.sessions.specs.declared.session.Acceptance.{Acceptance}
-use Rattle.sessions.specs.declared.session.Outcome.{Outcome}
+use Rattle.sessions.specs.Afters.{Outcome}
 
 -- no refusal has the number 0
 pub number_some : (x : Refusal) → eqb (number_of x) 0 ≡ false

@@ -159,19 +159,19 @@ module _ (d : Deliveries) (sized : SizedDeliveries d) (l : Laid d) where
       dropped n k = zeros (drop k (replicate n 0)) (every_drop (λ x. eqb x 0) k (replicate n 0) (every_replicate (λ x. eqb x 0) n 0 refl))
           ∙ ap (λ m. replicate m 0) (length-drop k (replicate n 0) ∙ ap (◌- k) (length-replicate {A = ℕ} n 0))
 
-  pub without_laid : (g : Range) (a b c : List ℕ) (i j r m : ℕ) → Puts (kept_octets g 32 0 store places) i (replicate 2048 0) a
+  pub without_laid : (g : Range) (a b c : List ℕ) (i j r : ℕ) → Puts (kept_octets g 32 0 store places) i (replicate 2048 0) a
       → Puts (kept_octets g 1 0 lens places) j (replicate 64 0) b
       → Puts (kept_octets g 1 0 places places) r (replicate 64 0) c → length (kept_octets g 32 0 store places) ≤ 2048
       → length (kept_octets g 1 0 lens places) ≤ 64 → length (kept_octets g 1 0 places places) ≤ 64
-      → m ≡ r → record { labels = a; lens = b; places = c; count = m } ≡ deliveries_of (staying g)
+      → record { labels = a; lens = b; places = c; count = r } ≡ deliveries_of (staying g)
   unfolding deliveries_of
-  without_laid g a b c i j r m pa pb pc la lb lc e =
+  without_laid g a b c i j r pa pb pc la lb lc =
       let x : a ≡ filled 2048 (laid label_max (labels_of (staying g))) = filled_put 2048 i (kept_octets g 32 0 store places) a pa la
       ∙ ap (filled 2048) (kept_labels g) in
       let y : b ≡ filled 64 (lengths (labels_of (staying g))) = filled_put 64 j (kept_octets g 1 0 lens places) b pb lb ∙ ap (filled 64) (kept_lens g) in
       let z : c ≡ filled 64 (places_of (staying g)) = filled_put 64 r (kept_octets g 1 0 places places) c pc lc ∙ ap (filled 64) (kept_places g) in
-      let w : m ≡ length (staying g) = e ∙ pc.0 ∙ ap length (kept_places g) ∙ length-map (staying g) (λ (p : Pending). p.place) in
-      ap₂ (λ x y. record { labels = x; lens = y; places = c; count = m }) x y
+      let w : r ≡ length (staying g) = pc.0 ∙ ap length (kept_places g) ∙ length-map (staying g) (λ (p : Pending). p.place) in
+      ap₂ (λ x y. record { labels = x; lens = y; places = c; count = r }) x y
       ∙ ap₂ (λ x y. record {
         labels = filled 2048 (laid label_max (labels_of (staying g)));
         lens = filled 64
@@ -301,14 +301,21 @@ module _ (d : Deliveries) (sized : SizedDeliveries d) (l : Laid d) (n : ℕ) (e 
     kept_places_in : kept_in g 1 code_places code_places (replicate 64 0) ≡ kept_octets g 1 0 (take d.count d.places) (take d.count d.places)
     kept_places_in = rw places_same (kept_in_all g 1 _ _ _ (compacts_places d sized l (replicate 64 0) refl))
 
-  pub without_at : (g : Range) (a b c : List ℕ) (i j r m : ℕ) → Puts (kept_in g 32 code_store code_places (replicate 2048 0)) i (replicate 2048 0) a
+  places_put : (g : Range) (r : ℕ) (c : List ℕ) → Puts (kept_in g 1 code_places code_places (replicate 64 0)) r (replicate 64 0) c
+      → Puts (kept_octets g 1 0 (take d.count d.places) (take d.count d.places)) r (replicate 64 0) c
+  places_put g r c p = rw (kept_places_in g) at p
+
+  -- how many stay
+  pub few_kept : (g : Range) (r : ℕ) (c : List ℕ) → Puts (kept_in g 1 code_places code_places (replicate 64 0)) r (replicate 64 0) c → r ≤ 64
+  few_kept g r c p = let (x, y, z) = kept_room d sized l g in omega (arith, (places_put g r c p).0, z)
+
+  pub without_at : (g : Range) (a b c : List ℕ) (i j r : ℕ) → Puts (kept_in g 32 code_store code_places (replicate 2048 0)) i (replicate 2048 0) a
       → Puts (kept_in g 1 code_lens code_places (replicate 64 0)) j (replicate 64 0) b
-      → Puts (kept_in g 1 code_places code_places (replicate 64 0)) r (replicate 64 0) c → (r ≤ 64 → m ≡ r)
-      → record { labels = a; lens = b; places = c; count = m } ≡ deliveries_of (kept g 0 (places_of (pending d)) (pending d))
-  without_at g a b c i j r m pa pb pc em =
+      → Puts (kept_in g 1 code_places code_places (replicate 64 0)) r (replicate 64 0) c
+      → record { labels = a; lens = b; places = c; count = r } ≡ deliveries_of (kept g 0 (places_of (pending d)) (pending d))
+  without_at g a b c i j r pa pb pc =
       let (x, y, z) = kept_room d sized l g in
-      let q : Puts (kept_octets g 1 0 (take d.count d.places) (take d.count d.places)) r (replicate 64 0) c = rw (kept_places_in g) at pc in
-      without_laid d sized l g a b c i j r m (rw (kept_labels_in g) at pa) (rw (kept_lens_in g) at pb) q x y z (em (omega (arith, q.0, z)))
+      without_laid d sized l g a b c i j r (rw (kept_labels_in g) at pa) (rw (kept_lens_in g) at pb) (places_put g r c pc) x y z
 
 -- ---- which of them stay
 

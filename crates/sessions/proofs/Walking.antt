@@ -3,8 +3,14 @@
 --     ids_end, clean_end                    behind the last place
 --     Turn, next_place, room, length_fits   a turn has read the place's length: the place and its id lie inside the store
 --     ids_at, clean_at                      what is left of the ids, and of the test on what is behind them, one place on
-use Rattle.std.proofs.Common.{◌≡◌, ℕ, ◌+◌, ◌-◌, ◌*◌, ◌<◌, ◌≤◌, Bool, true, ◌&&◌, eqb, leb, List, [], ◌∷◌, length, get_or, take, drop, sym, refl, ap, ◌∙◌, add-mul, arith, length-drop, drop_of_length-le, length-take-le, drop-drop, leb-true}
+--     first_by                              what a search by `position` finds is the first
+use Rattle.std.proofs.Common.{◌≡◌, ℕ, ◌+◌, ◌-◌, ◌*◌, ◌<◌, ◌≤◌, Bool, true, false, ◌&&◌, eqb, leb, List, [], ◌∷◌, length, get_or, take, drop, sym, refl, ap, ◌∙◌, add-mul, arith, length-drop, drop_of_length-le, length-take-le, drop-drop, leb-true}
+use mathlib.Core.Option.{none, some}
+use Rattle.std.specs.Prelude.{Option as CodeOption, Some, None, MatchOption, zero, suc}
+use Rattle.std.specs.List.{AllWithin, HoldsAt}
 use Rattle.headers.specs.Rows.{empty, every}
+use Rattle.stores.specs.Searches.{first_from, search_says}
+use Rattle.stores.proofs.Searching.{first_hit, first_miss, first_end}
 use Rattle.headers.proofs.Rows.{and_left, every_step, every_drop, empty_eqb}
 use Rattle.stores.specs.Places.{is_zero}
 use Rattle.sessions.specs.Stores.{ids, clean}
@@ -96,3 +102,30 @@ module _ {w n : ℕ} {s ls : List ℕ} {k at l : ℕ} {fits : Fits w n s ls} {st
       ∙ ap (◌&& clean w (drop (at + w) s) (drop (k + 1) ls)) is
 
 -- ---- a place of 32 octets, copied
+
+-- ---- what a search by `position` finds is the first
+pub first_by : {A : Type 0} (p : A → Bool) (xs : List A) (r : CodeOption ℕ)
+    → MatchOption r (AllWithin (λ x. p x ≡ false) xs 0 (length xs)) (λ i. (i < length xs) × HoldsAt (λ x. p x ≡ true) xs i × AllWithin (λ x. p x ≡ false) xs 0 i)
+    → search_says r ≡ first_from p 0 xs
+first_by {A} p xs r = by r
+  where
+    nowhere : (k : ℕ) (xs : List A) → ((i : ℕ) (d : A) → i < length xs → p (get_or xs i d) ≡ false) → none ≡ first_from p k xs
+    nowhere k [] h = sym (first_end p k)
+    nowhere k (x ∷ xs) h = nowhere (k + 1) xs (λ i d l. h (suc i) d (omega (arith, l))) ∙ sym (first_miss p k x xs (h 0 x (omega arith)))
+
+    there : (k i : ℕ) (xs : List A) → i < length xs → ((d : A) → p (get_or xs i d) ≡ true) → ((j : ℕ) (d : A) → j < i → p (get_or xs j d) ≡ false)
+        → some (k + i) ≡ first_from p k xs
+    there k i [] l h n = absurd (omega arith)
+    there k zero (x ∷ xs) l h n =
+        let e : k + zero ≡ k = omega arith in
+        ap some e ∙ sym (first_hit p k x xs (h x))
+    there k (suc i) (x ∷ xs) l h n =
+        let e : k + suc i ≡ (k + 1) + i = omega arith in
+        ap some e ∙ there (k + 1) i xs (omega arith) h (λ j d m. n (suc j) d (omega (arith, m))) ∙ sym (first_miss p k x xs (n 0 x (omega arith)))
+
+    by : (r : CodeOption ℕ) → MatchOption r (AllWithin (λ x. p x ≡ false) xs 0 (length xs)) (λ i. (i < length xs) × HoldsAt (λ x. p x ≡ true) xs i × AllWithin (λ x. p x ≡ false) xs 0 i)
+        → search_says r ≡ first_from p 0 xs
+    by None h = nowhere 0 xs (λ k d l. h k d (omega arith) l)
+    by (Some i) (l, h, n) =
+        let e : i ≡ 0 + i = omega arith in
+        ap some e ∙ there 0 i xs l h (λ j d m. n j d (omega arith) m)

@@ -20,7 +20,7 @@ use Rattle.sessions.specs.declared.session.Session.{Session}
 use Rattle.sessions.specs.Refusals.{number_of}
 use Rattle.sessions.specs.declared.refusals.Refusal.{Refusal}
 use Rattle.sessions.specs.declared.session.Acceptance.{Acceptance}
-use Rattle.sessions.specs.declared.session.Outcome.{Outcome}
+use Rattle.sessions.specs.Afters.{Outcome}
 use Rattle.sessions.specs.declared.step.Named.{Named}
 use Rattle.sessions.specs.declared.step.Placing.{Placing}
 use Rattle.sessions.specs.declared.step.Put.{Put}

@@ -8,6 +8,7 @@ pub mod Opening
 pub mod Headers
 pub mod Notes
 pub mod Sessions
+pub mod Afters
 pub mod Answers
 pub mod Calls
 pub mod Held

@@ -1,5 +1,5 @@
 -- What a session notes of a header block: where the first value of each header is, and how many entries have its name. Assumes nothing.
-use Rattle.std.specs.Prelude.{◌≡◌, ℕ, suc, ◌-◌, ◌≤◌, true, false, cond, Option as Maybe, Some, None, Result, Ok, Err, List, [], ◌∷◌, length, take, drop, replicate, ◌==◌, slice_index, slice_index_or}
+use Rattle.std.specs.Prelude.{◌≡◌, ℕ, suc, ◌+◌, ◌-◌, ◌≤◌, true, false, cond, Option as Maybe, Some, None, Result, Ok, Err, List, [], ◌∷◌, length, take, drop, replicate, ◌==◌, slice_index_or}
 use Rattle.std.proofs.Math.Option.{Option, none, some}
 use Rattle.headers.specs.Rows.{same}
 use Rattle.headers.specs.Block.{entries, listed, spans}
@@ -9,6 +9,7 @@ use Rattle.sessions.specs.Headers.{name_of, value_of}
 use Rattle.sessions.specs.declared.command.Header.{Header}
 use Rattle.sessions.specs.declared.command.Header.TheVariants.{AcceptVersion, HeartBeat, Host, Destination, Id, Transaction, Receipt, Ack, Subscription, MessageId}
 use Rattle.sessions.specs.declared.notes.Located.{Located}
+use Rattle.sessions.specs.declared.notes.Mark.{Mark}
 use Rattle.sessions.specs.declared.notes.Notes.{Notes}
 
 -- the headers in the order of their numbers, and how many they are
@@ -36,14 +37,25 @@ abbrev pub number_says : Maybe Header → ℕ
 number_says None = headers_max
 number_says (Some h) = index_of h
 
+-- no value noted
+abbrev pub unmarked : Mark
+unmarked = record { start = 0; end = 0; count = 0 }
+
+-- with one more value, from one place to another; the first is kept
+abbrev pub marked : Mark → ℕ → ℕ → Mark
+marked m s e = record { start = cond (m.count == 0) s m.start; end = cond (m.count == 0) e m.end; count = m.count + 1 }
+
+-- what the notes have for a number
+abbrev pub mark_of : Notes → ℕ → Mark
+mark_of r k = slice_index_or r.marks k unmarked
+
 -- what the notes say of a header
 abbrev pub located : Notes → Header → Maybe Located
 located r h =
-    cond (slice_index r.counts (index_of h) == 0) None
-    (Some (record { start = slice_index r.starts (index_of h); end = slice_index r.ends (index_of h) }))
+    let m = mark_of r (index_of h) in cond (m.count == 0) None (Some (record { start = m.start; end = m.end }))
 
 abbrev pub later_noted : Notes → Header → ℕ
-later_noted r h = slice_index r.counts (index_of h) - 1
+later_noted r h = (mark_of r (index_of h)).count - 1
 
 -- the value from start to end
 abbrev pub value_at : List ℕ → Located → List ℕ
@@ -66,7 +78,7 @@ pub record Locates (block : List ℕ) (h : Header) (r : Maybe Located) : Type 0 
 -- what the notes say of a header is right: where its first value is, and how many entries have its name
 pub record Noted (block : List ℕ) (h : Header) (r : Notes) : Type 0 where
   pub first : Locates block h (located r h)
-  pub counted : slice_index_or r.counts (index_of h) 0 ≡ length (spans (name_of h) 0 (listed (entries block)))
+  pub counted : (mark_of r (index_of h)).count ≡ length (spans (name_of h) 0 (listed (entries block)))
 
 abbrev pub AllNoted : List ℕ → Notes → Type 0
 AllNoted block r = (h : Header) → Noted block h r
@@ -86,4 +98,4 @@ number_of_name name = number_from 0 known_headers name
 
 -- nothing noted yet
 abbrev pub no_notes : Notes
-no_notes = record { starts = replicate headers_max 0; ends = replicate headers_max 0; counts = replicate headers_max 0 }
+no_notes = record { marks = replicate headers_max unmarked }

@@ -25,8 +25,8 @@ use Rattle.sessions.specs.declared.parts.SubscriptionStore.{SubscriptionStore}
 use Rattle.sessions.specs.declared.parts.TransactionStore.{TransactionStore}
 use Rattle.sessions.specs.declared.session.Session.{Session}
 use Rattle.sessions.specs.declared.session.Acceptance.{Acceptance}
-use Rattle.sessions.specs.declared.session.Outcome.{Outcome}
-use Rattle.sessions.specs.declared.session.Recording.{Recording}
+use Rattle.sessions.specs.Afters.{Outcome}
+use Rattle.sessions.specs.Afters.{Recording}
 use Rattle.sessions.specs.Refusals.{number_of}
 use Rattle.sessions.specs.declared.refusals.Refusal.{Refusal}
 use Rattle.sessions.specs.declared.delivery.Deliveries.{Deliveries}

@@ -6,5 +6,5 @@ ghost use Rattle.sessions.specs.Opening.{passed};
 pub(crate) fn passed_since(time: u32, earlier: u32) -> u32
     ensures { result ≡ passed time earlier }
 {
-    std::num::wrapping_sub_u32(time, earlier)
+    time.wrapping_sub(earlier)
 }

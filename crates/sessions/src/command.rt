@@ -50,6 +50,7 @@ pub(crate) struct Naming {
 }
 
 // The ids that a command names: at most two, of which only the first is entered or freed. Where fewer are named, the use is Nothing.
+// The second is no Option, since the first may be missing too, and a frame's two ids are settled in one way.
 #[derive(Clone, Copy)]
 pub(crate) struct Namings {
     pub first: Naming,

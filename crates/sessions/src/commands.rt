@@ -1,4 +1,5 @@
-// The numbers of the commands. They stay numbers, since a call may get any, and one that is no command's is answered with 39.
+// The numbers of the commands. They stay numbers: the definitions of specs take a command by its number, a call may get any, and one that is
+// no command's is answered with 39.
 pub const ABORT: u32 = 1;
 
 pub const ACK: u32 = 2;

@@ -15,7 +15,7 @@ use crate::store::Ids;
 use frames::version::Version;
 use stores::Range;
 
-// They stay arrays with a count, since a session has fixed memory and no heap.
+// They stay arrays with a count: public fields that programs read and write octet by octet, in fixed memory.
 #[derive(Clone, Copy)]
 pub struct Deliveries {
     pub labels: [u8; Deliveries::MAX * Session::ID],
@@ -60,7 +60,7 @@ impl Deliveries {
             labels: kept_labels,
             lens: kept_lens,
             places: kept_places,
-            count: (count % 256) as u8,
+            count: count as u8,
         }
     }
 
@@ -193,12 +193,7 @@ fn acknowledges(place: u8, lens: &[u8], modes: &[u8]) -> bool
 fn all_acknowledge(places: &[u8], lens: &[u8], modes: &[u8]) -> bool
     ensures { result ≡ every (acknowledging lens.now modes.now) places.now }
 {
-    for place in places {
-        if !acknowledges(*place, lens, modes) {
-            return false;
-        }
-    }
-    true
+    places.iter().all(|place| acknowledges(*place, lens, modes))
 }
 
 // Whether the first n places of labels hold labels, no two the same, and all after them is 0.

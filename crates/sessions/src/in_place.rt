@@ -1,4 +1,5 @@
-// The calls of a session on one where it lies: each calls the one by value and stores the session that it gives.
+// The calls of a session on one where it lies: each calls the one by value and stores the session that it gives, but for `timed_out`, which
+// gives none.
 ghost use Rattle.std.specs.Prelude.{◌≡◌};
 ghost use Rattle.sessions.specs.Answers.{answer_says, timed_out_says, delivery_says};
 ghost use Rattle.sessions.specs.Calls.{frame_answer, frame_session, heart_beat_answer, heart_beat_session, timed_out_answer, deliver_answer};

@@ -72,12 +72,8 @@ pub(crate) fn client_versions(notes: Notes, block: &[u8]) -> Option<[bool; 3]>
     requires { AllNoted block.now notes }
     ensures { versions_say result ≡ client_versions (listed (entries block.now)) }
 {
-    let Some(l) = locate(notes, block, Header::AcceptVersion) else {
-        return None;
-    };
-    let start = l.start;
-    let end = l.end;
-    crate::value::read_versions(&block[start..end])
+    let l = locate(notes, block, Header::AcceptVersion)?;
+    crate::value::read_versions(&block[l.start..l.end])
 }
 
 // The client's heart-beats; 0 and 0 where it does not say.
@@ -88,9 +84,7 @@ pub(crate) fn client_heart_beats(notes: Notes, block: &[u8]) -> Option<Beats>
     let Some(l) = locate(notes, block, Header::HeartBeat) else {
         return Some(Beats { sends: 0, wants: 0 });
     };
-    let start = l.start;
-    let end = l.end;
-    crate::value::read_heart_beats(&block[start..end])
+    crate::value::read_heart_beats(&block[l.start..l.end])
 }
 
 // The ack mode that a SUBSCRIBE asks for; auto where it does not say.
@@ -101,9 +95,7 @@ pub(crate) fn mode_asked(notes: Notes, block: &[u8]) -> Option<u8>
     let Some(l) = locate(notes, block, Header::Ack) else {
         return Some(SubscriptionStore::AUTO);
     };
-    let start = l.start;
-    let end = l.end;
-    crate::value::read_mode(&block[start..end])
+    crate::value::read_mode(&block[l.start..l.end])
 }
 
 // What an accepted frame is answered with.

@@ -1,8 +1,8 @@
 // What a session notes of a header block: one walk finds where the first value of each header that it knows is, how many entries
 // have that header's name. A block that is not well formed has no notes.
-ghost use Rattle.std.specs.Prelude.{◌≡◌, if◌then◌else◌};
+ghost use Rattle.std.specs.Prelude.{◌≡◌, ◌<◌, if◌then◌else◌};
 ghost use Rattle.headers.specs.Rows.{same};
-ghost use Rattle.sessions.specs.Notes.{Notes_of, located, later_noted, index_of, headers_max, number_of_name, number_says, no_notes};
+ghost use Rattle.sessions.specs.Notes.{Notes_of, located, later_noted, index_of, headers_max, number_of_name, number_says, no_notes, marked};
 
 use crate::command::Header;
 use headers::Malformed;
@@ -14,13 +14,36 @@ pub(crate) struct Located {
     pub end: usize,
 }
 
-// Where the first value of each header that a session knows is in a block, and how many entries have its name. Headers go by
-// their numbers.
+// Where the first value of a header is in a block, and how many entries have its name.
+#[derive(Clone, Copy)]
+pub(crate) struct Mark {
+    pub start: usize,
+    pub end: usize,
+    pub count: usize,
+}
+
+impl Mark {
+    // With one more value, from start to end; the first is kept.
+    fn with(self, start: usize, end: usize) -> Mark
+        requires { self.count < end }
+        ensures { result ≡ marked self start end }
+    {
+        let count = self.count + 1;
+        if self.count == 0 {
+            return Mark { start, end, count };
+        }
+        Mark {
+            start: self.start,
+            end: self.end,
+            count,
+        }
+    }
+}
+
+// A mark for each header that a session knows. Headers go by their numbers.
 #[derive(Clone, Copy)]
 pub(crate) struct Notes {
-    pub starts: [usize; Notes::HEADERS],
-    pub ends: [usize; Notes::HEADERS],
-    pub counts: [usize; Notes::HEADERS],
+    pub marks: [Mark; Notes::HEADERS],
 }
 
 impl Notes {
@@ -31,10 +54,13 @@ impl Notes {
     fn none() -> Notes
         ensures { result ≡ no_notes }
     {
+        let mark = Mark {
+            start: 0,
+            end: 0,
+            count: 0,
+        };
         Notes {
-            starts: [0; Notes::HEADERS],
-            ends: [0; Notes::HEADERS],
-            counts: [0; Notes::HEADERS],
+            marks: [mark; Notes::HEADERS],
         }
     }
 }
@@ -99,12 +125,8 @@ pub(crate) fn note(block: &[u8]) -> Result<Notes, Malformed>
         i = start + l.value;
         if let Some(header) = header_of(&block[from..start]) {
             let k = index_of(header);
-            let count = notes.counts[k];
-            notes.counts[k] = count + 1;
-            if count == 0 {
-                notes.starts[k] = start;
-                notes.ends[k] = i;
-            }
+            let mark = notes.marks[k];
+            notes.marks[k] = mark.with(start, i);
         }
     }
     Ok(notes)
@@ -114,13 +136,13 @@ pub(crate) fn note(block: &[u8]) -> Result<Notes, Malformed>
 pub(crate) fn locate(notes: Notes, header: Header) -> Option<Located>
     ensures { result ≡ located notes header }
 {
-    let k = index_of(header);
-    if notes.counts[k] == 0 {
+    let mark = notes.marks[index_of(header)];
+    if mark.count == 0 {
         return None;
     }
     Some(Located {
-        start: notes.starts[k],
-        end: notes.ends[k],
+        start: mark.start,
+        end: mark.end,
     })
 }
 
@@ -128,8 +150,7 @@ pub(crate) fn locate(notes: Notes, header: Header) -> Option<Located>
 pub(crate) fn later(notes: Notes, header: Header) -> usize
     ensures { result ≡ later_noted notes header }
 {
-    let k = index_of(header);
-    let count = notes.counts[k];
+    let count = notes.marks[index_of(header)].count;
     if count == 0 {
         return 0;
     }

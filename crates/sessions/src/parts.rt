@@ -37,8 +37,8 @@ pub struct SubscriptionStore {
     pub modes: [u8; Session::SUBSCRIPTIONS],
 }
 
-// The ids of the transactions that are open, in the same way but for the mode. It stays a type of its own: the sizes of one struct's arrays
-// would have to be computed from a const parameter, which Rattle refuses.
+// The ids of the transactions that are open, in the same way but for the mode. It stays a type of its own: both
+// types are public with public fields, which programs read and write.
 #[derive(Clone, Copy)]
 pub struct TransactionStore {
     pub ids: [u8; Session::TRANSACTIONS * Session::ID],
@@ -119,11 +119,7 @@ impl SubscriptionStore {
     {
         match put {
             Put::Nothing => self,
-            Put::Subscription(p) => {
-                let start = p.start;
-                let end = p.end;
-                self.with_id(p.place, &block[start..end])
-            }
+            Put::Subscription(p) => { self.with_id(p.place, &block[p.start..p.end]) }
             Put::Transaction(p) => self,
         }
     }
@@ -208,11 +204,7 @@ impl TransactionStore {
         match put {
             Put::Nothing => self,
             Put::Subscription(p) => self,
-            Put::Transaction(p) => {
-                let start = p.start;
-                let end = p.end;
-                self.with_id(p.place, &block[start..end])
-            }
+            Put::Transaction(p) => { self.with_id(p.place, &block[p.start..p.end]) }
         }
     }
 

@@ -5,17 +5,18 @@ ghost use Rattle.headers.specs.Block.{entries, listed};
 ghost use Rattle.stores.specs.Searches.{search_says};
 ghost use Rattle.sessions.specs.Stores.{valid_store};
 ghost use Rattle.sessions.specs.Opening.{highest};
-ghost use Rattle.sessions.specs.Sessions.{id_max, subscriptions_max, fresh, closed, valid_numbers, is_valid};
+ghost use Rattle.sessions.specs.Sessions.{id_max, subscriptions_max, fresh, closed, valid_numbers, is_valid, Sized};
 ghost use Rattle.sessions.specs.Answers.{answer_says, making_says, timed_out_says, delivery_says};
 ghost use Rattle.sessions.specs.Calls.{making_answer, made, frame_answer, frame_session, heart_beat_answer, heart_beat_session};
 ghost use Rattle.sessions.specs.Calls.{timed_out_answer, deliver_answer, deliver_session, free_place, place_named, may_name, lacks_needed};
-ghost use Rattle.sessions.specs.Deliveries.{auto_mode, with_mode, dropped, valid_modes};
+ghost use Rattle.sessions.specs.Deliveries.{auto_mode, with_mode, dropped, valid_modes, Laid};
 ghost use Rattle.sessions.specs.Held.{held_deliveries, nth, told_of, pending_answer};
 ghost use Rattle.sessions.specs.Headers.{value_of};
 ghost use Rattle.sessions.specs.declared.command.Header.TheVariants.{Subscription};
 ghost use Rattle.sessions.specs.Notes.{AllNoted};
 ghost use Rattle.sessions.specs.Steps.{kept_by, closed_by, accepted_by, unrecorded_by, recorded_as, recording_at, RecordsAt, MayRecord};
 ghost use Rattle.sessions.specs.Changes.{NamesIds, Does, LooksLabel, LooksNamed, LooksFurther, DecidesOpening, DecidesUses, DecidesFrame};
+ghost use Rattle.sessions.specs.Changes.{Applies, changed_by};
 
 use crate::command::Header;
 use crate::commands;
@@ -30,6 +31,8 @@ use frames::version::Version;
 
 // The record of a session, made of its parts. The phase is 0 fresh, 1 open, 2 closed.
 // It stays an octet, as the ack modes do: a record may be read back from any octets, and an unknown one makes it invalid (38).
+// No type holds that a session is valid, which private methods require: a session is 2,880 octets, handed on by value, and its fields are
+// public, so that programs may set them.
 #[derive(Clone, Copy)]
 pub struct Session {
     pub offers: Offers,
@@ -50,21 +53,21 @@ pub struct Acceptance {
     pub later_transactions: usize,
 }
 
-// A session after a frame or a heart-beat, and the answer.
+// A session after a call, and the answer.
 #[derive(Clone, Copy)]
-pub struct Outcome {
+pub struct After<A> {
     pub session: Session,
-    pub answer: Result<Acceptance, Refusal>,
+    pub answer: A,
 }
 
-// A session after a delivery was recorded or refused, and the answer.
-#[derive(Clone, Copy)]
-pub struct Recording {
-    pub session: Session,
-    pub answer: Result<(), Refusal>,
-}
+// After a frame or a heart-beat.
+pub type Outcome = After<Result<Acceptance, Refusal>>;
 
-// A pending delivery: the id of its subscription with its length, the ack mode of that, and its label with its length.
+// After a delivery was recorded or refused.
+pub type Recording = After<Result<(), Refusal>>;
+
+// A pending delivery: the id of its subscription with its length, the ack mode of that, and its label with its length. The texts are copied
+// out of the record, in arrays with their lengths, since it is public and there is no heap.
 #[derive(Clone, Copy)]
 pub struct Pending {
     pub subscription: [u8; Session::ID],
@@ -74,12 +77,8 @@ pub struct Pending {
     pub label_len: u8,
 }
 
-// A session that was made, or a closed one, and the answer.
-#[derive(Clone, Copy)]
-pub struct Making {
-    pub session: Session,
-    pub answer: Result<(), Refusal>,
-}
+// A session that was made, or a closed one.
+pub type Making = After<Result<(), Refusal>>;
 
 impl Session {
     pub const SUBSCRIPTIONS: usize = 16;
@@ -197,14 +196,15 @@ impl Session {
             & (ids & (deliveries & ((self.phase == Session::OPEN) | (self.deliveries.count == 0))))
     }
 
-    // Whether the record is valid (not 38).
+    // Whether the record is valid (not 38): `check`, of a session by value, as programs have it.
     pub fn is_valid(self) -> bool
         ensures { result ≡ is_valid self }
     {
         self.check()
     }
 
-    // The highest version that both sides have, times ten, or 0 where there is none.
+    // The highest version that both sides have, times ten, or 0 where there is none: the number that its clause and the definition `highest`
+    // name, and that programs print.
     pub fn highest_shared(self) -> u32
         ensures { result ≡ highest self.agreed.versions }
     {
@@ -258,17 +258,15 @@ impl Session {
         requires { AllNoted block.now notes }
         ensures { DecidesOpening self block.now acceptance result }
     {
-        let Some(flags) = crate::locate::client_versions(notes, block) else {
-            return Err(Refusal::BadVersions);
-        };
+        let flags = crate::locate::client_versions(notes, block).ok_or(Refusal::BadVersions)?;
         let offered = self.offers.versions;
         let shared = crate::value::share(flags, offered);
         if crate::value::is_none_shared(shared) {
             return Err(Refusal::NoVersion);
         }
-        let Some(heart_beats) = crate::locate::client_heart_beats(notes, block) else {
-            return Err(Refusal::BadHeartBeat);
-        };
+        let heart_beats = crate::locate::client_heart_beats(notes, block).ok_or(
+            Refusal::BadHeartBeat,
+        )?;
         let inbound = crate::value::interval(heart_beats.sends, self.offers.wants);
         let outbound = crate::value::interval(self.offers.sends, heart_beats.wants);
         let agreed = Agreed {
@@ -336,12 +334,8 @@ impl Session {
     {
         match version {
             Version::V11 => {
-                let Some(l) = crate::locate::locate(notes, block, Header::Subscription) else {
-                    return None;
-                };
-                let start = l.start;
-                let end = l.end;
-                self.find_subscription(&block[start..end])
+                let l = crate::locate::locate(notes, block, Header::Subscription)?;
+                self.find_subscription(&block[l.start..l.end])
             }
             Version::V12 => None,
         }
@@ -358,15 +352,11 @@ impl Session {
         ensures { LooksLabel self (may_name version (search_says place)) label.now result }
     {
         let deliveries = self.deliveries;
-        match deliveries.find(label) {
-            Some(i) => {
-                if !deliveries.may_name(i, version, place) {
-                    return Err(Refusal::NotPending);
-                }
-                Ok(Further::Settle(i))
-            }
-            None => Err(Refusal::NotPending),
+        let i = deliveries.find(label).ok_or(Refusal::NotPending)?;
+        if !deliveries.may_name(i, version, place) {
+            return Err(Refusal::NotPending);
         }
+        Ok(Further::Settle(i))
     }
 
     // An ACK or NACK: the delivery that it names is settled, or 60.
@@ -378,12 +368,8 @@ impl Session {
         let version = crate::value::chosen(shared);
         let place = self.acknowledged(version, notes, block);
         let header = crate::command::label_header(version);
-        let Some(l) = crate::locate::locate(notes, block, header) else {
-            return Err(Refusal::NotPending);
-        };
-        let start = l.start;
-        let end = l.end;
-        self.settle_label(&block[start..end], version, place)
+        let l = crate::locate::locate(notes, block, header).ok_or(Refusal::NotPending)?;
+        self.settle_label(&block[l.start..l.end], version, place)
     }
 
     // What a frame whose ids are settled does to modes and deliveries, or 49 or 60.
@@ -392,18 +378,14 @@ impl Session {
         ensures { LooksFurther self command (listed (entries block.now)) result }
     {
         if command == commands::SUBSCRIBE {
-            return match crate::locate::mode_asked(notes, block) {
-                Some(mode) => Ok(self.keep_mode(mode)),
-                None => Err(Refusal::UnknownMode),
-            };
+            let mode = crate::locate::mode_asked(notes, block).ok_or(Refusal::UnknownMode)?;
+            return Ok(self.keep_mode(mode));
         }
         if command == commands::UNSUBSCRIBE {
             let Some(l) = crate::locate::locate(notes, block, Header::Id) else {
                 return Ok(Further::Nothing);
             };
-            let start = l.start;
-            let end = l.end;
-            return Ok(self.drop_deliveries(&block[start..end]));
+            return Ok(self.drop_deliveries(&block[l.start..l.end]));
         }
         if crate::command::settles(command) {
             return self.settle(notes, block);
@@ -463,21 +445,11 @@ impl Session {
         self.use_ids(command, named, notes, block, acceptance)
     }
 
-    // A frame: its command's number, its header block and when it came. All is decided first. Then the session is changed, part by part,
-    // since each time that it is passed on whole it is copied.
-    pub fn frame(mut self, command: u32, block: &[u8], time: u32) -> Outcome
-        ensures { (answer_says result.answer ≡ frame_answer self command block.now)
-            × (result.session ≡ frame_session self command block.now time) }
+    // The same of a session that is lent, with the ids that the frame names settled first.
+    fn decide(&self, command: u32, notes: Notes, block: &[u8]) -> Result<Step, Refusal>
+        requires { (is_valid self.now ≡ true) × Sized self.now × AllNoted block.now notes }
+        ensures { DecidesFrame self.now command block.now result }
     {
-        if !self.check() {
-            return self.kept(Refusal::Invalid);
-        }
-        if crate::command::is_unknown(command) {
-            return self.kept(Refusal::Malformed);
-        }
-        let Ok(notes) = crate::notes::note(block) else {
-            return self.kept(Refusal::Malformed);
-        };
         let shared = self.agreed.versions;
         let version = crate::value::chosen(shared);
         let subscriptions = Ids {
@@ -496,51 +468,67 @@ impl Session {
             notes,
             block,
         );
-        let step = match self.act(command, named, notes, block) {
-            Ok(step) => step,
-            Err(refusal) => return self.refused(refusal),
-        };
-        let answer = Ok(step.acceptance);
-        match step.change {
+        self.act(command, named, notes, block)
+    }
+
+    // What was decided is applied, part by part, since each time that a session is passed on whole it is copied.
+    fn apply(&mut self, change: Change, block: &[u8], time: u32)
+        requires { Laid self.old.deliveries × Applies self.old block.now change }
+        ensures { self.new ≡ changed_by self.old block.now time change }
+    {
+        self.last_heard = time;
+        match change {
             Change::Disconnect => {
-                self.last_heard = time;
-                return Outcome {
-                    session: self.closed(),
-                    answer,
-                };
+                *self = self.closed();
             }
             Change::Open(agreed) => {
                 self.agreed = agreed;
                 self.phase = Session::OPEN;
-                self.last_heard = time;
             }
-            Change::Hear => {
-                self.last_heard = time;
-            }
+            Change::Hear => {}
             Change::Use(put, further) => {
                 let modes = self.subscriptions.modes;
                 let subscriptions = self.subscriptions;
                 self.subscriptions = subscriptions.put(put, block).set_mode(further);
                 let transactions = self.transactions;
                 self.transactions = transactions.put(put, block);
-                self.last_heard = time;
+                let pending = self.deliveries;
                 match further {
                     Further::Nothing => {}
                     Further::Mode(k, mode) => {}
                     Further::Drop(k) => {
-                        let pending = self.deliveries;
                         self.deliveries = pending.dropped(k);
                     }
                     Further::Settle(i) => {
-                        let pending = self.deliveries;
                         self.deliveries = pending.settled(i, &modes);
                     }
                 }
             }
         }
+    }
+
+    // A frame: its command's number, its header block and when it came. All is decided first, and then the session is changed.
+    pub fn frame(mut self, command: u32, block: &[u8], time: u32) -> Outcome
+        ensures { (answer_says result.answer ≡ frame_answer self command block.now)
+            × (result.session ≡ frame_session self command block.now time) }
+    {
+        if !self.check() {
+            return self.kept(Refusal::Invalid);
+        }
+        if crate::command::is_unknown(command) {
+            return self.kept(Refusal::Malformed);
+        }
+        let Ok(notes) = crate::notes::note(block) else {
+            return self.kept(Refusal::Malformed);
+        };
+        let step = match self.decide(command, notes, block) {
+            Ok(step) => step,
+            Err(refusal) => return self.refused(refusal),
+        };
+        self.apply(step.change, block, time);
         Outcome {
             session: self,
-            answer,
+            answer: Ok(step.acceptance),
         }
     }
 

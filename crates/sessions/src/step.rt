@@ -106,10 +106,8 @@ pub(crate) fn settle_naming<'a>(
     let Some(l) = crate::locate::locate(notes, block, header) else {
         return Ok(None);
     };
-    let start = l.start;
-    let end = l.end;
     let kind = naming.kind;
-    let id = &block[start..end];
+    let id = &block[l.start..l.end];
     match kind {
         Kind::Subscriptions => subscriptions.settle(id, usage),
         Kind::Transactions => transactions.settle(id, usage),

@@ -165,24 +165,14 @@ impl<'a> Ids<'a> {
 pub(crate) fn find_free(lens: &[u8]) -> Option<usize>
     ensures { search_says result ≡ first_from (λ l. nat_eq l 0) 0 lens.now }
 {
-    for (k, l) in lens.iter().enumerate() {
-        if *l == 0 {
-            return Some(k);
-        }
-    }
-    None
+    lens.iter().position(|l| *l == 0)
 }
 
 // Whether no length is above that of a place.
 fn is_short(lens: &[u8]) -> bool
     ensures { result ≡ short id_max lens.now }
 {
-    for l in lens {
-        if Session::ID < usize::from(*l) {
-            return false;
-        }
-    }
-    true
+    lens.iter().all(|l| usize::from(*l) <= Session::ID)
 }
 
 // Whether a store of at most 64 places is valid: no length above that of a place, no octet but 0 behind an id, no live id twice.
@@ -205,20 +195,16 @@ pub(crate) fn is_valid(octets: &[u8], lens: &[u8]) -> bool
 fn needed(found: Option<usize>) -> Result<Option<usize>, Refusal>
     ensures { result ≡ when_needed found }
 {
-    match found {
-        Some(k) => Ok(None),
-        None => Err(Refusal::NotLive),
-    }
+    found.ok_or(Refusal::NotLive)?;
+    Ok(None)
 }
 
 // Of one that is freed.
 fn freed(found: Option<usize>) -> Result<Option<usize>, Refusal>
     ensures { result ≡ when_freed found }
 {
-    match found {
-        Some(k) => Ok(found),
-        None => Err(Refusal::NotLive),
-    }
+    found.ok_or(Refusal::NotLive)?;
+    Ok(found)
 }
 
 // Of one that is entered, by the first free place too.
@@ -238,7 +224,7 @@ fn entered(found: Option<usize>, free: Option<usize>) -> Result<Option<usize>, R
 fn lower(a: Refusal, b: Refusal) -> Refusal
     ensures { result ≡ lower a b }
 {
-    // Kept: `a.min(b)` by a derived order was tried, and antt does not show without all 400 pairs that it is the order of the numbers.
+    // `a.min(b)` by a derived order was tried, and antt does not show without all 400 pairs that it is the order of the numbers.
     if b.number() < a.number() { b } else { a }
 }
 

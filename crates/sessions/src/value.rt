@@ -38,18 +38,7 @@ fn end_of(value: &[u8], from: usize, octet: u8) -> usize
 fn is_digits(part: &[u8]) -> bool
     ensures { result ≡ some_digits part.now }
 {
-    if part.len() == 0 {
-        return false;
-    }
-    for x in part {
-        if *x < b'0' {
-            return false;
-        }
-        if b'9' < *x {
-            return false;
-        }
-    }
-    true
+    (part.len() != 0) & part.iter().all(|x| x.is_ascii_digit())
 }
 
 // Whether an item is digits, a point, digits.
@@ -157,12 +146,8 @@ pub(crate) fn read_heart_beats(value: &[u8]) -> Option<Beats>
         return None;
     }
     let next = comma + 1;
-    let Some(sends) = headers::read_decimal(&value[0..comma], HEART_BEAT_MAX) else {
-        return None;
-    };
-    let Some(wants) = headers::read_decimal(&value[next..], HEART_BEAT_MAX) else {
-        return None;
-    };
+    let sends = headers::read_decimal(&value[0..comma], HEART_BEAT_MAX)?;
+    let wants = headers::read_decimal(&value[next..], HEART_BEAT_MAX)?;
     Some(Beats { sends, wants })
 }
 

@@ -55,7 +55,7 @@ fn keep_each(out: &mut [u8], store: &[u8], width: usize, places: &[u8], range: R
     end
 }
 
-// The same; 0 and nothing written where the store has not a row for each place, or out has not the store's length.
+// The same; 0 and nothing written where the store has not a row for each place, or out is shorter than the store.
 pub fn keep_rows(out: &mut [u8], store: &[u8], width: usize, places: &[u8], range: Range) -> usize
     ensures { Puts (kept_in range width store.now places.now out.old) result out.old out.new }
 {

@@ -8,8 +8,7 @@ fn word_at(place: &[u8], i: usize) -> u64
     requires { i + 3 < length place.now }
     ensures { (result ≡ word_at place.now i) × (result < 4294967296) }
 {
-    let front = u64::from(place[i]) * 256 + u64::from(place[i + 1]);
-    (front * 256 + u64::from(place[i + 2])) * 256 + u64::from(place[i + 3])
+    u64::from(u32::from_be_bytes([place[i], place[i + 1], place[i + 2], place[i + 3]]))
 }
 
 // The key of a place of 32 octets.

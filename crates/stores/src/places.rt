@@ -46,7 +46,7 @@ pub fn is_zero_from(s: &[u8], n: u8) -> bool
 pub fn octet_at(text: &[u8], i: usize) -> u8
     ensures { result ≡ get_or text.now i 0 }
 {
-    if i < text.len() { text[i] } else { 0 }
+    text.get(i).copied().unwrap_or(0)
 }
 
 // A text in a place, and 0 after it; as much of the text as the place holds.

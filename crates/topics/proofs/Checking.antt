@@ -19,7 +19,7 @@ use Rattle.headers.specs.Answers.{Answer}
 use Rattle.headers.proofs.Rows.{and_left, and_right, and_no}
 use Rattle.topics.specs.Topics.{words, well_formed, matches, yes_or_no, match_answer, match_says}
 use Rattle.topics.specs.Lists.{Entry, Pair, before, is_some, listed, messages_in, subscriptions_in, pair_front, pair_format, pairs_in}
-use Rattle.topics.specs.Plans.{Verdict, refusal, fault_number, plan_number, plan_names, plan_says, numbered, distinct, texts_formed, is_valid, with_message, with_subscription, how_many, pair_answer, is_left_out, left_out_answer, bad_or, checked, pairs_max, plan_of, plan_answer}
+use Rattle.topics.specs.Plans.{Verdict, refusal, fault_number, plan_says, numbered, distinct, texts_formed, is_valid, with_message, with_subscription, how_many, pair_answer, is_left_out, left_out_answer, bad_or, checked, pairs_max, plan_of, plan_answer}
 use Rattle.topics.specs.Waiting.{pair_says}
 use Rattle.topics.proofs.Lists.{some_before, listed_before, place_step, place_end, records_end, records_step, records_none, records_grow, whole_fits}
 use Rattle.topics.proofs.Formats.{pair_local}
@@ -248,7 +248,7 @@ all_valid (some ms) (some ss) (some ps) h k w = ap (λ t. cond t (checked ms ss 
 -- what a list that is malformed makes of the answer
 pub says_malformed : (r : Result ⊤ PlanError) → IsErrAnd r (λ e. e ≡ Malformed) → plan_says r ≡ refusal 102 0
 says_malformed (Ok u) h = absurd h
-says_malformed (Err e) h = ap (λ x. refusal (plan_number x) (plan_names x)) h
+says_malformed (Err e) h = ap (λ x. plan_says (Err x)) h
 
 module _ (messages subscriptions plan : List ℕ) where
   abbrev read : Verdict

@@ -5,9 +5,11 @@
 --     counted_none, _more, _empty, _full                 the number of words, counted one by one
 --     noted_none, noted_more, noted_all, noted_good      where the words begin, noted one by one
 --     bad_name, bad_pattern, answered                    what asking for a match answers
+--     found_some, found_none                             where nothing is found, and a refusal is passed on
 --     rest_none, rest_hash_.., rest_word_..              whether the words that remain match
 use mathlib.Core.Path.{◌≡◌, refl, sym, ◌∙◌, ap, ap₂, subst}
 use mathlib.Core.Logic.{⊎_elim}
+use Rattle.std.specs.Prelude.{Option as Perhaps, Some, None, Result, Ok, Err, IsErrAnd, ok_or}
 use mathlib.Core.Bool.{Bool, true, false, ◌&&◌, ◌||◌, not}
 use mathlib.Core.List.{List, [], ◌∷◌}
 use Prim.Native.Nat.{ℕ, zero, suc, ◌+◌, ◌-◌, ◌≤◌, ◌<◌}
@@ -208,6 +210,18 @@ module _ (name pattern : List ℕ) where
   pub answered : well_formed name ≡ true → well_formed pattern ≡ true → (t : Bool) → matches (words pattern) (words name) ≡ t → match_answer name pattern ≡ accepted (yes_or_no t ∷ [])
   unfolding match_answer
   answered h k t e = rw (h, k, e)
+
+-- ## Where nothing is found, and a refusal is passed on by `?`
+
+pub found_some : {T E : Type 0} (o : Perhaps T) (e : E) (r : Result T E) (x : T) → r ≡ ok_or o e → r ≡ Ok x → o ≡ Some x
+found_some None e r x is ok = cc
+found_some (Some y) e r x is ok = cc
+
+pub found_none : {T U E : Type 0} (o : Perhaps T) (e f : E) (r : Result T E) (s : Result U E) → r ≡ ok_or o e → r ≡ Err f → IsErrAnd s (λ g. g ≡ f)
+    → (o ≡ None) × (s ≡ Err e)
+found_none None e f r (Ok u) is err h = absurd h
+found_none None e f r (Err g) is err h = (refl, cc)
+found_none (Some y) e f r s is err h = absurd (cc)
 
 -- ## Whether the words that remain match
 

@@ -1,5 +1,5 @@
 -- Plans for handing out queued messages (request C-24). Assumes nothing.
-use Rattle.std.specs.Prelude.{◌≡◌, Bool, true, false, cond, ◌&&◌, not, List, [], ◌∷◌, ◌++◌, ℕ, ◌+◌, ◌*◌, ◌/◌, ◌%◌, ◌≤◌, length, eqb, ltb, ⊤, Result, Ok, Err}
+use Rattle.std.specs.Prelude.{◌≡◌, Bool, true, false, cond, ◌&&◌, not, List, [], ◌∷◌, ◌++◌, ℕ, ◌+◌, ◌*◌, ◌/◌, ◌%◌, ◌≤◌, length, eqb, ltb, ⊤, Option as Perhaps, Some, None, unwrap_or, Result, Ok, Err}
 use Rattle.std.proofs.Math.Option.{Option, none, some}
 use Rattle.headers.specs.Rows.{every, any, first_of, All}
 use Rattle.headers.specs.Answers.{Answer, Check, settle}
@@ -146,22 +146,22 @@ fault_number MessageAgain = 97
 fault_number NotMatching = 98
 fault_number OverRoom = 99
 
--- the number of a refusal, and what it names
+-- the number of a refusal, and what it names, if anything
 abbrev pub plan_number : PlanError → ℕ
 plan_number TooManyPairs = 101
 plan_number Malformed = 102
 plan_number (BadPair f) = fault_number f.reason
 plan_number (LeftOut n) = 100
 
-abbrev pub plan_names : PlanError → ℕ
-plan_names TooManyPairs = 0
-plan_names Malformed = 0
-plan_names (BadPair f) = f.index
-plan_names (LeftOut n) = n
+abbrev pub plan_names : PlanError → Perhaps ℕ
+plan_names TooManyPairs = None
+plan_names Malformed = None
+plan_names (BadPair f) = Some f.index
+plan_names (LeftOut n) = Some n
 
 abbrev pub plan_says : Result ⊤ PlanError → Verdict
 plan_says (Ok u) = accepted
-plan_says (Err e) = refusal (plan_number e) (plan_names e)
+plan_says (Err e) = refusal (plan_number e) (unwrap_or (plan_names e) 0)
 
 -- the answer of stomp_check_plan: 0, or 2^32 times the number of a refusal and what it names; and read back
 abbrev pub packed_plan : Verdict → ℕ

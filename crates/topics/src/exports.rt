@@ -26,6 +26,6 @@ pub fn stomp_check_plan(messages: &[u8], subscriptions: &[u8], plan: &[u8]) -> u
 {
     match crate::plan::check_plan(messages, subscriptions, plan) {
         Ok(()) => 0,
-        Err(e) => PLAN_REFUSED * u64::from(e.number()) + u64::from(e.names()),
+        Err(e) => PLAN_REFUSED * u64::from(e.number()) + u64::from(e.names().unwrap_or(0)),
     }
 }

@@ -26,8 +26,8 @@ impl MatchError {
     }
 }
 
-// The plain form: whether the words of a pattern from place p on match those of a name from place n on. From a place after the end
-// there are no words.
+// The plain form, which document 02 asks for beside the quick one: whether the words of a pattern from place p on match those of a name
+// from place n on. From a place after the end there are no words.
 fn match_rest(pattern: &[u8], p: usize, name: &[u8], n: usize) -> bool
     requires { (length pattern.now ≤ 256) × (length name.now ≤ 256) }
     ensures { result ≡ matching (parts_from 46 pattern.now p) (parts_from 46 name.now n) }
@@ -57,8 +57,8 @@ fn match_rest(pattern: &[u8], p: usize, name: &[u8], n: usize) -> bool
     match_rest(pattern, after, name, next)
 }
 
-// The plain form of matches. It tries one way after another to share the name's words out among the `#`, which can take very long, so
-// callers get matches, which meets the same contract.
+// The plain form of matches, which document 02 asks for too. It tries one way after another to share the name's words out among the `#`,
+// which can take very long, so callers get matches, which meets the same contract.
 fn matches_plainly(name: &[u8], pattern: &[u8]) -> Result<bool, MatchError>
     ensures { match_says result ≡ match_answer name.now pattern.now }
 {
@@ -103,8 +103,8 @@ fn put_any(row: &mut [bool; PLACES], word: &[u8], name: &Words<'_>)
     }
 }
 
-// The second form: a row of answers, filled word by word from the pattern's last. Entry k says whether the words passed match those of
-// the name from word k on.
+// The quick form: a row of answers, filled word by word from the pattern's last. Entry k says whether the words passed match those of the
+// name from word k on.
 fn match_row(pattern: &Words<'_>, name: &Words<'_>) -> bool
     ensures { result ≡ matching (words pattern.now.text.now) (words name.now.text.now) }
 {
@@ -120,11 +120,7 @@ fn match_row(pattern: &Words<'_>, name: &Words<'_>) -> bool
 pub fn matches(name: &[u8], pattern: &[u8]) -> Result<bool, MatchError>
     ensures { match_says result ≡ match_answer name.now pattern.now }
 {
-    let Some(n) = Words::find(name) else {
-        return Err(MatchError::BadName);
-    };
-    let Some(p) = Words::find(pattern) else {
-        return Err(MatchError::BadPattern);
-    };
+    let n = Words::find(name).ok_or(MatchError::BadName)?;
+    let p = Words::find(pattern).ok_or(MatchError::BadPattern)?;
     Ok(match_row(&p, &n))
 }

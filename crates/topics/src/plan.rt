@@ -64,15 +64,15 @@ impl PlanError {
         }
     }
 
-    // What it names: a pair, from 0, a message by its number, or nothing (0).
-    pub fn names(self) -> u32
+    // What it names: a pair, from 0, or a message by its number; none where it names nothing.
+    pub fn names(self) -> Option<u32>
         ensures { result ≡ plan_names self }
     {
         match self {
-            PlanError::TooManyPairs => 0,
-            PlanError::Malformed => 0,
-            PlanError::BadPair(f) => f.index,
-            PlanError::LeftOut(n) => n,
+            PlanError::TooManyPairs => None,
+            PlanError::Malformed => None,
+            PlanError::BadPair(f) => Some(f.index),
+            PlanError::LeftOut(n) => Some(n),
         }
     }
 }
@@ -113,15 +113,17 @@ impl<'a> Waiting<'a> {
         ensures { pair_says result ≡ pair_answer (entries_of self.now.messages) (entries_of self.now.subscriptions)
             (listed (pairs_in earlier.now.octets.now)) (record { message = message; subscription = subscription }) }
     {
-        let Some(m) = self.messages.find(message) else {
-            return Err(PairFault::UnknownMessage);
-        };
+        let m = self
+            .messages
+            .find(message)
+            .ok_or(PairFault::UnknownMessage)?;
         if earlier.count(Column::Message, message) != 0 {
             return Err(PairFault::MessageAgain);
         }
-        let Some(s) = self.subscriptions.find(subscription) else {
-            return Err(PairFault::NotMatching);
-        };
+        let s = self
+            .subscriptions
+            .find(subscription)
+            .ok_or(PairFault::NotMatching)?;
         let name = &self.messages.list.octets[m.from..m.to];
         let pattern = &self.subscriptions.list.octets[s.from..s.to];
         if !is_match(name, pattern) {

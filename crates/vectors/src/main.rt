@@ -3,6 +3,7 @@
 
 ghost use Rattle.std.specs.Prelude.{◌≤◌, length, IfOk};
 
+use listing::stream::StreamError;
 use std::env::{Env, FillError};
 use std::fs::Files;
 use std::io::Write;
@@ -17,7 +18,7 @@ fn open<R: Files>(rt: &R, path: &[u8]) -> io::Result<R::File> {
 }
 
 // The listing of one file.
-fn list_file<R: Files, W: Write>(rt: &R, writer: &mut W, path: &[u8]) -> io::Result<bool> {
+fn list_file<R: Files, W: Write>(rt: &R, writer: &mut W, path: &[u8]) -> Result<(), StreamError> {
     let mut file = open(rt, path)?;
     writer.write_all(b"# ")?;
     writer.write_all(path)?;
@@ -26,14 +27,18 @@ fn list_file<R: Files, W: Write>(rt: &R, writer: &mut W, path: &[u8]) -> io::Res
 }
 
 // Says that a file could not be listed whole.
-fn complain<E: Write>(errors: &mut E, path: &[u8], listed: io::Result<bool>) -> io::Result<()> {
+fn complain<E: Write>(
+    errors: &mut E,
+    path: &[u8],
+    listed: Result<(), StreamError>,
+) -> io::Result<()> {
     match listed {
-        Ok(true) => Ok(()),
-        Ok(false) => {
+        Ok(()) => Ok(()),
+        Err(StreamError::Uncounted) => {
             errors.write_all(path)?;
             errors.write_all(b": there are more octets than can be counted\n")
         }
-        Err(e) => {
+        Err(StreamError::Io(e)) => {
             errors.write_all(path)?;
             writeln!(errors, ": {e}")
         }

@@ -1,10 +1,10 @@
 -- `exports::stomp_encode_with` meets its contract: each answer packed, and read back.
 use Prim.Native.Nat.{ℕ}
 use native.Mathlib.Omega.{arith}
-use mathlib.Core.Path.{◌≡◌, refl, subst}
-use Rattle.std.specs.Prelude.{Result, Ok, Err}
+use mathlib.Core.Path.{◌≡◌, refl, subst, ap, ◌∙◌}
+use Rattle.std.specs.Prelude.{Result, Ok, Err, Option, unwrap_or}
 use Rattle.frames.specs.Encoding.{Call, Encodes}
-use Rattle.frames.specs.Answers.{encode_number, encode_entry, encoded_says, version_in, is_counted}
+use Rattle.frames.specs.Answers.{encode_number, named_entry, encode_entry, encoded_says, version_in, is_counted}
 use Rattle.frames.specs.declared.encode.EncodeError.{EncodeError}
 use Rattle.headers.proofs.Rows.{octets_known}
 use Rattle.frames.proofs.Packed.{length_back, refusal_back, encode_small, number_few, entry_small}
@@ -20,12 +20,17 @@ encodes c f e =
     let h = subst (λ v. Encodes v (call c) c.args.target.now (encoded_says c.encode.result) c.encode.new.target) c.of_options.ensures c.encode.ensures in
     subst (λ g. Encodes (version_in c.args.options) (call c) c.args.target.now (encoded_says g) c.encode.new.target) e h
 
+-- the index, or 0
+named : (e : EncodeError) {o : Option ℕ} {n : ℕ} → n ≡ unwrap_or o 0 → o ≡ named_entry e → n ≡ encode_entry e
+named e h k = h ∙ ap (λ o. unwrap_or o 0) k
+
 pub overflow_add-result : goal.overflow_add-result
 overflow_add-result c =
     let e = c.in-Err.e in
     let at = (goal.at.overflow_add-result c).After-encode in
     let small = entry_small _ (call at) _ e (encodes at (Err e) c.in-Err.is).answered in
-    omega (arith, number_few e, c.number.ensures, c.entry.ensures, small)
+    let told = named e c.unwrap_or.ensures c.entry.ensures in
+    omega (arith, number_few e, c.number.ensures, told, small)
 
 pub returns-in-Ok : goal.returns-in-Ok
 returns-in-Ok c =
@@ -41,4 +46,4 @@ returns-in-Err c =
     let e = c.in-Err.e in
     let at = (goal.at.returns-in-Err c).After-encode in
     let d = encodes at (Err e) c.in-Err.is in
-    rw (c.from.ensures, c.number.ensures, c.entry.ensures, refusal_back (encode_number e) (encode_entry e) (number_few e).0 (entry_small _ (call at) _ e d.answered)) (d, refl)
+    rw (c.from.ensures, c.number.ensures, named e c.unwrap_or.ensures c.entry.ensures, refusal_back (encode_number e) (encode_entry e) (number_few e).0 (entry_small _ (call at) _ e d.answered)) (d, refl)

@@ -15,15 +15,15 @@ unfolding on_length
 returns-then-x-eq58 c =
     rw (read_stop in_value c.args.x c.style-style.ensures c.is_stop.ensures c.if-is_stop.true) (simp (c.refused.ensures, eq-eqb _ _ c.if-x-eq58.true))
 
-pub returns-then-st-eq15 : goal.returns-then-st-eq15
+pub returns-then-st-eq-LENGTH_BEGUN : goal.returns-then-st-eq-LENGTH_BEGUN
 unfolding on_length
-returns-then-st-eq15 c =
-    rw (read_stop in_value c.args.x c.style-style.ensures c.is_stop.ensures c.if-is_stop.true) (simp (c.refused-then-st-eq15.ensures, ne_eqb _ _ c.if-x-eq58.false, eq-eqb _ _ c.if-st-eq15.true))
+returns-then-st-eq-LENGTH_BEGUN c =
+    rw (read_stop in_value c.args.x c.style-style.ensures c.is_stop.ensures c.if-is_stop.true) (simp (c.refused-then-st-eq-LENGTH_BEGUN.ensures, ne_eqb _ _ c.if-x-eq58.false, eq-eqb _ _ c.if-st-eq-LENGTH_BEGUN.true))
 
 pub returns-then-is_stop : goal.returns-then-is_stop
 unfolding on_length
 returns-then-is_stop c =
-    rw (read_stop in_value c.args.x c.style-style.ensures c.is_stop.ensures c.if-is_stop.true, ne_eqb _ _ c.if-x-eq58.false, ne_eqb _ _ c.if-st-eq15.false) c.line_read.ensures
+    rw (read_stop in_value c.args.x c.style-style.ensures c.is_stop.ensures c.if-is_stop.true, ne_eqb _ _ c.if-x-eq58.false, ne_eqb _ _ c.if-st-eq-LENGTH_BEGUN.false) c.line_read.ensures
 
 pub returns-then-is_open : goal.returns-then-is_open
 unfolding on_length

@@ -6,7 +6,7 @@ use lib.ListN.{get_or}
 use borrow.Author.Tests.{ne_eqb}
 use Rattle.std.specs.Prelude.{None}
 use Rattle.frames.specs.Scanning.{word_of, next_command, Reached}
-use Rattle.frames.specs.Words.{some_command}
+use Rattle.frames.specs.Words.{command_or_none}
 use Rattle.frames.proofs.Words.{small, next_none}
 use Rattle.frames.proofs.word.sibling.Goals as goal
 
@@ -35,7 +35,7 @@ module _ (c k x : ℕ) (r : Reached c k × (0 < k) × (x ≡ get_or (word_of c) 
   abbrev Not : ℕ → Type 0
   Not y = c * 4096 + k * 256 + x ≡ y → ⊥
 
-  apart : Not 4419 → Not 16974 → Not 22341 → Not 49492 → Not 49493 → None ≡ some_command (next_command c k x)
+  apart : Not 4419 → Not 16974 → Not 22341 → Not 49492 → Not 49493 → None ≡ command_or_none (next_command c k x)
   apart h i j l m =
       let y = c * 4096 + k * 256 + x in
       rw (next_none c k x r (rw (ne_eqb y 4419 h, ne_eqb y 16974 i, ne_eqb y 22341 j, ne_eqb y 49492 l, ne_eqb y 49493 m) refl)) refl

@@ -4,7 +4,7 @@ use mathlib.Core.Bool.{Bool, true, false, cond, ◌&&◌, not}
 use Prim.Native.Nat.{ℕ}
 use lib.Dec.{eqb}
 use Rattle.std.specs.Prelude.{Some, None}
-use Rattle.frames.specs.Words.{some_command}
+use Rattle.frames.specs.Words.{command_or_none}
 use Rattle.frames.proofs.Words.{small, whole_at}
 use Rattle.frames.proofs.word.whole_command.Goals as goal
 
@@ -12,7 +12,7 @@ pub letter-requires : goal.letter-requires
 letter-requires c = small _ _ c.requires
 
 -- by the two tests
-told : (n : ℕ) (t : Bool) → some_command (cond t n 0) ≡ cond (not (eqb n 0) && t) (Some n) None
+told : (n : ℕ) (t : Bool) → command_or_none (cond t n 0) ≡ cond (not (eqb n 0) && t) (Some n) None
 told n true = by (eqb n 0) refl
   where
     by : (b : Bool) → eqb n 0 ≡ b → cond b None (Some n) ≡ cond (not b && true) (Some n) None

@@ -18,21 +18,16 @@ here : (c : In-Some) → Placed c.args.block.now c.loop-l.i c.in-Some.l
 here c =
     told_entry c.args.block.now c.loop-l.i c.entry_at.result c.in-Some.l c.entry_at.ensures (c.in_ok-l.was ∙ ap Ok c.in-Some.is)
 
-pub overflow_add-i : goal.overflow_add-i
-overflow_add-i c = omega (arith, (here c).inside)
-
-pub overflow_add-i-in-Some : goal.overflow_add-i-in-Some
-overflow_add-i-in-Some c = omega (arith, (here (goal.at.overflow_add-i-in-Some c).In-Some).inside)
-
-pub overflow_add-i-in-Some-2 : goal.overflow_add-i-in-Some-2
-overflow_add-i-in-Some-2 c = omega (arith, (here (goal.at.overflow_add-i-in-Some-2 c).In-Some).inside)
+pub places-i-requires : goal.places-i-requires
+places-i-requires c = omega (arith, (here c).inside)
 
 pub loop-l-smaller : goal.loop-l-smaller
-loop-l-smaller c = omega (arith, (here (goal.at.loop-l-smaller c).In-Some).inside)
+loop-l-smaller c = omega (arith, (here (goal.at.loop-l-smaller c).In-Some).inside, c.places-i.ensures.2)
 
 pub loop-l-preserved : goal.loop-l-preserved
 loop-l-preserved c =
     c.loop-l.invariant ∙ is_block_next c.args.block.now c.loop-l.i c.in-Some.l (here (goal.at.loop-l-preserved c).In-Some)
+    ∙ ap (λ k. is_block (drop k c.args.block.now)) (sym c.places-i.ensures.2)
 
 decided : (c : After-entry_at) (o : Option (List Entry)) → entries ((drop c.loop-l.i c.args.block.now)) ≡ o → has_entries o ≡ is_block (drop c.args.at c.args.block.now)
 decided c o h = sym (c.loop-l.invariant ∙ is_block_of ((drop c.loop-l.i c.args.block.now)) o h)

@@ -1,5 +1,5 @@
 -- count_from meets its contract: the entries of the name before place i are counted, those from i on are left.
-use mathlib.Core.Path.{◌≡◌, sym, ◌∙◌, ap, refl}
+use mathlib.Core.Path.{◌≡◌, sym, ◌∙◌, ap, ap₂, refl}
 use Prim.Native.Nat.{◌+◌, ◌-◌}
 use native.Mathlib.Omega.{arith}
 use mathlib.Core.Option.{Option, none, some}
@@ -23,14 +23,8 @@ loop-l-init c =
 here : (c : In-Some) → Placed c.args.block.now c.loop-l.i c.in-Some.l
 here c = told_entry c.args.block.now c.loop-l.i c.entry_at.result c.in-Some.l c.entry_at.ensures (c.in_ok-l.was ∙ ap Ok c.in-Some.is)
 
-pub overflow_add-from : goal.overflow_add-from
-overflow_add-from c = omega (arith, (here c).inside)
-
-pub overflow_add-start : goal.overflow_add-start
-overflow_add-start c = omega (arith, (here (goal.at.overflow_add-start c).In-Some).inside)
-
-pub overflow_add-i : goal.overflow_add-i
-overflow_add-i c = omega (arith, (here (goal.at.overflow_add-i c).In-Some).inside)
+pub places-p-requires : goal.places-p-requires
+places-p-requires c = omega (arith, (here c).inside)
 
 pub slice_bounds-equal-end : goal.slice_bounds-equal-end
 slice_bounds-equal-end c = omega (arith, (here (goal.at.slice_bounds-equal-end c).In-Some).inside)
@@ -44,15 +38,17 @@ loop-l-smaller-then-equal c = omega (arith, (here (goal.at.loop-l-smaller-then-e
 
 compared : (c : After-equal) → same (placed c.args.block.now c.loop-l.i c.in-Some.l).name c.args.name.now ≡ c.equal.result
 compared c =
-    let n : c.loop-l.i + 6 + c.in-Some.l.name - (c.loop-l.i + 6) ≡ c.in-Some.l.name = omega arith in
-    sym (c.equal.ensures ∙ ap (λ k. same (take k (drop (c.loop-l.i + 6) c.args.block.now)) c.args.name.now) n)
+    let e = c.places-p.ensures in
+    let n : c.places-p.result.value - c.places-p.result.name ≡ c.in-Some.l.name = omega arith in
+    sym (c.equal.ensures ∙ ap₂ (λ k j. same (take k (drop j c.args.block.now)) c.args.name.now) n e.0)
 
 pub loop-l-preserved-then-equal : goal.loop-l-preserved-then-equal
 loop-l-preserved-then-equal c =
     let i = c.loop-l in (
       omega (arith, i.invariant.0),
       i.invariant.1 ∙ ap (plus i.count) (count_counts c.args.block.now c.args.name.now c.loop-l.i c.in-Some.l (here (goal.at.loop-l-preserved-then-equal c).In-Some) (compared (goal.at.loop-l-preserved-then-equal c).After-equal ∙ c.if-equal.true))
-          ∙ plus_plus i.count 1 (count_from c.args.name.now (place_behind c.loop-l.i c.in-Some.l) (entries (drop (place_behind c.loop-l.i c.in-Some.l) c.args.block.now))),
+          ∙ plus_plus i.count 1 (count_from c.args.name.now (place_behind c.loop-l.i c.in-Some.l) (entries (drop (place_behind c.loop-l.i c.in-Some.l) c.args.block.now)))
+          ∙ ap (λ k. plus (i.count + 1) (count_from c.args.name.now k (entries (drop k c.args.block.now)))) (sym c.places-p.ensures.2),
     )
 
 pub loop-l-smaller : goal.loop-l-smaller
@@ -62,7 +58,8 @@ pub loop-l-preserved : goal.loop-l-preserved
 loop-l-preserved c =
     let i = c.loop-l in (
       omega (arith, i.invariant.0),
-      i.invariant.1 ∙ ap (plus i.count) (count_passes c.args.block.now c.args.name.now c.loop-l.i c.in-Some.l (here (goal.at.loop-l-preserved c).In-Some) (compared (goal.at.loop-l-preserved c).After-equal ∙ c.if-equal.false)),
+      i.invariant.1 ∙ ap (plus i.count) (count_passes c.args.block.now c.args.name.now c.loop-l.i c.in-Some.l (here (goal.at.loop-l-preserved c).In-Some) (compared (goal.at.loop-l-preserved c).After-equal ∙ c.if-equal.false))
+          ∙ ap (λ k. plus i.count (count_from c.args.name.now k (entries (drop k c.args.block.now)))) (sym c.places-p.ensures.2),
     )
 
 ended : (c : After-entry_at) (o : Option (List Entry)) → entries ((drop c.loop-l.i c.args.block.now)) ≡ o

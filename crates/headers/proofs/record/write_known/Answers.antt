@@ -2,16 +2,16 @@
 use mathlib.Core.Path.{◌≡◌, refl, sym, ap, ap₂, ◌∙◌}
 use mathlib.Core.Bool.{true, false, cond, not}
 use mathlib.Core.List.{List, [], ◌∷◌, ◌++◌}
-use Prim.Native.Nat.{ℕ, ◌+◌, ◌≤◌}
+use Prim.Native.Nat.{ℕ, ◌+◌, ◌≤◌, ◌<◌}
 use native.Mathlib.Omega.{arith}
 use lib.ListN.{length, drop}
 use lib.Dec.{ltb}
-use borrow.Author.Tests.{ltb-false, not-true, not-false}
+use borrow.Author.Tests.{ltb-true, ltb-false, not-true, not-false}
 use Rattle.headers.specs.Block.{Entry, entry_record, is_short}
 use Rattle.headers.specs.Lines.{entry_of, decoded_entry}
 use Rattle.headers.specs.Stretches.{unescaped}
 use Rattle.headers.specs.Answers.{Answer, accepted, refused, settle, lacks_room, decoded_answer}
-use Rattle.headers.proofs.Rows.{or_false_left}
+use Rattle.headers.proofs.Rows.{and_left, and_right, or_false_left, or_false_right}
 use Rattle.headers.proofs.Coding.{decode_off}
 use Rattle.headers.proofs.Blocks.{length_record}
 use Rattle.headers.proofs.Settling.{refusal, acceptance}
@@ -34,10 +34,15 @@ lacking room n v h = plain room n v ∙ ap (λ t. cond t (refused 21) (accepted 
 roomy : (room : ℕ) (n v : List ℕ) → not (lacks_room room (entry_of n v)) ≡ true → decoded_answer unescaped room n v ≡ accepted (length (entry_record (entry_of n v)) ∷ [])
 roomy room n v h = plain room n v ∙ ap (λ t. cond t (refused 21) (accepted (length (entry_record (entry_of n v)) ∷ []))) (not-true _ h)
 
-fits : (room : ℕ) (n v : List ℕ) → not (lacks_room room (entry_of n v)) ≡ true → 6 + length n + length v ≤ room
+fits : (room : ℕ) (n v : List ℕ) → not (lacks_room room (entry_of n v)) ≡ true → (6 + length n + length v ≤ room) × (length n < 65536) × (length v < 65536)
 fits room n v h =
     let e = entry_of n v in
-    omega (arith, length_record e, ltb-false room (length (entry_record e)) (or_false_left (ltb room (length (entry_record e))) (not (is_short e)) (not-true _ h)))
+    let long = ltb room (length (entry_record e)) in
+    let short : is_short e ≡ true = not-false _ (or_false_right long (not (is_short e)) (not-true _ h)) in (
+      omega (arith, length_record e, ltb-false room (length (entry_record e)) (or_false_left long (not (is_short e)) (not-true _ h))),
+      ltb-true (length n) 65536 (and_left _ (ltb (length v) 65536) short),
+      ltb-true (length v) 65536 (and_right (ltb (length n) 65536) _ short),
+    )
 
 pub returns-then-not-have_room : goal.returns-then-not-have_room
 returns-then-not-have_room c = refusal _ 21 _ _ (lacking _ _ _ (sym c.have_room.ensures ∙ c.if-not-have_room.true))

@@ -1,9 +1,9 @@
 -- `notes::note` meets its contract: the notes say of the block up to place i what they should, and what is left is as it was.
-use Rattle.std.proofs.Common.{◌≡◌, ◌+◌, ◌-◌, ◌<◌, ◌≤◌, le_refl, get_or, take, drop, sym, ap, ◌∙◌, subst, arith}
-use Rattle.headers.proofs.Blocks.{Placed, placed, told_entry, told_end, told_malformed}
+use Rattle.std.proofs.Common.{◌≡◌, ◌+◌, ◌-◌, ◌<◌, le_refl, take, drop, sym, ap, ◌∙◌, subst, arith}
+use Rattle.headers.proofs.Blocks.{Placed, placed, place_behind, told_entry, told_end, told_malformed}
 use Rattle.headers.proofs.Rows.{octets_known}
 use Rattle.sessions.specs.Notes.{headers_max, number_of_name}
-use Rattle.sessions.proofs.Noting.{tabled, Walked, walk_begins, walk_passes, walk_first, walk_later, walk_ends, walk_fails}
+use Rattle.sessions.proofs.Noting.{tabled, Walked, walk_begins, walk_passes, walk_notes, with_mark, walk_ends, walk_fails}
 use Rattle.std.specs.Prelude.{Ok}
 use Rattle.std.proofs.lemmas.Result.{err_from_is_err_and}
 use Rattle.sessions.proofs.notes.note.Goals as goal
@@ -24,22 +24,6 @@ overflow_add-i c = omega (arith, (here (goal.at.overflow_add-i c).In-Some).insid
 pub slice_bounds-header_of-end : goal.slice_bounds-header_of-end
 slice_bounds-header_of-end c = omega (arith, (here (goal.at.slice_bounds-header_of-end c).In-Some).inside)
 
-walked_1 : (c : After-index_of-k) → Walked c.args.block.now c.loop-l.notes c.loop-l.i
-walked_1 c = c.loop-l.invariant
-
--- no count is above the place that the walk is at
-few : (c : After-index_of-k) → get_or c.loop-l.notes.counts c.index_of-k.result 0 ≤ c.loop-l.i
-few c = ((walked_1 c).bounded c.index_of-k.result).few
-
-walked_2 : (c : In-Some) → Walked c.args.block.now c.loop-l.notes c.loop-l.i
-walked_2 c = c.loop-l.invariant
-
-pub overflow_add-notes : goal.overflow_add-notes
-overflow_add-notes c = omega (arith, few (goal.at.overflow_add-notes c).After-index_of-k, (walked_2 (goal.at.overflow_add-notes c).In-Some).within, (here (goal.at.overflow_add-notes c).In-Some).inside)
-
-pub loop-l-smaller-then-count-eq0 : goal.loop-l-smaller-then-count-eq0
-loop-l-smaller-then-count-eq0 c = omega (arith, (here (goal.at.loop-l-smaller-then-count-eq0 c).In-Some).inside)
-
 numbered : (c : After-index_of-k) → c.index_of-k.result ≡ number_of_name (placed c.args.block.now c.loop-l.i c.in-Some.l).name
 numbered c =
     let n : c.loop-l.i + 6 + c.in-Some.l.name - (c.loop-l.i + 6) ≡ c.in-Some.l.name = omega arith in
@@ -48,18 +32,19 @@ numbered c =
 below : (c : After-index_of-k) → c.index_of-k.result < headers_max
 below c = omega (arith, (tabled c.in-Some-header_of.header).below, c.index_of-k.ensures)
 
-pub loop-l-preserved-then-count-eq0 : goal.loop-l-preserved-then-count-eq0
-loop-l-preserved-then-count-eq0 c =
-    walk_first c.args.block.now c.loop-l.notes c.loop-l.i (walked_2 (goal.at.loop-l-preserved-then-count-eq0 c).In-Some) c.in-Some.l (here (goal.at.loop-l-preserved-then-count-eq0 c).In-Some) c.index_of-k.result (numbered (goal.at.loop-l-preserved-then-count-eq0 c).After-index_of-k)
-    (below (goal.at.loop-l-preserved-then-count-eq0 c).After-index_of-k) c.if-count-eq0.true
+-- no count is above the place that the walk is at
+pub with-requires : goal.with-requires
+with-requires c = omega (arith, (here (goal.at.with-requires c).In-Some).inside, (c.loop-l.invariant.bounded c.index_of-k.result).few)
 
-pub loop-l-smaller-else-count-eq0 : goal.loop-l-smaller-else-count-eq0
-loop-l-smaller-else-count-eq0 c = omega (arith, (here (goal.at.loop-l-smaller-else-count-eq0 c).In-Some).inside)
+pub loop-l-smaller-in-Some-header_of : goal.loop-l-smaller-in-Some-header_of
+loop-l-smaller-in-Some-header_of c = omega (arith, (here (goal.at.loop-l-smaller-in-Some-header_of c).In-Some).inside)
 
-pub loop-l-preserved-else-count-eq0 : goal.loop-l-preserved-else-count-eq0
-loop-l-preserved-else-count-eq0 c =
-    walk_later c.args.block.now c.loop-l.notes c.loop-l.i (walked_2 (goal.at.loop-l-preserved-else-count-eq0 c).In-Some) c.in-Some.l (here (goal.at.loop-l-preserved-else-count-eq0 c).In-Some) c.index_of-k.result (numbered (goal.at.loop-l-preserved-else-count-eq0 c).After-index_of-k)
-    (below (goal.at.loop-l-preserved-else-count-eq0 c).After-index_of-k) c.if-count-eq0.false
+pub loop-l-preserved-in-Some-header_of : goal.loop-l-preserved-in-Some-header_of
+loop-l-preserved-in-Some-header_of c =
+    let at = goal.at.loop-l-preserved-in-Some-header_of c in
+    let block = c.args.block.now in
+    subst (λ m. Walked block (with_mark c.loop-l.notes c.index_of-k.result m) (place_behind c.loop-l.i c.in-Some.l)) (sym c.with.ensures)
+    (walk_notes block c.loop-l.notes c.loop-l.i c.loop-l.invariant c.in-Some.l (here at.In-Some) c.index_of-k.result (numbered at.After-index_of-k) (below at.After-index_of-k))
 
 pub loop-l-smaller : goal.loop-l-smaller
 loop-l-smaller c = omega (arith, (here (goal.at.loop-l-smaller c).In-Some).inside)
@@ -67,7 +52,7 @@ loop-l-smaller c = omega (arith, (here (goal.at.loop-l-smaller c).In-Some).insid
 pub loop-l-preserved : goal.loop-l-preserved
 loop-l-preserved c =
     let n : c.loop-l.i + 6 + c.in-Some.l.name - (c.loop-l.i + 6) ≡ c.in-Some.l.name = omega arith in
-    walk_passes c.args.block.now c.loop-l.notes c.loop-l.i (walked_2 (goal.at.loop-l-preserved c).In-Some) c.in-Some.l (here (goal.at.loop-l-preserved c).In-Some) headers_max
+    walk_passes c.args.block.now c.loop-l.notes c.loop-l.i c.loop-l.invariant c.in-Some.l (here (goal.at.loop-l-preserved c).In-Some) headers_max
     (c.in_default-header_of.ensures ∙ ap (λ k. number_of_name (take k (drop (c.loop-l.i + 6) c.args.block.now))) n) (le_refl headers_max)
 
 pub returns : goal.returns

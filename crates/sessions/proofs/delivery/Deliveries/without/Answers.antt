@@ -1,7 +1,7 @@
 -- `delivery::Deliveries::without` meets its contract: the rows that stay are the layout of the deliveries that stay.
 use Rattle.std.proofs.Common.{arith, rules}
 use Rattle.sessions.specs.Sessions.{SizedDeliveries}
-use Rattle.sessions.proofs.Taking.{without_at}
+use Rattle.sessions.proofs.Taking.{few_kept, without_at}
 use Rattle.sessions.proofs.delivery.Deliveries.without.Goals as goal
 use Rattle.sessions.proofs.delivery.Deliveries.without.Goals.{Start}
 
@@ -74,9 +74,18 @@ slice_bounds-keep_rows-end-9 c =
       z.places_long,
     )
 
+pub overflow_cast-result : goal.overflow_cast-result
+overflow_cast-result c =
+    let from = c.from-n in
+    omega (
+      arith,
+      few_kept c.args.self (sized (goal.at.overflow_cast-result c).Start) c.requires from.result from.ensures c.args.range c.keep_rows-count.result _
+          c.keep_rows-count.ensures,
+    )
+
 pub returns : goal.returns
 returns c =
     let from = c.from-n in
-    without_at c.args.self (sized (goal.at.returns c).Start) c.requires from.result from.ensures c.args.range _ _ _ _ _ c.keep_rows-count.result _
+    without_at c.args.self (sized (goal.at.returns c).Start) c.requires from.result from.ensures c.args.range _ _ _ _ _ _
     c.keep_rows.ensures
-    c.keep_rows-2.ensures c.keep_rows-count.ensures (λ h. omega arith)
+    c.keep_rows-2.ensures c.keep_rows-count.ensures

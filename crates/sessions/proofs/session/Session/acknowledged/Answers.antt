@@ -3,13 +3,13 @@ use Rattle.std.proofs.Common.{ap, ◌∙◌}
 use Rattle.sessions.specs.Calls.{place_named, may_name}
 use Rattle.sessions.proofs.session.Session.acknowledged.Goals as goal
 
-pub returns-in_default : goal.returns-in_default
-returns-in_default c =
+pub returns-in_err-l-in-V11 : goal.returns-in_err-l-in-V11
+returns-in_err-l-in-V11 c =
     let a = c.args in
-    ap (λ o. may_name a.version (place_named a.self o)) c.in_default.ensures.first
+    rw c.from_residual.ensures (ap (λ o. may_name a.version (place_named a.self o)) c.in_err-l-in-V11.ensures.first)
 
-pub returns-in-Some : goal.returns-in-Some
-returns-in-Some c =
+pub returns-in_ok-l-in-V11 : goal.returns-in_ok-l-in-V11
+returns-in_ok-l-in-V11 c =
     let a = c.args in
     ap (may_name a.version) c.find_subscription.ensures
-    ∙ ap (λ o. may_name a.version (place_named a.self o)) c.in-Some.ensures.first
+    ∙ ap (λ o. may_name a.version (place_named a.self o)) c.in_ok-l-in-V11.ensures.first

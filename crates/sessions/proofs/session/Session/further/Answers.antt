@@ -1,23 +1,27 @@
 -- `session::Session::further` meets its contract, by the command. Assumes nothing.
 use Rattle.std.proofs.Common.{sym, refl, ap, ◌∙◌, ne_eqb}
+use Rattle.std.proofs.lemmas.Result.{err_from_is_err_and}
 use Rattle.headers.specs.Block.{entries, listed}
 use Rattle.sessions.specs.Reads.{mode_says}
 use Rattle.sessions.proofs.Steps.{dropping_has}
+use Rattle.sessions.proofs.Asking.{some_by, none_by}
 use Rattle.sessions.proofs.Locating.{located_there}
 use Rattle.sessions.proofs.Deciding.{looks_mode_unknown, looks_mode, looks_dropped, looks_label, looks_none}
 use Rattle.sessions.proofs.session.Session.further.Goals as goal
 
-pub returns-in-Some : goal.returns-in-Some
-returns-in-Some c =
+pub returns-then-command-eq-SUBSCRIBE : goal.returns-then-command-eq-SUBSCRIBE
+returns-then-command-eq-SUBSCRIBE c =
     let a = c.args in
     looks_mode a.self a.command (listed (entries a.block.now)) c.if-command-eq-SUBSCRIBE.true _ _
-    (sym c.mode_asked.ensures ∙ ap mode_says c.in-Some.is) c.keep_mode.ensures
+    (sym c.mode_asked.ensures ∙ ap mode_says (some_by _ _ c.ok_or.ensures.value c.in_ok-mode.was)) c.keep_mode.ensures
 
-pub returns-in-None : goal.returns-in-None
-returns-in-None c =
+pub returns-in_err-mode : goal.returns-in_err-mode
+returns-in_err-mode c =
     let a = c.args in
-    looks_mode_unknown a.self a.command (listed (entries a.block.now)) c.if-command-eq-SUBSCRIBE.true
-    (sym c.mode_asked.ensures ∙ ap mode_says c.in-None.is)
+    let p = err_from_is_err_and c.from_residual.result c.from_residual.ensures.1 in
+    let n = none_by _ _ c.ok_or.ensures.value c.in_err-mode.was in
+    rw (p.1, p.2, n.1) (looks_mode_unknown a.self a.command (listed (entries a.block.now)) c.if-command-eq-SUBSCRIBE.true
+    (sym c.mode_asked.ensures ∙ ap mode_says n.0))
 
 pub returns-in_default : goal.returns-in_default
 returns-in_default c =
@@ -28,7 +32,7 @@ returns-in_default c =
 pub returns-then-command-eq-UNSUBSCRIBE : goal.returns-then-command-eq-UNSUBSCRIBE
 returns-then-command-eq-UNSUBSCRIBE c =
     let a = c.args in
-    looks_dropped a.self a.command (listed (entries a.block.now)) c.if-command-eq-UNSUBSCRIBE.true _ _ (sym c.in-Some-locate.ensures.first)
+    looks_dropped a.self a.command (listed (entries a.block.now)) c.if-command-eq-UNSUBSCRIBE.true _ _ (sym c.in-Some.ensures.first)
     c.drop_deliveries.ensures
 
 pub returns-then-settles : goal.returns-then-settles
