@@ -31,7 +31,7 @@ pub struct Lengths {
 
 // Where in a block the parts of a record begin, and where it ends.
 #[derive(Clone, Copy)]
-pub struct Places {
+pub(crate) struct Places {
     pub name: usize,
     pub value: usize,
     pub end: usize,
@@ -39,7 +39,7 @@ pub struct Places {
 
 impl Lengths {
     // Where the parts of the record at a place begin, which has these lengths, and where it ends.
-    pub fn places(self, at: usize) -> Places
+    pub(crate) fn places(self, at: usize) -> Places
         requires { at + 6 + self.name + self.value < 2 ^ 64 }
         ensures { (result.name ≡ at + 6) × (result.value ≡ at + 6 + self.name) × (result.end ≡ at + 6 + self.name + self.value) }
     {
@@ -61,8 +61,8 @@ fn length_at(block: &[u8], i: usize) -> usize
     usize::from(u16::from_be_bytes([block[i], block[i + 1]]))
 }
 
-// What stands at place at of a block: the lengths of a whole record, whose name begins 6 octets on, its value behind its name, and the next
-// record behind that; or nothing more.
+// What a block has at a place: the lengths of a whole record, whose name begins 6 octets on and is followed by its value, and that by the
+// next record; or nothing more.
 pub fn entry_at(block: &[u8], at: usize) -> Result<Option<Lengths>, Malformed>
     ensures { entry_says result ≡ entry_answer (drop at block.now) }
 {

@@ -1,5 +1,5 @@
-// The calls of a session where it lies, for a session by value: the session is lent to the call, and given back with the answer. What they
-// promise is what the calls by value promise.
+// The calls of a session where it lies, for a session by value: the call takes it by reference, and it is handed back with the answer. What
+// they promise is what the calls by value promise.
 ghost use Rattle.std.specs.Prelude.{◌≡◌};
 ghost use Rattle.sessions.specs.Answers.{answer_says, timed_out_says, delivery_says};
 ghost use Rattle.sessions.specs.Calls.{frame_answer, frame_session, heart_beat_answer, heart_beat_session, timed_out_answer, deliver_answer, deliver_session};

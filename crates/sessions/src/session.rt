@@ -31,8 +31,8 @@ use frames::version::Version;
 
 // The record of a session, made of its parts. The phase is 0 fresh, 1 open, 2 closed.
 // It stays an octet, as the ack modes do: a record may be read back from any octets, and an unknown one makes it invalid (38).
-// No type holds that a session is valid, which private methods require: a session is 2,880 octets, handed on by value, and its fields are
-// public, so that programs may set them.
+// No type holds that a session is valid, which private methods require: its fields have 2,880 octets, it is handed on by value, and
+// programs may set the fields, which are public.
 #[derive(Clone, Copy)]
 pub struct Session {
     pub offers: Offers,
@@ -185,7 +185,7 @@ impl Session {
         (self.phase <= Session::CLOSED) & (small & (flags & chosen))
     }
 
-    // Whether the record is valid, of a session that is lent.
+    // Whether the record is valid, of a session by reference.
     fn check(&self) -> bool
         ensures { result ≡ is_valid self.now }
     {
@@ -445,7 +445,7 @@ impl Session {
         self.use_ids(command, named, notes, block, acceptance)
     }
 
-    // The same of a session that is lent, with the ids that the frame names settled first.
+    // The same of a session by reference, with the ids that the frame names settled first.
     fn decide(&self, command: u32, notes: Notes, block: &[u8]) -> Result<Step, Refusal>
         requires { (is_valid self.now ≡ true) × Sized self.now × AllNoted block.now notes }
         ensures { DecidesFrame self.now command block.now result }

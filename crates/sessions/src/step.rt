@@ -85,7 +85,7 @@ pub(crate) fn use_of(put: Put, further: Further) -> Change
     }
 }
 
-// What the stores of a session, which are lent, make of an id that a frame may name.
+// What the stores of a session, by reference, make of an id that a frame may name.
 pub(crate) fn settle_naming<'a>(
     subscriptions: Ids<'a>,
     transactions: Ids<'a>,

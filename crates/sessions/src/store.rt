@@ -20,7 +20,7 @@ pub(crate) enum Use {
     Free,
 }
 
-// A store that is lent, with a length for each place that fits it.
+// A store by reference, with a length for each place that fits it.
 #[derive(Clone, Copy)]
 pub(crate) struct Ids<'a> {
     pub octets: &'a [u8],
