@@ -9,27 +9,32 @@ use listing::calls::{CallError, at_most, each_call, number_at, read_head, read_t
 use std::io;
 use std::io::{Read, Write};
 
-// Reads a call and answers it: whether there is one. The five numbers are options, command, and the lengths of block, body and target.
+// Reads the block and the body of a call, whose five numbers are read, and answers it: options, command, and the lengths of block, body
+// and target. Its buffers stand before any reading: behind one, which may fail, they would be cleared twice.
+fn answer<R: Read, W: Write>(
+    input: &mut R,
+    output: &mut W,
+    head: &[u8; 20],
+) -> Result<(), CallError> {
+    let mut block = [0u8; 65536];
+    let mut body = [0u8; 65536];
+    let mut target = [170u8; 65536];
+    let block = read_text(input, &mut block, number_at(head, 8))?;
+    let body = read_text(input, &mut body, number_at(head, 12))?;
+    let target = &mut target[..at_most(number_at(head, 16))];
+    let answer = stomp_encode_with(number_at(head, 0), number_at(head, 4), block, body, target);
+    writeln!(output, "{answer}")?;
+    output.write_all(target)?;
+    output.write_all(b"\n")?;
+    Ok(())
+}
+
+// Reads a call and answers it: whether there is one.
 fn call<R: Read, W: Write>(input: &mut R, output: &mut W) -> Result<bool, CallError> {
     let Some(head) = read_head::<20, R>(input)? else {
         return Ok(false);
     };
-    let mut block = [0u8; 65536];
-    let mut body = [0u8; 65536];
-    let mut target = [170u8; 65536];
-    let block = read_text(input, &mut block, number_at(&head, 8))?;
-    let body = read_text(input, &mut body, number_at(&head, 12))?;
-    let target = &mut target[..at_most(number_at(&head, 16))];
-    let answer = stomp_encode_with(
-        number_at(&head, 0),
-        number_at(&head, 4),
-        block,
-        body,
-        target,
-    );
-    writeln!(output, "{answer}")?;
-    output.write_all(target)?;
-    output.write_all(b"\n")?;
+    answer(input, output, &head)?;
     Ok(true)
 }
 

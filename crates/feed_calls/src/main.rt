@@ -38,11 +38,13 @@ impl TryFrom<u8> for Kind {
     }
 }
 
-// A stream parser as the calls for C have it: its record, its buffer, and how many octets of that the calls are given.
+// A stream parser as the calls for C have it: its record, its buffer, and how many octets of that the calls are given; and space for the
+// pieces, which is cleared once.
 #[derive(Drop)]
 struct Stream {
     state: [u8; 16],
     buffer: [u8; 65536],
+    space: [u8; 65536],
     given: usize,
     ghost held: { given ≤ 65536 },
 }
@@ -77,15 +79,6 @@ fn front(answer: u64, held: u64) -> u64 {
 }
 
 impl Stream {
-    // Before the first call.
-    fn new() -> Stream {
-        Stream {
-            state: [0; 16],
-            buffer: [170; 65536],
-            given: 65536,
-        }
-    }
-
     // How many octets the calls are given from now on.
     fn room<R: Read>(&mut self, input: &mut R) -> Result<(), CallError> {
         self.given = at_most(read_number(input)?);
@@ -106,8 +99,7 @@ impl Stream {
 
     fn feed<R: Read, W: Write>(&mut self, input: &mut R, output: &mut W) -> Result<(), CallError> {
         let len = read_number(input)?;
-        let mut space = [0u8; 65536];
-        let piece = read_text(input, &mut space, len)?;
+        let piece = read_text(input, &mut self.space, len)?;
         let buffer = &mut self.buffer[..];
         let answer = stomp_feed(&mut self.state, &mut buffer[..self.given], piece);
         let total = sum(&self.buffer);
@@ -150,7 +142,13 @@ impl Stream {
 
 fn main(rt: HostRuntime) -> io::Result<()> {
     let mut output = rt.stdout();
-    let mut stream = Stream::new();
+    // Made here: a function that gave it would need room for it twice.
+    let mut stream = Stream {
+        state: [0; 16],
+        buffer: [170; 65536],
+        space: [0; 65536],
+        given: 65536,
+    };
     let made = each_call(&mut rt.stdin(), |input| stream.call(input, &mut output));
     tell(&rt, "feed_calls", made)
 }

@@ -10,6 +10,7 @@
 --     decode_off, encode_off         without escapes text is itself
 --     encode_same                    so is text that is as long encoded
 --     encode_bare, encode_tail       so are octets that no escape concerns, also at the end of a text
+--     letter_last                    the last octet that an octet has encoded
 --     encode_text                    what can be written is raw text when encoded
 --     decode_name                    a raw name without escapes, as content-length, is its decoded one, and only it is
 use mathlib.Core.Path.{◌≡◌, refl, sym, ◌∙◌, ap, ap₂, subst}
@@ -31,7 +32,7 @@ use Rattle.headers.specs.Lines.{content_length}
 use Rattle.headers.specs.declared.text.Style.{Style}
 use Rattle.headers.specs.declared.text.Field.{Field}
 use Rattle.headers.specs.declared.text.Field.TheVariants.{Name, Value}
-use Rattle.headers.proofs.Rows.{cond_case, and_left, and_right, and_no, and_yes, or_no, refuted, every_drop}
+use Rattle.headers.proofs.Rows.{cond_case, and_left, and_right, and_no, and_yes, and_false, or_no, or_false_left, or_false_right, refuted, every_drop}
 use Rattle.headers.proofs.Reading.{styled, each_half, missing_high, second_high, tail_high, letter_ascii, high_text, text_is, is_text_text}
 
 -- ---- the table of escapes: each letter is that of its octet, and each octet that of its letter
@@ -80,6 +81,11 @@ contrary : (a b : Bool) → (a ≡ true → b ≡ true) → b ≡ false → a �
 contrary true b h k = let z : ◌≡◌ {A = ℕ} 0 1 = cc (h refl) in absurd (omega arith)
 contrary false b h k = refl
 
+-- an octet that no escape stands for has itself for its letter
+other_none : (key to : Escape → ℕ) (x : ℕ) (es : List Escape) → any (λ e. eqb x (key e)) es ≡ false → other_half key to x es ≡ x
+other_none key to x [] h = refl
+other_none key to x (e ∷ es) h = rw (or_false_left (eqb x (key e)) _ h) (other_none key to x es (or_false_right (eqb x (key e)) _ h))
+
 -- the other half, where the escape of 13 is picked by a test
 pub half_is :
     (key to : Escape → ℕ) (s : Style) (x : ℕ)
@@ -104,6 +110,11 @@ escaped_by s x = ap (s.escapes &&◌) (by s.crlf)
         → eqb x (cond c 13 10) || (eqb x 10 || (eqb x 58 || eqb x 92)) ≡ any (λ k. eqb x k.octet) (escape_table (styled s.escapes c))
     by true = rw (or_no (eqb x 92))
     by false = rw (or_no (eqb x 92)) (again (eqb x 10) (eqb x 58 || eqb x 92))
+
+pub letter_last : (s : Style) (x : ℕ) → s.escapes ≡ true → letter_of s x ≡ cond (escaped s x) (letter_of s x) x
+letter_last s x on =
+    cond_case (λ u. letter_of s x ≡ u) (escaped s x) (λ h. refl)
+    (λ h. other_none (λ e. e.octet) (λ e. e.letter) x (escape_table s) (and_false s.escapes _ h on))
 
 -- ---- one step of decoding
 

@@ -143,6 +143,37 @@ fn front<Q: OctetTest, T: OctetTest>(s: &[u8], quick: Q, test: T) -> usize
     i
 }
 
+// How many octets at the front of s pass a test, one by one.
+fn each_front<T: OctetTest>(s: &[u8], test: T) -> usize
+    ensures { result ≡ span (T.test test) s.now }
+{
+    for i in 0..s.len() {
+        if !test.passes(s[i]) {
+            return i;
+        }
+    }
+    s.len()
+}
+
+// The same, found by blocks with the test itself: a block with an octet that does not pass gives its place at once, and what is left
+// behind the last is less than a block.
+fn exact_front<T: OctetTest>(s: &[u8], test: T) -> usize
+    ensures { result ≡ span (T.test test) s.now }
+{
+    let mut i = 0usize;
+    // A cursor: its step is what the blocks pass.
+    while 32 <= s.len() - i {
+        let e = i + 32;
+        let k = usize::from(first_stop(&s[i..e], test));
+        i += k;
+        if k < 32 {
+            return i;
+        }
+        i += whole_blocks(&s[i..], test);
+    }
+    i + each_front(&s[i..], test)
+}
+
 // Whether calm octets are none of the stops, which have every octet up to 255.
 fn is_usual(stops: Stops) -> bool
     ensures { result ≡ true → (x : ℕ) → calm 255 x ≡ true → plain_in stops x ≡ true }
@@ -160,7 +191,7 @@ pub fn plain_span(s: &[u8], stops: Stops) -> usize
     if is_usual(stops) {
         return front(s, Calm { top: 255 }, stops);
     }
-    front(s, stops, stops)
+    exact_front(s, stops)
 }
 
 // How far the stretch without a backslash at the front of s goes: exactly to the first backslash, or to the end. Between two escapes
@@ -174,5 +205,5 @@ pub fn stretch(s: &[u8]) -> usize
             return i;
         }
     }
-    e + front(&s[e..], NotBack, NotBack)
+    e + exact_front(&s[e..], NotBack)
 }

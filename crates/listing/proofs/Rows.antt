@@ -13,8 +13,9 @@ use Rattle.headers.specs.Numbers.{shortest}
 use Rattle.headers.specs.Answers.{left_in, decimal_answer}
 use borrow.Rule.Slice.PartMut.{mid_of, put_mid}
 use Rattle.headers.proofs.Put.{store_grow, put_grow}
+use Rattle.headers.proofs.Rows.{cond_case}
 use Rattle.headers.proofs.Settling.{decimal_put}
-use Rattle.listing.specs.Lines.{numbers, behind_at}
+use Rattle.listing.specs.Lines.{numbers, behind_at, line_used, line_left}
 
 -- a row of numbers, one number on
 numbers_cons : (n : ℕ) (ms : List ℕ) → numbers (n ∷ ms) ≡ (shortest n ++ (cond (ltb 0 (length ms)) 32 10 ∷ [])) ++ numbers ms
@@ -39,6 +40,12 @@ pub decimal_behind : (d d' : List ℕ) (n : ℕ) → length (shortest n) < lengt
     → (k x : ℕ) → k ≡ length (shortest n) → set d' k x ≡ (shortest n ++ (x ∷ [])) ++ drop (k + 1) d
 decimal_behind d d' n fits w k x e =
     store_grow d d' (shortest n) k x (decimal_put d d' n (omega arith) w ∙ ap (λ z. shortest n ++ drop z d) (sym e)) (sym e) (omega arith)
+
+-- a line that is written has room
+pub line_fits : (d d' l : List ℕ) → d' ≡ line_left d l → length d' ≡ length d → line_used (length d) l ≤ length d
+line_fits d d' l e same =
+    cond_case (λ k. k ≤ length d) (ltb (length d) 160) (λ h. omega arith)
+    λ h. let z : line_left d l ≡ l ++ drop (length l) d = rw h refl in omega (arith, ap length (e ∙ z), length-append l (drop (length l) d))
 
 -- S written at the front of d, and R by a callee behind it
 pub put_both : (d l ys S R : List ℕ) (k r : ℕ) → k ≡ length S → r ≡ length R → l ≡ S ++ drop k d → length ys ≡ length (mid_of k (length l - k) l) → k ≤ length d

@@ -1,10 +1,12 @@
 -- The lines of a listing (document 01, "Checked examples", its last paragraphs). Assumes nothing.
-use Rattle.std.specs.Prelude.{Bool, cond, List, [], ◌∷◌, ◌++◌, ℕ, ◌+◌, length, drop, eqb, ltb}
+use Rattle.std.specs.Prelude.{Bool, cond, List, [], ◌∷◌, ◌++◌, ℕ, ◌+◌, length, drop, eqb, ltb, Option as Maybe, Some, None, Result, Ok, Err}
 use Rattle.headers.specs.Rows.{octets_of}
 use Rattle.headers.specs.Numbers.{shortest}
 use Rattle.frames.specs.Replies.{Reply, Complete, Incomplete, Invalid}
 use Rattle.frames.specs.declared.parse.Item.{Item}
 use Rattle.frames.specs.declared.parse.Item.TheVariants.{HeartBeat, Frame}
+use Rattle.frames.specs.Answers.{item_says}
+use Rattle.listing.specs.declared.line.Refused.{Refused}
 
 -- numbers in decimal, a blank between two, a line end behind the last
 abbrev pub numbers : List ℕ → List ℕ
@@ -46,6 +48,12 @@ line_behind (Invalid number offset) nothing_left = refused ++ numbers (number �
 abbrev pub item_behind : Item → List ℕ
 item_behind (HeartBeat n) = beat ++ numbers (n ∷ [])
 item_behind (Frame f) = frame ++ numbers (f.command ∷ f.len ∷ f.headers ∷ f.body ∷ f.body_len ∷ [])
+
+-- the reply that a line tells of
+abbrev pub reply_says : Result (Maybe Item) Refused → Reply
+reply_says (Ok (Some i)) = item_says i
+reply_says (Ok None) = Incomplete
+reply_says (Err r) = Invalid r.number r.offset
 
 unfoldable pub line_of : ℕ → Reply → Bool → List ℕ
 line_of start r nothing_left = shortest start ++ (32 ∷ line_behind r nothing_left)

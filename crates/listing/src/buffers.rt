@@ -1,12 +1,12 @@
 // The buffers that a stream passes through: what was read of it, and what is laid out to be written.
-ghost use Rattle.std.specs.Prelude.{◌≡◌, ◌+◌, ◌-◌, ◌≤◌, length, take, slice_range, OnOk};
+ghost use Rattle.std.specs.Prelude.{◌≡◌, false, [], ◌∷◌, ◌++◌, ◌+◌, ◌-◌, ◌≤◌, length, take, slice_range, OnOk};
 ghost use Rattle.std.specs.Io.KnownBytes.{Consumes, Appends};
 ghost use Rattle.frames.specs.Parsing.{parsed};
 ghost use Rattle.frames.specs.Replies.{used_of};
 ghost use Rattle.frames.specs.Answers.{parsed_says};
 
 use crate::calls::read_full;
-use crate::line::{put_line, put_number, put_word};
+use crate::line::{Refused, put_line, put_number, put_word};
 use frames::parse::{Item, Refusal};
 use frames::version::Version;
 use std::io;
@@ -28,7 +28,9 @@ pub(crate) struct Input {
 
 impl Input {
     // Before the first octet.
-    pub(crate) fn new() -> Input {
+    pub(crate) fn new() -> Input
+        ensures { (result.lo ≡ 0) × (result.hi ≡ 0) × (result.ended ≡ false) }
+    {
         Input {
             octets: [0; SIZE],
             lo: 0,
@@ -88,8 +90,14 @@ pub(crate) struct Output {
 }
 
 impl Output {
+    ghost use Rattle.headers.specs.Numbers.{shortest};
+    ghost use Rattle.listing.specs.Lines.{reply_says, line_of};
+    ghost use Rattle.listing.specs.Buffers.{Lays, line_in};
+
     // Nothing is laid out.
-    pub(crate) fn new() -> Output {
+    pub(crate) fn new() -> Output
+        ensures { result.used ≡ 0 }
+    {
         Output {
             octets: [0; SIZE],
             used: 0,
@@ -117,16 +125,18 @@ impl Output {
     pub(crate) fn lay_line(
         &mut self,
         start: u64,
-        reply: Result<Option<Item>, Refusal>,
+        reply: Result<Option<Item>, Refused>,
         nothing_left: bool,
-    ) {
+    )
+        ensures { Lays (line_in (65536 - self.old.used) (line_of start (reply_says reply) nothing_left)) self.old self.new }
+    {
         self.used += put_line(&mut self.octets[self.used..], start, reply, nothing_left);
     }
 
     // A word is laid out.
     pub(crate) fn lay_word(&mut self, word: &[u8])
         requires { self.old.used + length word.now ≤ 65536 }
-        ensures { self.new.used ≡ self.old.used + length word.now }
+        ensures { Lays word.now self.old self.new }
     {
         self.used += put_word(&mut self.octets[self.used..], word);
     }
@@ -134,7 +144,8 @@ impl Output {
     // A number is laid out, and an octet behind it.
     pub(crate) fn lay_number(&mut self, n: u64, behind: u8)
         requires { self.old.used + 21 ≤ 65536 }
-        ensures { self.new.used ≤ self.old.used + 21 }
+        ensures row { Lays (shortest n ++ (behind ∷ [])) self.old self.new }
+        ensures most { self.new.used ≤ self.old.used + 21 }
     {
         self.used += put_number(&mut self.octets[self.used..], n, behind);
     }

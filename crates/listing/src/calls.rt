@@ -1,6 +1,7 @@
 // Calls that programs read: numbers of four octets, high first, and rows of octets.
-ghost use Rattle.std.specs.Prelude.{◌≡◌, true, false, ◌+◌, ◌*◌, ◌≤◌, ◌<◌, min, length, get_or, take, IfOk, IfSome, IsNone};
+ghost use Rattle.std.specs.Prelude.{◌≡◌, true, false, ◌+◌, ◌*◌, ◌≤◌, ◌<◌, min, length, get_or, take, Ok, Err, IfOk, IfSome, IsNone};
 ghost use Rattle.std.specs.Io.KnownBytes.{Consumes, IsAtEnd};
+ghost use Rattle.listing.specs.declared.calls.CallError.{CallError};
 
 use std::io;
 use std::io::Read;
@@ -65,6 +66,8 @@ pub enum CallError {
 }
 
 impl From<io::Error> for CallError {
+    ghost from_gives = { λ e r. r ≡ CallError.Io e };
+
     fn from(e: io::Error) -> CallError {
         CallError::Io(e)
     }
@@ -124,7 +127,10 @@ pub fn each_call<R: Read, F: FnMut(&mut R) -> Result<bool, CallError>>(
 }
 
 // Tells on standard error why no call more is made; a reading or a writing that failed is the answer.
-pub fn tell(rt: &impl Eprint, program: &str, made: Result<(), CallError>) -> io::Result<()> {
+pub fn tell(rt: &impl Eprint, program: &str, made: Result<(), CallError>) -> io::Result<()>
+    ensures whole { made ≡ Ok tt → result ≡ Ok tt }
+    ensures failed { (e : _) → made ≡ Err (CallError.Io e) → result ≡ Err e }
+{
     match made {
         Ok(()) => Ok(()),
         Err(CallError::Cut) => eprintln!(rt; "{program}: a call is cut"),

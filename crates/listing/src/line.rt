@@ -1,10 +1,30 @@
 // One line of a listing. It is put into a slice by hand: its octets are promised, and no clause says which ones write! would put there.
 ghost use Rattle.std.specs.Prelude.{◌≡◌, [], ◌∷◌, ◌++◌, ◌+◌, ◌*◌, ◌≤◌, ◌<◌, length, drop};
 ghost use Rattle.headers.specs.Numbers.{shortest};
-ghost use Rattle.frames.specs.Answers.{parsed_says};
-ghost use Rattle.listing.specs.Lines.{numbers, behind_at, item_behind, line_behind, line_of, line_used, line_left};
+ghost use Rattle.listing.specs.Lines.{numbers, behind_at, item_behind, reply_says, line_behind, line_of, line_used, line_left};
 
 use frames::parse::{Item, Refusal};
+
+// Why there is no item, as a line tells it: a number, of any table, and the first octet that no item can have there.
+#[derive(Clone, Copy)]
+pub struct Refused {
+    pub number: u32,
+    pub offset: usize,
+}
+
+impl From<Refusal> for Refused {
+    ghost use Rattle.frames.specs.Refusals.{numbered};
+    ghost use Rattle.frames.specs.Answers.{row_of};
+
+    ghost from_gives = { λ r told. (told.number ≡ numbered (row_of r.reason)) × (told.offset ≡ r.offset) };
+
+    fn from(r: Refusal) -> Refused {
+        Refused {
+            number: r.reason.number(),
+            offset: r.offset,
+        }
+    }
+}
 
 // A number and an octet behind it, at the front of d.
 pub(crate) fn put_number(d: &mut [u8], n: u64, behind: u8) -> usize
@@ -57,15 +77,15 @@ fn put_row(d: &mut [u8], w: &[u8], ns: &[u64]) -> usize
 }
 
 // What stands behind an item's start, at the front of d.
-fn put_reply(d: &mut [u8], p: Result<Option<Item>, Refusal>, nothing_left: bool) -> usize
+fn put_reply(d: &mut [u8], p: Result<Option<Item>, Refused>, nothing_left: bool) -> usize
     requires { 128 ≤ length d.old }
-    ensures { (result ≡ length (line_behind (parsed_says p) nothing_left)) × (d.new ≡ line_behind (parsed_says p) nothing_left ++ drop result d.old) }
+    ensures { (result ≡ length (line_behind (reply_says p) nothing_left)) × (d.new ≡ line_behind (reply_says p) nothing_left ++ drop result d.old) }
 {
     match p {
         Ok(Some(i)) => put_item(d, i),
         Ok(None) => put_word(d, if nothing_left { b"end\n" } else { b"more\n" }),
         Err(r) => {
-            let ns = [u64::from(r.reason.number()), r.offset as u64];
+            let ns = [u64::from(r.number), r.offset as u64];
             put_row(d, b"refused ", &ns)
         }
     }
@@ -91,16 +111,16 @@ fn put_item(d: &mut [u8], i: Item) -> usize
     }
 }
 
-// The line of a reply, at the front of d: its length, or 0 where d has fewer than 160 octets and stays as it was; line_used and line_left,
-// in the clause, say both.
+// The line of a reply, whatever number refuses it, at the front of d: its length, or 0 where d has fewer than 160 octets and stays as it
+// was; line_used and line_left, in the clause, say both.
 pub fn put_line(
     d: &mut [u8],
     start: u64,
-    p: Result<Option<Item>, Refusal>,
+    p: Result<Option<Item>, Refused>,
     nothing_left: bool,
 ) -> usize
-    ensures { (result ≡ line_used (length d.old) (line_of start (parsed_says p) nothing_left))
-        × (d.new ≡ line_left d.old (line_of start (parsed_says p) nothing_left)) }
+    ensures { (result ≡ line_used (length d.old) (line_of start (reply_says p) nothing_left))
+        × (d.new ≡ line_left d.old (line_of start (reply_says p) nothing_left)) }
 {
     if d.len() < 160 {
         return 0;

@@ -1,9 +1,11 @@
 // The replay of a client's stream: its items drive one session, and each gets a line with the session's answer. The stream goes through
 // the stream parser, which is told the protocol version that the opening frame chose. Where the stream is the log of both sides, a MESSAGE
 // is one that the server sent: it is recorded as a delivery.
-ghost use Rattle.std.specs.Prelude.{◌≡◌, ◌+◌, ◌≤◌};
+ghost use Rattle.std.specs.Prelude.{◌≡◌, ◌+◌, ◌≤◌, IfOk};
+ghost use Rattle.listing.specs.Buffers.{LaysAtMost, first_value_in};
 
 use crate::buffers::{Input, Output, SIZE};
+use crate::line::Refused as Told;
 use crate::stream::{Place, Stage};
 use frames::decode::{DecodeError, decode};
 use frames::limits::FRAME;
@@ -62,18 +64,24 @@ pub enum ReplayError {
 }
 
 impl From<io::Error> for ReplayError {
+    ghost use Rattle.listing.specs.declared.replay.ReplayError.{ReplayError};
+
+    ghost from_gives = { λ e r. r ≡ ReplayError.Io e };
+
     fn from(e: io::Error) -> ReplayError {
         ReplayError::Io(e)
     }
 }
 
 // The first value of a header, or nothing.
-fn first_value<'a>(block: &'a [u8], name: &[u8]) -> &'a [u8] {
-    let Ok(Some(p)) = headers::find(block, name) else {
-        return &[];
-    };
-    let rest = block.get(p.start..).unwrap_or(&[]);
-    rest.get(..p.len).unwrap_or(&[])
+fn first_value<'a>(block: &'a [u8], name: &[u8]) -> &'a [u8]
+    ensures { result.now ≡ first_value_in block.now name.now }
+{
+    match headers::find(block, name) {
+        Ok(Some(p)) => &block[p.start..p.start + p.len],
+        Ok(None) => &[],
+        Err(_) => &[],
+    }
 }
 
 // A MESSAGE that the server sent: a delivery for its subscription, named by its message-id in version 1.1, by its ack in 1.2.
@@ -99,7 +107,7 @@ fn is_opening(item: Item) -> bool {
 // and takes at most, and no clause would say that of write!.
 fn lay_start(lines: &mut Output, start: u64, item: Item)
     requires { lines.old.used + 48 ≤ 65536 }
-    ensures { lines.new.used ≤ lines.old.used + 48 }
+    ensures { LaysAtMost 48 lines.old lines.new }
 {
     lines.lay_number(start, b' ');
     let Item::Frame(frame) = item else {
@@ -112,7 +120,7 @@ fn lay_start(lines: &mut Output, start: u64, item: Item)
 // What an opening came to: the highest shared version, and how often each side is heard.
 fn lay_opened(lines: &mut Output, session: &Session)
     requires { lines.old.used + 106 ≤ 65536 }
-    ensures { lines.new.used ≤ lines.old.used + 106 }
+    ensures { LaysAtMost 106 lines.old lines.new }
 {
     let version = session.highest_shared();
     lines.lay_word(b"version ");
@@ -127,7 +135,7 @@ fn lay_opened(lines: &mut Output, session: &Session)
 // How many later entries follow the first destination, id and transaction, and an octet after that; only the octet where none do.
 fn lay_overwritten(lines: &mut Output, a: Acceptance, behind: u8)
     requires { lines.old.used + 76 ≤ 65536 }
-    ensures { lines.new.used ≤ lines.old.used + 76 }
+    ensures { LaysAtMost 76 lines.old lines.new }
 {
     if a.later_destinations == 0 && a.later_ids == 0 && a.later_transactions == 0 {
         return lines.lay_word(&[behind]);
@@ -138,15 +146,23 @@ fn lay_overwritten(lines: &mut Output, a: Acceptance, behind: u8)
     lines.lay_number(a.later_transactions as u64, behind);
 }
 
+// That a receipt is owed, or nothing.
+fn lay_receipt(lines: &mut Output, receipt: bool)
+    requires { lines.old.used + 8 ≤ 65536 }
+    ensures { LaysAtMost 8 lines.old lines.new }
+{
+    if receipt {
+        lines.lay_word(b" receipt");
+    }
+}
+
 // That an item was accepted, to the line's end.
 fn lay_accepted(lines: &mut Output, a: Acceptance, opening: bool, session: &Session)
     requires { lines.old.used + 198 ≤ 65536 }
-    ensures { lines.new.used ≤ lines.old.used + 198 }
+    ensures { LaysAtMost 198 lines.old lines.new }
 {
     lines.lay_word(b"accepted");
-    if a.receipt {
-        lines.lay_word(b" receipt");
-    }
+    lay_receipt(lines, a.receipt);
     if !opening {
         return lay_overwritten(lines, a, b'\n');
     }
@@ -163,7 +179,7 @@ fn lay_turn(
     session: &Session,
 )
     requires { lines.old.used + 246 ≤ 65536 }
-    ensures { lines.new.used ≤ lines.old.used + 246 }
+    ensures { LaysAtMost 246 lines.old lines.new }
 {
     lay_start(lines, start, item);
     match came_to {
@@ -193,9 +209,18 @@ struct Replaying {
 }
 
 impl Replaying {
+    ghost use Rattle.std.specs.Prelude.{◌-◌, false};
+    ghost use Rattle.frames.specs.Replies.{Invalid};
+    ghost use Rattle.frames.specs.Answers.{feed_number};
+    ghost use Rattle.listing.specs.Lines.{line_of};
+    ghost use Rattle.listing.specs.Buffers.{Lays, line_in};
+
     // What the stream parser makes of the octets that are held; those that it takes are done with.
     fn read(&mut self) -> Result<Taken, FeedError>
-        ensures { self.new.lines ≡ self.old.lines }
+        ensures lines { self.new.lines ≡ self.old.lines }
+        ensures place { self.new.place ≡ self.old.place }
+        ensures taken { IfOk result (λ t. self.new.input.lo ≡ self.old.input.lo + t.octets) }
+        ensures read { (self.new.input.hi ≡ self.old.input.hi) × (self.new.input.octets ≡ self.old.input.octets) }
     {
         let step = frames::stream::feed(self.parser, &mut self.buffer, self.input.held());
         self.parser = step.parser;
@@ -206,7 +231,9 @@ impl Replaying {
 
     // The item at the front of the buffer given to the session, or the refusal of a frame whose block was not decoded.
     fn give(&mut self, item: Item) -> Result<Done, Refused>
-        ensures { self.new.lines ≡ self.old.lines }
+        ensures lines { self.new.lines ≡ self.old.lines }
+        ensures input { self.new.input ≡ self.old.input }
+        ensures place { self.new.place ≡ self.old.place }
     {
         let Item::Frame(frame) = item else {
             return Ok(Done::Accepted(heart_beat_in_place(&mut self.session, 0)?));
@@ -222,7 +249,11 @@ impl Replaying {
     }
 
     // The items after one that opened the session are read by the version that it chose: the stream parser is told.
-    fn choose(&mut self) {
+    fn choose(&mut self)
+        ensures lines { self.new.lines ≡ self.old.lines }
+        ensures input { self.new.input ≡ self.old.input }
+        ensures place { self.new.place ≡ self.old.place }
+    {
         self.version = if self.session.highest_shared() == 11 {
             Version::V11
         } else {
@@ -236,6 +267,8 @@ impl Replaying {
     // One item more, which is at the front of the buffer.
     fn item(&mut self, item: Item)
         requires { self.old.lines.used + 246 ≤ 65536 }
+        ensures lines { LaysAtMost 246 self.old.lines self.new.lines }
+        ensures input { self.new.input ≡ self.old.input }
     {
         let came_to = self.give(item);
         lay_turn(
@@ -264,20 +297,21 @@ impl Replaying {
             return self.input.refill(reader);
         }
         let nothing_left = self.parser.scan.at == 0;
-        self.lines
-            .lay_line(self.place.start, taken.reply, nothing_left);
+        let told = taken.reply.map_err(Told::from);
+        self.lines.lay_line(self.place.start, told, nothing_left);
         self.place.stage = Stage::Whole;
         Ok(())
     }
 
     // The call of the stream parser is refused: that is the last line.
     fn stop(&mut self, e: FeedError)
-        requires { self.old.lines.used + 246 ≤ 65536 }
+        ensures { Lays (line_in (65536 - self.old.lines.used) (line_of self.old.place.start (Invalid (feed_number e) 0) false)) self.old.lines self.new.lines }
     {
-        self.lines.lay_number(self.place.start, b' ');
-        self.lines.lay_word(b"refused ");
-        self.lines.lay_number(u64::from(e.number()), b' ');
-        self.lines.lay_number(0, b'\n');
+        let told = Told {
+            number: e.number(),
+            offset: 0,
+        };
+        self.lines.lay_line(self.place.start, Err(told), false);
         self.place.stage = Stage::Whole;
     }
 

@@ -2,8 +2,10 @@
 ghost use Rattle.std.specs.Prelude.{◌≡◌, ◌+◌, ◌≤◌, length, IfOk};
 ghost use Rattle.frames.specs.Replies.{used_of};
 ghost use Rattle.frames.specs.Answers.{item_says};
+ghost use Rattle.listing.specs.Buffers.{LaysAtMost};
 
 use crate::buffers::{Input, Output, SIZE};
+use crate::line::Refused;
 use crate::stream::{Place, Stage, StreamError};
 use frames::decode::{DecodeError, decode};
 use frames::encode::{EncodeError, encode};
@@ -85,7 +87,7 @@ fn complain<E: Write>(
     reply: Result<Option<Item>, Refusal>,
 ) -> io::Result<()> {
     let mut text = [0u8; 4096];
-    let n = crate::line::put_line(&mut text, start, reply, false);
+    let n = crate::line::put_line(&mut text, start, reply.map_err(Refused::from), false);
     errors.write_all(b"rewrite: ")?;
     errors.write_all(&text[..n])
 }
@@ -106,7 +108,9 @@ impl Rewriting {
     fn lay(&mut self, item: Item) -> Result<(), Unwritten>
         requires within { self.old.input.lo + used_of (item_says item) ≤ self.old.input.hi }
         requires room { self.old.image.used + 1 ≤ 65536 }
-        ensures { self.new.input ≡ self.old.input }
+        ensures input { self.new.input ≡ self.old.input }
+        ensures place { self.new.place ≡ self.old.place }
+        ensures image { LaysAtMost 65536 self.old.image self.new.image }
     {
         let Item::Frame(frame) = item else {
             self.image.lay_word(b"\n");
@@ -128,6 +132,7 @@ impl Rewriting {
     ) -> io::Result<()>
         requires within { self.old.input.lo + used_of (item_says item) ≤ self.old.input.hi }
         requires room { self.old.image.used + 1 ≤ 65536 }
+        ensures { (self.old.input.lo ≤ self.new.input.lo) × (self.new.input.hi ≡ self.old.input.hi) }
     {
         if let Err(e) = self.lay(item) {
             self.image.flush(writer)?;
@@ -147,7 +152,9 @@ impl Rewriting {
         reader: &mut R,
         errors: &mut E,
         reply: Result<Option<Item>, Refusal>,
-    ) -> io::Result<()> {
+    ) -> io::Result<()>
+        ensures { self.new.image ≡ self.old.image }
+    {
         if matches!(reply, Ok(None)) {
             if !self.input.ended {
                 return self.input.refill(reader);

@@ -4,6 +4,7 @@ ghost use Rattle.frames.specs.Replies.{used_of};
 ghost use Rattle.frames.specs.Answers.{parsed_says};
 
 use crate::buffers::{Input, Output};
+use crate::line::Refused;
 use frames::version::Version;
 use std::io;
 use std::io::{Read, Write};
@@ -24,6 +25,10 @@ pub enum StreamError {
 }
 
 impl From<io::Error> for StreamError {
+    ghost use Rattle.listing.specs.declared.stream.StreamError.{StreamError};
+
+    ghost from_gives = { λ e r. r ≡ StreamError.Io e };
+
     fn from(e: io::Error) -> StreamError {
         StreamError::Io(e)
     }
@@ -73,7 +78,8 @@ impl Listing {
             return self.input.refill(reader);
         }
         let nothing_left = self.input.held().is_empty();
-        self.lines.lay_line(self.place.start, reply, nothing_left);
+        let told = reply.map_err(Refused::from);
+        self.lines.lay_line(self.place.start, told, nothing_left);
         match reply {
             Ok(Some(item)) => {
                 self.input.pass(item.len());

@@ -8,11 +8,12 @@ use mathlib.Core.Path.{◌≡◌, refl, sym, ap, ap₂, subst, ◌∙◌}
 use mathlib.Core.Bool.{Bool, true, false, cond, ◌||◌, not, true≢false}
 use mathlib.Core.Option.{Option, none, some}
 use mathlib.Core.List.{List, [], ◌∷◌, ◌++◌, map, append_assoc}
-use Prim.Native.Nat.{ℕ, ◌+◌, ◌-◌, ◌*◌, ◌≤◌, ◌<◌}
+use Prim.Native.Nat.{ℕ, ◌+◌, ◌-◌, ◌*◌, ◌/◌, ◌%◌, ◌≤◌, ◌<◌}
 use native.Mathlib.Omega.{arith}
 use lib.ListN.{length, take, drop, get_or, set, replicate, length-take, length-drop, take-append-drop}
 use lib.Seq.{take_at, take-take, take-add, drop-drop, length-take-le}
 use lib.Dec.{eqb}
+use borrow.Author.Tests.{le-ltb, lt-ltb, ne_eqb}
 use borrow.Rule.Slice.PartMut.{put_mid, mid_of, put_same}
 use Rattle.headers.specs.Rows.{every}
 use Rattle.headers.specs.Answers.{Answer, accepted, refused, settle}
@@ -28,7 +29,7 @@ use Rattle.registry.specs.Calls.{Call, open_run, close_run, publish, ask, end_se
 use Rattle.stores.specs.Compaction.{joined}
 use Rattle.registry.specs.Records.{parts, text_field, port_size, port_record, run_record, registry_record, port_in, run_in, runs_in, is_valid, answer_to, next, text_start}
 use Rattle.registry.specs.Tests.{is_named, Rows, row_of, row_without}
-use Rattle.registry.specs.Answers.{number_of, done_says, asked_says, Bounded, StartsAt, packed_ask, asked_number}
+use Rattle.registry.specs.Answers.{number_of, done_says, asked_says, Bounded, StartsAt, packed_ask, asked_number, asked_read}
 use Rattle.registry.specs.Steps.{admitted, Slots, slots_at, slot_checks, GivesPublished, GivesPort, Text, rows_without, run_octets_without, Movable, moved_by}
 use Rattle.registry.specs.declared.refusals.Refusal.{Refusal}
 use Rattle.registry.specs.declared.refusals.Refusal.TheVariants.{InvalidRecord, BadSize, NotOpen, OtherSession, NoPlace, AlreadyOpen, FourOpen}
@@ -556,6 +557,17 @@ ask_refused xs {A} start e r h a =
     subst (λ z. (asked_says xs z ≡ A) × StartsAt xs start z × Bounded z) (sym (passed_on r e h)) (a, tt, small_number e)
 
 -- ---- the number that C gets says the answer and where the text begins
+
+pub asked_back : (xs : List ℕ) (q : Result (CodeOption Span) Refusal) → Bounded q → asked_read xs (asked_number q) ≡ asked_says xs q
+asked_back xs (Ok (Some p)) (some_text, inside) =
+    let len : (p.len * 65536 + p.start) / 65536 ≡ p.len = omega arith in
+    let start : (p.len * 65536 + p.start) % 65536 ≡ p.start = omega arith in
+    ap (λ t. cond t (cond (eqb (p.len * 65536 + p.start) 0) (accepted []) (refused (p.len * 65536 + p.start)))
+    (accepted (take ((p.len * 65536 + p.start) / 65536) (drop ((p.len * 65536 + p.start) % 65536) xs))))
+    (le-ltb (p.len * 65536 + p.start) 65536 (omega arith))
+    ∙ ap₂ (λ a b. accepted (take a (drop b xs))) len start
+asked_back xs (Ok None) b = refl
+asked_back xs (Err e) (Some_number, small) = rw (lt-ltb (number_of e) 65536 (omega arith), ne_eqb (number_of e) 0 (λ k. omega arith))
 
 pub asked_packed : (xs : List ℕ) (start : ℕ) (q : Result (CodeOption Span) Refusal) → Bounded q → StartsAt xs start q → asked_number q ≡ packed_ask (asked_says xs q) start
 asked_packed xs start (Ok (Some p)) (some_text, inside) (at, room) =

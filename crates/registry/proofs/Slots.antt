@@ -11,7 +11,7 @@ use Prim.Native.Nat.{ℕ, suc, ◌+◌}
 use native.Mathlib.Omega.{arith}
 use lib.ListN.{length}
 use borrow.Author.Tests.{not-true}
-use Rattle.headers.specs.Rows.{every, same}
+use Rattle.headers.specs.Rows.{every, any, same}
 use Rattle.headers.proofs.Rows.{cond_case, and_left, and_right, or_false_left, or_false_right, same_eq, same_self, same_apart}
 use Rattle.stores.specs.Searches.{first_from, replaced}
 use Rattle.registry.specs.Slots.{is_free, holds, has_free, has, found, place, distinct}
@@ -261,3 +261,7 @@ module _ {A : Type 0} (name : A → List ℕ) where
             ap₂ (λ t u. not t && u)
             (has_map f nothing keeps (name b) slots ∙ ap (λ z. has name z slots) (sym one) ∙ first_alone a (name a) slots d (same_self (name a)))
             go
+
+    pub nothing_free : (slots : List (Option A)) → has_free (map f slots) ≡ any (λ s. is_free (f s)) slots
+    nothing_free [] = refl
+    nothing_free (s ∷ slots) = ap (is_free (f s) ||◌) (nothing_free slots)

@@ -6,9 +6,9 @@
 // it was before the call, or set, or ` changed`, a line end, the record and a line end.
 #![tactic(auto)]
 
-ghost use Rattle.std.specs.Prelude.{◌≤◌, length};
+ghost use Rattle.std.specs.Prelude.{◌≤◌};
 
-use listing::calls::{CallError, each_call, number_at, read_head, read_rest, read_text, tell};
+use listing::calls::{CallError, each_call, number_at, read_full, read_text, tell};
 use registry::Refusal;
 use registry::exports::{
     stomp_registry_ask, stomp_registry_close, stomp_registry_end, stomp_registry_open,
@@ -52,29 +52,9 @@ struct Record {
     ghost held: { size ≤ 65536 },
 }
 
-impl Record {
-    // That of an empty registry.
-    fn empty() -> Record {
-        Record {
-            octets: [0; 65536],
-            size: 3524,
-        }
-    }
-
-    // That which octets become.
-    fn of(text: &[u8]) -> Record
-        requires { length text.now ≤ 65536 }
-    {
-        let size = text.len();
-        let mut octets = [0u8; 65536];
-        octets[..size].copy_from_slice(text);
-        Record { octets, size }
-    }
-}
-
 // The session of a call.
-fn session_of(head: &[u8; 20]) -> u64 {
-    u64::from(number_at(head, 0)) * 4294967296 + u64::from(number_at(head, 4))
+fn session_of(head: &[u8; 21]) -> u64 {
+    u64::from(number_at(head, 1)) * 4294967296 + u64::from(number_at(head, 5))
 }
 
 // What setting the record answers.
@@ -96,26 +76,26 @@ fn show<W: Write>(output: &mut W, answer: u64, before: &[u8], after: &[u8]) -> i
     output.write_all(b"\n")
 }
 
-// Reads a call on a record and answers it: whether there is one.
-fn call<R: Read, W: Write>(
+// Reads the texts of a call on a record, whose kind and head are read, and answers it. Its buffers stand before any reading: behind one,
+// which may fail, they would be cleared twice.
+fn answer<R: Read, W: Write>(
     input: &mut R,
     output: &mut W,
     record: &mut Record,
-) -> Result<bool, CallError> {
-    let Some(first) = read_head::<1, R>(input)? else {
-        return Ok(false);
-    };
-    let head = read_rest::<20, R>(input)?;
-    let kind = Kind::try_from(first[0])?;
+    kind: Kind,
+    head: &[u8; 21],
+) -> Result<(), CallError> {
     let mut run = [0u8; 65536];
     let mut destination = [0u8; 65536];
     let mut text = [0u8; 65536];
-    let run = read_text(input, &mut run, number_at(&head, 8))?;
-    let destination = read_text(input, &mut destination, number_at(&head, 12))?;
-    let text = read_text(input, &mut text, number_at(&head, 16))?;
-    let session = session_of(&head);
+    let run = read_text(input, &mut run, number_at(head, 9))?;
+    let destination = read_text(input, &mut destination, number_at(head, 13))?;
+    let text = read_text(input, &mut text, number_at(head, 17))?;
+    let session = session_of(head);
     if let Kind::Set = kind {
-        *record = Record::of(run);
+        let octets = &mut record.octets[..];
+        octets[..run.len()].copy_from_slice(run);
+        record.size = run.len();
     }
     let before = *record;
     let octets = &mut record.octets[..];
@@ -134,12 +114,33 @@ fn call<R: Read, W: Write>(
         &before.octets[..before.size],
         &record.octets[..before.size],
     )?;
+    Ok(())
+}
+
+// Reads a call on a record and answers it: whether there is one.
+fn call<R: Read, W: Write>(
+    input: &mut R,
+    output: &mut W,
+    record: &mut Record,
+) -> Result<bool, CallError> {
+    let mut head = [0u8; 21];
+    match read_full(input, &mut head)? {
+        0 => return Ok(false),
+        21 => {}
+        _ => return Err(CallError::Cut),
+    }
+    let kind = Kind::try_from(head[0])?;
+    answer(input, output, record, kind, &head)?;
     Ok(true)
 }
 
 fn main(rt: HostRuntime) -> io::Result<()> {
     let mut output = rt.stdout();
-    let mut record = Record::empty();
+    // That of an empty registry, made here: a function that gave it would need room for it twice.
+    let mut record = Record {
+        octets: [0; 65536],
+        size: 3524,
+    };
     let made = each_call(&mut rt.stdin(), |input| {
         call(input, &mut output, &mut record)
     });

@@ -68,16 +68,20 @@ fn octets_of(flags: [bool; 3]) -> [u8; 3] {
     [u8::from(flags[0]), u8::from(flags[1]), u8::from(flags[2])]
 }
 
-// All of a record but the ids and the deliveries: 27 octets, numbers with the high octet first.
-fn write_head<W: Write>(output: &mut W, s: &Session) -> io::Result<()> {
-    output.write_all(&[s.phase])?;
-    output.write_all(&s.offers.sends.to_be_bytes())?;
-    output.write_all(&s.offers.wants.to_be_bytes())?;
-    output.write_all(&octets_of(s.offers.versions))?;
-    output.write_all(&octets_of(s.agreed.versions))?;
-    output.write_all(&s.agreed.inbound.to_be_bytes())?;
-    output.write_all(&s.agreed.outbound.to_be_bytes())?;
-    output.write_all(&s.last_heard.to_be_bytes())
+// All of a record but the ids and the deliveries: 27 octets, numbers with the high octet first. They are one row, which is written at once:
+// each writing is a call of the system.
+fn head_of(s: &Session) -> [u8; 27] {
+    let [s1, s2, s3, s4] = s.offers.sends.to_be_bytes();
+    let [w1, w2, w3, w4] = s.offers.wants.to_be_bytes();
+    let [o1, o2, o3] = octets_of(s.offers.versions);
+    let [v1, v2, v3] = octets_of(s.agreed.versions);
+    let [i1, i2, i3, i4] = s.agreed.inbound.to_be_bytes();
+    let [b1, b2, b3, b4] = s.agreed.outbound.to_be_bytes();
+    let [h1, h2, h3, h4] = s.last_heard.to_be_bytes();
+    [
+        s.phase, s1, s2, s3, s4, w1, w2, w3, w4, o1, o2, o3, v1, v2, v3, i1, i2, i3, i4, b1, b2,
+        b3, b4, h1, h2, h3, h4,
+    ]
 }
 
 // The labels, their lengths, the places of their subscriptions, the ack modes and the count: 2,193 octets.
@@ -95,7 +99,7 @@ fn write_deliveries<W: Write>(
 
 // The record, 2,880 octets: after its head the ids of subscriptions and their lengths, 528 octets, and those of transactions, 132.
 fn write_record<W: Write>(output: &mut W, s: &Session) -> io::Result<()> {
-    write_head(output, s)?;
+    output.write_all(&head_of(s))?;
     output.write_all(&s.subscriptions.ids)?;
     output.write_all(&s.subscriptions.lens)?;
     output.write_all(&s.transactions.ids)?;
@@ -182,19 +186,21 @@ fn make<R: Read, W: Write>(
     answered(output, session)
 }
 
-// A frame, given to the session by a call of one kind or the other.
+// A frame, whose head is read, given to the session by a call of one kind or the other. The buffer stands before any reading: behind one,
+// which may fail, it would be cleared twice. Not inlined, nor is `deliver`: calls without a text would need the room of both too.
+#[inline(never)]
 fn frame<R: Read, W: Write, F: FnOnce(Session, u32, &[u8], u32) -> Outcome>(
     input: &mut R,
     output: &mut W,
     session: &mut Session,
+    head: &[u8; 12],
     call: F,
 ) -> Result<(), CallError>
     requires { F.IsAlwaysCallable call }
 {
-    let head = read_rest::<12, R>(input)?;
     let mut block = [0u8; 65536];
-    let block = read_text(input, &mut block, number_at(&head, 8))?;
-    let outcome = call(*session, number_at(&head, 0), block, number_at(&head, 4));
+    let block = read_text(input, &mut block, number_at(head, 8))?;
+    let outcome = call(*session, number_at(head, 0), block, number_at(head, 4));
     *session = outcome.session;
     say_answer(output, outcome.answer)?;
     answered(output, session)
@@ -233,19 +239,20 @@ fn timed_out<R: Read, W: Write, F: FnOnce(Session, u32) -> TimedOutcome>(
 }
 
 // A delivery, likewise.
+#[inline(never)]
 fn deliver<R: Read, W: Write, F: FnOnce(Session, &[u8], &[u8]) -> Recording>(
     input: &mut R,
     output: &mut W,
     session: &mut Session,
+    head: &[u8; 8],
     call: F,
 ) -> Result<(), CallError>
     requires { F.IsAlwaysCallable call }
 {
-    let head = read_rest::<8, R>(input)?;
     let mut subscription = [0u8; 65536];
     let mut label = [0u8; 65536];
-    let subscription = read_text(input, &mut subscription, number_at(&head, 0))?;
-    let label = read_text(input, &mut label, number_at(&head, 4))?;
+    let subscription = read_text(input, &mut subscription, number_at(head, 0))?;
+    let label = read_text(input, &mut label, number_at(head, 4))?;
     let recording = call(*session, subscription, label);
     *session = recording.session;
     say_done(output, recording.answer, b"recorded")?;
@@ -347,9 +354,12 @@ fn call<R: Read, W: Write>(
     };
     match Kind::try_from(first[0])? {
         Kind::Make => make(input, output, session)?,
-        Kind::Frame => frame(input, output, session, |s, command, block, time| {
-            s.frame(command, block, time)
-        })?,
+        Kind::Frame => {
+            let head = read_rest(input)?;
+            frame(input, output, session, &head, |s, command, block, time| {
+                s.frame(command, block, time)
+            })?;
+        }
         Kind::HeartBeat => heart_beat(input, output, session, |s, time| s.heart_beat(time))?,
         Kind::TimedOut => timed_out(
             input,
@@ -361,21 +371,30 @@ fn call<R: Read, W: Write>(
             },
         )?,
         Kind::Set => set(input, output, session)?,
-        Kind::FrameInPlace => frame(input, output, session, |s, command, block, time| {
-            in_place::frame(s, command, block, time)
-        })?,
+        Kind::FrameInPlace => {
+            let head = read_rest(input)?;
+            frame(input, output, session, &head, |s, command, block, time| {
+                in_place::frame(s, command, block, time)
+            })?;
+        }
         Kind::HeartBeatInPlace => heart_beat(input, output, session, |s, time| {
             in_place::heart_beat(s, time)
         })?,
         Kind::TimedOutInPlace => timed_out(input, output, session, |s, time| {
             in_place::timed_out(s, time)
         })?,
-        Kind::Deliver => deliver(input, output, session, |s, subscription, label| {
-            s.deliver(subscription, label)
-        })?,
-        Kind::DeliverInPlace => deliver(input, output, session, |s, subscription, label| {
-            in_place::deliver(s, subscription, label)
-        })?,
+        Kind::Deliver => {
+            let head = read_rest(input)?;
+            deliver(input, output, session, &head, |s, subscription, label| {
+                s.deliver(subscription, label)
+            })?;
+        }
+        Kind::DeliverInPlace => {
+            let head = read_rest(input)?;
+            deliver(input, output, session, &head, |s, subscription, label| {
+                in_place::deliver(s, subscription, label)
+            })?;
+        }
         Kind::Pending => pending(input, output, session)?,
     }
     Ok(true)

@@ -125,6 +125,12 @@ module _ (ver : Version) where
   needed_table SUBSCRIBE = refl
   needed_table UNSUBSCRIBE = refl
 
+  pub needed_tests : (n : ℕ) → needed_by ver n ≡ needed_list n
+  needed_tests =
+      number_case (λ n. needed_by ver n ≡ needed_list n) needed_table
+      (λ n e h. ap (listed_by (needed ver)) e
+      ∙ rw (h CONNECT, h STOMP, h SEND, h SUBSCRIBE, h UNSUBSCRIBE, h ACK, h NACK, h BEGIN, h COMMIT, h ABORT))
+
   -- what an ACK or NACK names is neither entered nor freed
   settling_changes : (es : List Entry) → changed_id (id_uses (settling_names ver) es) ≡ none
   settling_changes es = by ver

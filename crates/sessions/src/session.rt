@@ -5,7 +5,7 @@ ghost use Rattle.headers.specs.Block.{entries, listed};
 ghost use Rattle.stores.specs.Searches.{search_says};
 ghost use Rattle.sessions.specs.Stores.{valid_store};
 ghost use Rattle.sessions.specs.Opening.{highest};
-ghost use Rattle.sessions.specs.Sessions.{id_max, subscriptions_max, fresh, closed, valid_numbers, is_valid, Sized};
+ghost use Rattle.sessions.specs.Sessions.{id_max, subscriptions_max, fresh, closed, valid_numbers, valid_ids, is_valid, Sized};
 ghost use Rattle.sessions.specs.Answers.{answer_says, making_says, timed_out_says, delivery_says};
 ghost use Rattle.sessions.specs.Calls.{making_answer, made, frame_answer, frame_session, heart_beat_answer, heart_beat_session};
 ghost use Rattle.sessions.specs.Calls.{timed_out_answer, deliver_answer, deliver_session, free_place, place_named, may_name, lacks_needed};
@@ -185,12 +185,22 @@ impl Session {
         (self.phase <= Session::CLOSED) & (small & (flags & chosen))
     }
 
+    // Whether the stores of subscriptions and transactions are valid. Transactions are looked at only where that decides.
+    fn has_valid_ids(&self) -> bool
+        ensures { result ≡ valid_ids self.now }
+    {
+        if !self.subscriptions.is_valid() {
+            return false;
+        }
+        self.transactions.is_valid()
+    }
+
     // Whether the record is valid, of a session by reference.
     fn check(&self) -> bool
         ensures { result ≡ is_valid self.now }
     {
         let numbers = self.has_valid_numbers();
-        let ids = self.subscriptions.is_valid() & self.transactions.is_valid();
+        let ids = self.has_valid_ids();
         let deliveries = self.deliveries.is_valid(&self.subscriptions);
         numbers
             & (ids & (deliveries & ((self.phase == Session::OPEN) | (self.deliveries.count == 0))))

@@ -5,10 +5,10 @@
 use mathlib.Core.Path.{◌≡◌, refl, sym, ap, ap₂, ◌∙◌}
 use mathlib.Core.Bool.{true}
 use mathlib.Core.List.{List, [], ◌∷◌, ◌++◌}
-use Prim.Native.Nat.{ℕ, ◌+◌, ◌-◌, ◌≤◌}
+use Prim.Native.Nat.{ℕ, zero, suc, ◌+◌, ◌-◌, ◌≤◌}
 use native.Mathlib.Omega.{arith}
 use lib.Dec.{eqb}
-use lib.ListN.{length, take, drop, replicate, length-append, length-replicate, length-drop, take-append-drop}
+use lib.ListN.{length, take, drop, get_or, replicate, length-append, length-replicate, length-drop, take-append-drop}
 use lib.Seq.{drop-drop, take_all, take-take, length-take-le}
 use borrow.Author.Tests.{eqb-true}
 use borrow.Rule.Slice.PartMut.{put_mid, mid_of, mid_len}
@@ -21,6 +21,17 @@ padded_long w x h = simp (length-append, length-replicate) (omega arith)
 -- a text that the place holds is all in it
 pub filled_all : (w : ℕ) (x : List ℕ) → length x ≤ w → filled w x ≡ padded w x
 filled_all w x h = take_all w (padded w x) (omega (arith, padded_long w x h))
+
+-- past the end of a row counts as 0
+zeros_at : (n i : ℕ) → ◌≡◌ {A = ℕ} (get_or (replicate n 0) i 0) 0
+zeros_at zero i = refl
+zeros_at (suc n) zero = refl
+zeros_at (suc n) (suc i) = zeros_at n i
+
+pub padded_at : (x : List ℕ) (n i : ℕ) → get_or (x ++ replicate n 0) i 0 ≡ get_or x i 0
+padded_at [] n i = zeros_at n i
+padded_at (a ∷ x) n zero = refl
+padded_at (a ∷ x) n (suc i) = padded_at x n i
 
 -- a row of zeros
 pub zeros : (s : List ℕ) → is_zero s ≡ true → s ≡ replicate (length s) 0

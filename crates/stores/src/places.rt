@@ -49,11 +49,12 @@ pub fn octet_at(text: &[u8], i: usize) -> u8
     text.get(i).copied().unwrap_or(0)
 }
 
-// A text in a place, and 0 after it; as much of the text as the place holds.
+// A text in a place, and 0 after it; as much of the text as the place holds. By copy of headers, which makes no call: with
+// copy_from_slice the archive of the registry would need memmove from outside.
 pub fn fill(place: &mut [u8], text: &[u8])
     ensures { place.new ≡ filled (length place.old) text.now }
 {
     let n = place.len().min(text.len());
-    place[..n].copy_from_slice(&text[..n]);
+    headers::copy(place, 0, &text[..n]);
     place[n..].fill(0);
 }

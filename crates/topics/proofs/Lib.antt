@@ -9,6 +9,7 @@ pub mod Places
 pub mod Validity
 pub mod Ascending
 pub mod Checking
+pub mod Packed
 pub mod Assignments
 pub mod LaidOut
 pub mod PlanExamples

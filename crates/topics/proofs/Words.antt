@@ -4,21 +4,22 @@
 --     count_long, well_short                             what is known of a well-formed text
 --     counted_none, _more, _empty, _full                 the number of words, counted one by one
 --     noted_none, noted_more, noted_all, noted_good      where the words begin, noted one by one
+--     counted_formed                                     what a count says
 --     bad_name, bad_pattern, answered                    what asking for a match answers
 --     found_some, found_none                             where nothing is found, and a refusal is passed on
 --     rest_none, rest_hash_.., rest_word_..              whether the words that remain match
 use mathlib.Core.Path.{◌≡◌, refl, sym, ◌∙◌, ap, ap₂, subst}
 use mathlib.Core.Logic.{⊎_elim}
 use Rattle.std.specs.Prelude.{Option as Perhaps, Some, None, Result, Ok, Err, IsErrAnd, ok_or}
-use mathlib.Core.Bool.{Bool, true, false, ◌&&◌, ◌||◌, not}
+use mathlib.Core.Bool.{Bool, true, false, cond, ◌&&◌, ◌||◌, not}
 use mathlib.Core.List.{List, [], ◌∷◌}
 use Prim.Native.Nat.{ℕ, zero, suc, ◌+◌, ◌-◌, ◌≤◌, ◌<◌}
 use native.Mathlib.Nat.{eq-or-lt_of_le}
 use native.Mathlib.Omega.{arith}
-use lib.Dec.{ltb, leb}
+use lib.Dec.{eqb, ltb, leb}
 use lib.ListN.{length, take, drop, get_or, set, replicate, length-drop, length-set, length-replicate}
 use lib.Seq.{get_or-drop, drop-drop, get_or-set_same, get_or-set_other}
-use borrow.Author.Tests.{le-leb, lt-leb, leb-true}
+use borrow.Author.Tests.{eq-eqb, ne_eqb, le-leb, lt-leb, leb-true}
 use Rattle.headers.specs.Rows.{empty, same}
 use Rattle.headers.specs.Answers.{accepted, refused}
 use Rattle.headers.proofs.Rows.{and_no, and_left, same_eq}
@@ -195,6 +196,22 @@ module _ (xs : List ℕ) (at count : ℕ) (starts : List ℕ) (n : Noted xs at c
 
     pub noted_good : well_formed xs ≡ true
     noted_good = counted_all xs at count n.counted h n.short n.few
+
+-- ## What a count says: 0 that the text is malformed, another that it is not
+
+abbrev pub count_of : List ℕ → ℕ
+count_of xs = cond (well_formed xs) (length (words xs)) 0
+
+module _ (xs : List ℕ) (n : ℕ) (is : n ≡ count_of xs) where
+  well_count : well_formed xs ≡ true → n ≡ 0 → ⊥
+  well_count w e = omega (arith, is, ap (λ t. cond t (length (words xs)) 0) w, some_part 46 xs)
+
+  pub counted_formed : not (eqb n 0) ≡ well_formed xs
+  counted_formed = by (well_formed xs) refl
+    where
+      by : (t : Bool) → well_formed xs ≡ t → not (eqb n 0) ≡ t
+      by false w = ap not (eq-eqb n 0 (is ∙ ap (λ t. cond t (length (words xs)) 0) w))
+      by true w = ap not (ne_eqb n 0 (well_count w))
 
 -- ## What asking for a match answers
 

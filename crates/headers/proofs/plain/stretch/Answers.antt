@@ -8,7 +8,7 @@ use native.Mathlib.Omega.{arith}
 use lib.ListN.{length, drop}
 use mathlib.Core.Path.{◌≡◌, ap, sym, ◌∙◌}
 use Rattle.headers.proofs.plain.stretch.Goals as goal
-use Rattle.headers.proofs.plain.stretch.Goals.{After-front}
+use Rattle.headers.proofs.plain.stretch.Goals.{After-exact_front}
 
 pub returns-then-s-i-eq92 : goal.returns-then-s-i-eq92
 returns-then-s-i-eq92 c =
@@ -23,14 +23,14 @@ loop-i-preserved c =
     span_more not_back s l.i (omega (arith, c.loop-i-test.true)) (ap not (ne_eqb _ 92 c.if-s-i-eq92.false)) ∙ l.invariant
 
 -- the rest, by blocks
-far : (c : After-front) → let s = c.args.s.now in
+far : (c : After-exact_front) → let s = c.args.s.now in
     let e = c.min-e.result in
-    (e + c.front.result ≡ span not_back s) × (e + c.front.result ≤ length s)
+    (e + c.exact_front.result ≡ span not_back s) × (e + c.exact_front.result ≤ length s)
 far c =
     let s = c.args.s.now in
     let l = c.loop-i in
     let all : l.i ≡ c.min-e.result = omega arith in
-    let on = span_rest not_back s c.min-e.result (omega arith) c.front.ensures in
+    let on = span_rest not_back s c.min-e.result (omega arith) c.exact_front.ensures in
     (on.0 ∙ ap (λ i. i + span not_back (drop i s)) (sym all) ∙ l.invariant, on.1)
 
 pub overflow_add-result : goal.overflow_add-result
