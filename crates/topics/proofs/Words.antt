@@ -17,7 +17,7 @@ use Prim.Native.Nat.{ℕ, zero, suc, ◌+◌, ◌-◌, ◌≤◌, ◌<◌}
 use native.Mathlib.Nat.{eq-or-lt_of_le}
 use native.Mathlib.Omega.{arith}
 use lib.Dec.{eqb, ltb, leb}
-use lib.ListN.{length, take, drop, get_or, set, replicate, length-drop, length-set, length-replicate}
+use lib.ListN.{length, take, drop, get_or, set, length-drop, length-set}
 use lib.Seq.{get_or-drop, drop-drop, get_or-set_same, get_or-set_other}
 use borrow.Author.Tests.{eq-eqb, ne_eqb, le-leb, lt-leb, leb-true}
 use Rattle.headers.specs.Rows.{empty, same}
@@ -129,21 +129,25 @@ pub record Noted (xs : List ℕ) (at count : ℕ) (starts : List ℕ) : Type 0 w
   pub parts : (j : ℕ) → j ≤ count → parts_from 46 xs (get_or starts j 0) ≡ drop j (words xs)
   pub steps : (j : ℕ) → j < count → Steps xs (get_or starts j 0) (get_or starts (j + 1) 0)
 
-pub noted_none : (xs : List ℕ) → length xs ≤ 256 → Noted xs 0 0 (replicate 33 0)
-noted_none xs h =
-    record {
-      short = h;
-      long = length-replicate {A = ℕ} 33 0;
-      few = omega arith;
-      counted = counted_none xs;
-      here = refl;
-      parts = first_parts;
-      steps = λ j b. absurd (omega arith);
-    }
-  where
-    first_parts : (j : ℕ) → j ≤ 0 → parts_from 46 xs (get_or (replicate 33 0) j 0) ≡ drop j (words xs)
-    first_parts zero b = parts_all 46 xs
-    first_parts (suc j) b = absurd (omega arith)
+module _ (xs starts : List ℕ) (h : length xs ≤ 256) (l : length starts ≡ 33) where
+  first_start : get_or (set starts 0 0) 0 0 ≡ 0
+  first_start = get_or-set_same starts 0 0 0 (omega arith)
+
+  pub noted_none : Noted xs 0 0 (set starts 0 0)
+  noted_none =
+      record {
+        short = h;
+        long = simp length-set l;
+        few = omega arith;
+        counted = counted_none xs;
+        here = first_start;
+        parts = first_parts;
+        steps = λ j b. absurd (omega arith);
+      }
+    where
+      first_parts : (j : ℕ) → j ≤ 0 → parts_from 46 xs (get_or (set starts 0 0) j 0) ≡ drop j (words xs)
+      first_parts zero b = ap (parts_from 46 xs) first_start ∙ parts_all 46 xs
+      first_parts (suc j) b = absurd (omega arith)
 
 module _ (xs : List ℕ) (at count : ℕ) (starts : List ℕ) (n : Noted xs at count starts) where
   -- one word more

@@ -120,12 +120,23 @@ fn match_row(pattern: &Words<'_>, name: &Words<'_>) -> bool
 pub fn matches(name: &[u8], pattern: &[u8]) -> Result<bool, MatchError>
     ensures { match_says result ≡ match_answer name.now pattern.now }
 {
-    // Not by `ok_or` and `?`: each would copy the words once more, and short names and patterns would take twice as long.
-    let Some(n) = Words::find(name) else {
+    let mut starts = [0u16; PLACES];
+    let Some(count) = crate::word::places(name, &mut starts) else {
         return Err(MatchError::BadName);
     };
-    let Some(p) = Words::find(pattern) else {
+    let mut parts = [0u16; PLACES];
+    let Some(many) = crate::word::places(pattern, &mut parts) else {
         return Err(MatchError::BadPattern);
+    };
+    let n = Words {
+        text: name,
+        starts: &starts,
+        count,
+    };
+    let p = Words {
+        text: pattern,
+        starts: &parts,
+        count: many,
     };
     Ok(match_row(&p, &n))
 }

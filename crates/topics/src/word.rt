@@ -21,13 +21,14 @@ pub const WORDS_MAX: usize = 32;
 // The places where the words begin, and the one after the end.
 pub(crate) const PLACES: usize = 33;
 
-// A well-formed name or pattern, where its words begin, and how many they are.
+// A well-formed name or pattern, where its words begin, and how many they are. The row of places is the caller's: as a part of this it would be
+// copied wherever one is made or handed on, which costs short names and patterns most.
 #[derive(Clone, Copy)]
 pub(crate) struct Words<'a> {
     pub text: &'a [u8],
-    pub starts: [u16; PLACES],
+    pub starts: &'a [u16; PLACES],
     pub count: usize,
-    pub ghost located: { Located text.now starts count },
+    pub ghost located: { Located text.now starts.now count },
 }
 
 // The place of the first point from a place on, or the end.
@@ -51,37 +52,33 @@ pub(crate) fn next_word(text: &[u8], at: usize) -> usize
     end_of(text, at) + 1
 }
 
-impl<'a> Words<'a> {
-    // The words of a name or pattern, where it is well formed.
-    pub fn find(text: &'a [u8]) -> Option<Words<'a>>
-        ensures formed { is_some result ≡ well_formed text.now }
-        ensures same { IfSome result (λ w. w.text.now ≡ text.now) }
-    {
-        if OCTETS_MAX < text.len() {
+// Where the words of a name or pattern begin, put into a row, and how many they are, where it is well formed.
+pub(crate) fn places(text: &[u8], starts: &mut [u16; PLACES]) -> Option<usize>
+    ensures formed { is_some result ≡ well_formed text.now }
+    ensures located { IfSome result (λ n. Located text.now starts.new n) }
+{
+    if OCTETS_MAX < text.len() {
+        return None;
+    }
+    starts[0] = 0;
+    let mut at = 0usize;
+    for count in 0..WORDS_MAX {
+        let next = next_word(text, at);
+        if next == at + 1 {
             return None;
         }
-        let mut starts = [0u16; PLACES];
-        let mut at = 0usize;
-        for count in 0..WORDS_MAX {
-            let next = next_word(text, at);
-            if next == at + 1 {
-                return None;
-            }
-            let passed = count + 1;
-            // At most 257, so it fits.
-            starts[passed] = next as u16;
-            if text.len() < next {
-                return Some(Words {
-                    text,
-                    starts,
-                    count: passed,
-                });
-            }
-            at = next;
+        let passed = count + 1;
+        // At most 257, so it fits.
+        starts[passed] = next as u16;
+        if text.len() < next {
+            return Some(passed);
         }
-        None
+        at = next;
     }
+    None
+}
 
+impl<'a> Words<'a> {
     // The word with a number, from 0.
     pub fn word(&self, k: usize) -> &'a [u8]
         requires { k < self.now.count }
@@ -97,7 +94,8 @@ impl<'a> Words<'a> {
 pub(crate) fn is_well_formed(text: &[u8]) -> bool
     ensures { result ≡ well_formed text.now }
 {
-    Words::find(text).is_some()
+    let mut starts = [0u16; PLACES];
+    places(text, &mut starts).is_some()
 }
 
 // Whether two words are the same. It looks at each octet once; headers::equal goes over short rows in runs that overlap.

@@ -1,17 +1,17 @@
--- `word::Words::find` meets its contract: the words passed are counted, none of them is empty, and where they begin is noted.
+-- `word::places` meets its contract: the words passed are counted, none of them is empty, and where they begin is noted.
 use mathlib.Core.Path.{sym}
 use Prim.Native.Nat.{◌+◌}
 use lib.ListN.{set}
 use native.Mathlib.Omega.{arith}
 use Rattle.topics.proofs.Words.{Noted, count_long, counted_empty, counted_full, noted_none, noted_more, noted_all, noted_good}
-use Rattle.topics.proofs.word.Words.find.Goals as goal
-use Rattle.topics.proofs.word.Words.find.Goals.{Else-next-at}
+use Rattle.topics.proofs.word.places.Goals as goal
+use Rattle.topics.proofs.word.places.Goals.{Else-next-at}
 
 pub returns-then-text-gt-OCTETS_MAX-clause-formed : goal.returns-then-text-gt-OCTETS_MAX-clause-formed
 returns-then-text-gt-OCTETS_MAX-clause-formed c = sym (count_long c.args.text.now c.if-text-gt-OCTETS_MAX.true)
 
 pub loop-count-init : goal.loop-count-init
-loop-count-init c = record { noted = noted_none c.args.text.now c.if-text-gt-OCTETS_MAX.false; more = omega arith }
+loop-count-init c = record { noted = noted_none c.args.text.now c.args.starts.now c.if-text-gt-OCTETS_MAX.false (omega arith); more = omega arith }
 
 pub returns-then-next-at-clause-formed : goal.returns-then-next-at-clause-formed
 returns-then-next-at-clause-formed c =
@@ -24,8 +24,8 @@ noted c =
     let l = c.loop-count in
     noted_more c.args.text.now l.at l.count l.starts l.invariant.noted c.next_word-next.result c.next_word-next.ensures c.loop-count-test.true c.if-next-at.false
 
-pub invariant_of-result : goal.invariant_of-result
-invariant_of-result c = record { located = noted_all _ _ _ _ (noted (goal.at.invariant_of-result c).Else-next-at) c.if-text-next.true }
+pub returns-then-text-next-clause-located : goal.returns-then-text-next-clause-located
+returns-then-text-next-clause-located c = noted_all _ _ _ _ (noted (goal.at.returns-then-text-next-clause-located c).Else-next-at) c.if-text-next.true
 
 pub returns-then-text-next-clause-formed : goal.returns-then-text-next-clause-formed
 returns-then-text-next-clause-formed c =
