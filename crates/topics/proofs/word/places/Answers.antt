@@ -19,10 +19,12 @@ returns-then-next-at-clause-formed c =
     sym (counted_empty c.args.text.now l.at l.count c.next_word-next.result l.invariant.noted.counted c.next_word-next.ensures c.if-next-at.true)
 
 -- one word more
-noted : (c : Else-next-at) → Noted c.args.text.now c.next_word-next.result (c.loop-count.count + 1) (set c.loop-count.starts (c.loop-count.count + 1) c.next_word-next.result)
+noted : (c : Else-next-at)
+    → Noted c.args.text.now c.next_word-next.result (c.loop-count.count + 1) (set c.loop-count.starts (c.loop-count.count + 1) c.next_word-next.result)
 noted c =
     let l = c.loop-count in
-    noted_more c.args.text.now l.at l.count l.starts l.invariant.noted c.next_word-next.result c.next_word-next.ensures c.loop-count-test.true c.if-next-at.false
+    let next = c.next_word-next in
+    noted_more c.args.text.now l.at l.count l.starts l.invariant.noted next.result next.ensures c.loop-count-test.true c.if-next-at.false
 
 pub returns-then-text-next-clause-located : goal.returns-then-text-next-clause-located
 returns-then-text-next-clause-located c = noted_all _ _ _ _ (noted (goal.at.returns-then-text-next-clause-located c).Else-next-at) c.if-text-next.true
